@@ -1,0 +1,135 @@
+// Writes what the readers of `wire` make of some packets, a line for each.
+use wire::carriage::Carried;
+use wire::frame::FrameRead;
+use wire::ipv4::Ipv4Read;
+use wire::refusal::Refusal;
+ghost use Prim.Native.Nat.{_+_, _<_};
+ghost use lib.ListN.{length};
+
+fn text(s: &[u8]) {
+    io::write_all(1, s);
+}
+
+fn number(n: u64) {
+    io::print_decimal(1, n);
+}
+
+fn address(a: u32) {
+    number((a / 16777216) as u64);
+    text(b".");
+    number((a / 65536 % 256) as u64);
+    text(b".");
+    number((a / 256 % 256) as u64);
+    text(b".");
+    number((a % 256) as u64);
+}
+
+fn refused(r: Refusal) {
+    text(b"refused, answer ");
+    number(wire::refusal::code(r) as u64);
+    text(b"\n");
+}
+
+fn inner(at: usize, frame: &[u8]) {
+    text(b", frame of ");
+    number(frame.len() as u64);
+    text(b" bytes at ");
+    number(at as u64);
+    let read = wire::frame::read(frame);
+    match read {
+        FrameRead::Good => text(b"\n"),
+        FrameRead::Refused(r) => {
+            text(b": ");
+            refused(r);
+        }
+    }
+}
+
+fn payload(protocol: u8, source: u32, destination: u32, at: usize, s: &[u8])
+    requires { ⌜ at + length (now s) < 18446744073709551616 ⌝ }
+{
+    let carried = wire::carriage::read(protocol, source, destination, 7471, s);
+    match carried {
+        Carried::Refused(r) => refused(r),
+        Carried::Segment(g) => {
+            text(b"STT segment of frame ");
+            number(g.identifier as u64);
+            text(b", bytes from ");
+            number(g.offset as u64);
+            text(b" of ");
+            number(g.frame_length as u64);
+            text(b"\n");
+        }
+        Carried::Tunnel(t) => {
+            text(b"kind ");
+            number(t.kind as u64);
+            text(b", network ");
+            number(t.network as u64);
+            let start = t.start;
+            inner(at + start, &s[start..]);
+        }
+    }
+}
+
+fn show(name: &[u8], packet: &[u8]) {
+    text(name);
+    text(b": ");
+    let read = wire::ipv4::read(packet);
+    match read {
+        Ipv4Read::Refused(r) => refused(r),
+        Ipv4Read::Packet(h) => {
+            address(h.source);
+            text(b" to ");
+            address(h.destination);
+            text(b", ");
+            let start = h.start;
+            let end = h.end;
+            payload(
+                h.protocol,
+                h.source,
+                h.destination,
+                start,
+                &packet[start..end],
+            );
+        }
+    }
+}
+
+fn main() {
+    show(
+        b"worked case 3",
+        b"\x45\x00\x00\x32\x00\x00\x40\x00\x40\x11\x26\xb9\x0a\x00\x00\x01\x0a\x00\x00\x02\xcc\xb8\x12\xb5\x00\x1e\x00\x00\x08\x00\x00\x00\x00\x00\x16\x00\x02\x00\x00\x00\x00\x02\x02\x00\x00\x00\x00\x01\x88\xb5",
+    );
+    show(
+        b"worked case 4",
+        b"\x45\x00\x00\x2a\x00\x00\x40\x00\x40\x2f\x26\xa3\x0a\x00\x00\x01\x0a\x00\x00\x02\x20\x00\x65\x58\x00\x10\x00\x00\x02\x00\x00\x00\x00\x02\x02\x00\x00\x00\x00\x01\x88\xb5",
+    );
+    show(
+        b"options and trailing bytes",
+        b"\x46\x00\x00\x36\x00\x00\x40\x00\x40\x11\x23\xb4\x0a\x00\x00\x01\x0a\x00\x00\x02\x01\x01\x01\x00\xcc\xb8\x12\xb5\x00\x1e\x00\x00\x08\x00\x00\x00\x00\x00\x16\x00\x02\x00\x00\x00\x00\x02\x02\x00\x00\x00\x00\x01\x88\xb5\xff\xff\xff",
+    );
+    show(
+        b"STT segment",
+        b"\x45\x00\x00\x48\x00\x00\x40\x00\x40\x06\x26\xae\x0a\x00\x00\x01\x0a\x00\x00\x02\xcc\xb8\x1d\x2f\x00\x20\x00\x00\x00\x00\x00\x01\x50\x18\x00\x00\x24\xe2\x00\x00\x00\x00\x00\x00\x00\x00\x00\x00\x00\x00\x00\x00\x00\x00\x00\x07\x00\x00\x02\x00\x00\x00\x00\x02\x02\x00\x00\x00\x00\x01\x88\xb5",
+    );
+    show(
+        b"STT, TCP checksum 0",
+        b"\x45\x00\x00\x48\x00\x00\x40\x00\x40\x06\x26\xae\x0a\x00\x00\x01\x0a\x00\x00\x02\xcc\xb8\x1d\x2f\x00\x20\x00\x00\x00\x00\x00\x01\x50\x18\x00\x00\x00\x00\x00\x00\x00\x00\x00\x00\x00\x00\x00\x00\x00\x00\x00\x00\x00\x00\x00\x07\x00\x00\x02\x00\x00\x00\x00\x02\x02\x00\x00\x00\x00\x01\x88\xb5",
+    );
+    show(
+        b"a fragment",
+        b"\x45\x00\x00\x32\x00\x00\x20\x00\x40\x11\x46\xb9\x0a\x00\x00\x01\x0a\x00\x00\x02\xcc\xb8\x12\xb5\x00\x1e\x00\x00\x08\x00\x00\x00\x00\x00\x16\x00\x02\x00\x00\x00\x00\x02\x02\x00\x00\x00\x00\x01\x88\xb5",
+    );
+    show(
+        b"damaged address",
+        b"\x45\x00\x00\x32\x00\x00\x40\x00\x40\x11\x26\xb9\x0a\x00\x00\x00\x0a\x00\x00\x02\xcc\xb8\x12\xb5\x00\x1e\x00\x00\x08\x00\x00\x00\x00\x00\x16\x00\x02\x00\x00\x00\x00\x02\x02\x00\x00\x00\x00\x01\x88\xb5",
+    );
+    show(
+        b"VXLAN flag missing",
+        b"\x45\x00\x00\x32\x00\x00\x40\x00\x40\x11\x26\xb9\x0a\x00\x00\x01\x0a\x00\x00\x02\xcc\xb8\x12\xb5\x00\x1e\x00\x00\x00\x00\x00\x00\x00\x00\x16\x00\x02\x00\x00\x00\x00\x02\x02\x00\x00\x00\x00\x01\x88\xb5",
+    );
+    show(
+        b"first 19 bytes",
+        b"\x45\x00\x00\x32\x00\x00\x40\x00\x40\x11\x26\xb9\x0a\x00\x00\x01\x0a\x00\x00",
+    );
+}

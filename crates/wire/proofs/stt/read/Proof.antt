@@ -1,0 +1,50 @@
+-- `wire::stt::read` meets its contract.
+-- Assumes nothing.
+use mathlib.Core.Path.{_≡_, _∙_, sym, refl, ap}
+use native.Mathlib.Omega.{arith}
+use Rattle.wire.specs.Checks.{deciding}
+use Rattle.wire.specs.Stt.{sttChecks, stt-exit, stt-accepts}
+use borrow.Author.Needs.{needs}
+use Rattle.wire.proofs.stt.read.Statement.{statement}
+use Rattle.wire.proofs.stt.read.Tie as tie
+
+returns : tie.Need-returns
+unfolding sttChecks
+returns c = sym (stt-exit _ 0 (omega (arith, deciding)))
+
+be8-requires : tie.Need-be8-requires
+be8-requires c κs = search needs
+
+returns-2 : tie.Need-returns-2
+unfolding sttChecks
+returns-2 c = sym (stt-exit _ 1 (omega (arith, deciding)))
+
+be8-requires-2 : tie.Need-be8-requires-2
+be8-requires-2 c κs = search needs
+
+low2-requires : tie.Need-low2-requires
+low2-requires c κs = search needs
+
+returns-3 : tie.Need-returns-3
+unfolding sttChecks
+returns-3 c = sym (stt-exit _ 2 (omega (arith, deciding)))
+
+be64-requires : tie.Need-be64-requires
+be64-requires c κs = search needs
+
+returns-4 : tie.Need-returns-4
+unfolding sttChecks
+returns-4 c = stt-accepts _ _ (omega (arith, deciding)) (c .be64 .ensures)
+
+pub read-spec : {M : Type 1} → statement M
+read-spec =
+    tie.close
+    (tie.spec
+    returns
+    be8-requires
+    returns-2
+    be8-requires-2
+    low2-requires
+    returns-3
+    be64-requires
+    returns-4)

@@ -1,0 +1,136 @@
+-- IPv4 (RFC 791, 3.1): what a packet is, and what the reader answers.
+-- Assumes nothing.
+use Prim.Native.Nat.{ℕ, zero, suc, _+_, _-_, _*_, _/_, _%_, _^_, _<_, _≤_}
+use mathlib.Core.Path.{_≡_, sym}
+use mathlib.Core.Bool.{Bool, true, false, not}
+use mathlib.Core.List.{List, [], _∷_, _++_}
+use lib.ListN.{length, take}
+use lib.Dec.{ltb, leb, eqb}
+use Rattle.wire.specs.Bytes.{be, beAt, part, _then_}
+use Rattle.wire.specs.Sum.{total, ones}
+use Rattle.wire.specs.Checks.{Check, _⇒_, first, At, given, decided, Passed, pass}
+use Rattle.wire.specs.declared.refusal.Refusal.{Refusal}
+use Rattle.wire.specs.declared.refusal.Refusal.the-variants as R
+use Rattle.wire.specs.declared.ipv4.Ipv4.{Ipv4}
+use Rattle.wire.specs.declared.ipv4.Ipv4Read.{Ipv4Read}
+use Rattle.wire.specs.declared.ipv4.Ipv4Read.the-variants as I
+
+-- The header's fields.
+pub record Header : Type 0 where
+  pub words : ℕ  -- 32-bit words of options
+  pub service : ℕ
+  pub size : ℕ  -- total length
+  pub id : ℕ
+  pub flags : ℕ  -- reserved, don't fragment, more fragments
+  pub offset : ℕ  -- of the fragment
+  pub life : ℕ  -- time to live
+  pub protocol : ℕ
+  pub checksum : ℕ
+  pub source : ℕ
+  pub destination : ℕ
+  pub options : List ℕ
+
+-- A header's bytes.
+unfoldable pub header : Header → List ℕ
+header f =
+    be 1 (4 * 16 + (5 + f .words))
+    then be 1 (f .service)
+    then be 2 (f .size)
+    then be 2 (f .id)
+    then be 2 (f .flags * 2 ^ 13 + f .offset)
+    then be 1 (f .life)
+    then be 1 (f .protocol)
+    then be 2 (f .checksum)
+    then be 4 (f .source)
+    then be 4 (f .destination)
+    then f .options
+
+-- Each field fits its bits.
+pub record Fits (f : Header) : Type 0 where
+  pub words : 5 + f .words < 2 ^ 4
+  pub service : f .service < 256
+  pub size : f .size < 256 ^ 2
+  pub id : f .id < 256 ^ 2
+  pub flags : f .flags < 2 ^ 3
+  pub offset : f .offset < 2 ^ 13
+  pub life : f .life < 256
+  pub protocol : f .protocol < 256
+  pub checksum : f .checksum < 256 ^ 2
+  pub source : f .source < 256 ^ 4
+  pub destination : f .destination < 256 ^ 4
+  pub options : length (f .options) ≡ 4 * f .words
+
+-- `packet` begins with a whole IPv4 packet from source to destination that carries `payload` and is no fragment.
+pub record IsIpv4 (source destination protocol : ℕ) (payload packet : List ℕ) : Type 0 where
+  pub f : Header
+  pub fits : Fits f
+  pub trailing : List ℕ
+  pub whole : packet ≡ header f ++ (payload ++ trailing)
+  pub size : f .size ≡ length (header f) + length payload
+  pub checksum : ones (total (header f)) ≡ 65535
+  pub last : f .flags % 2 ≡ 0
+  pub offset : f .offset ≡ 0
+  pub source-is : f .source ≡ source
+  pub destination-is : f .destination ≡ destination
+  pub protocol-is : f .protocol ≡ protocol
+
+-- Fields of the header at a packet's front, by their places.
+abbrev pub versionAt : List ℕ → ℕ
+versionAt s = beAt s 0 1 / 16
+
+abbrev pub wordsAt : List ℕ → ℕ
+wordsAt s = beAt s 0 1 % 16
+
+abbrev pub sizeAt : List ℕ → ℕ
+sizeAt s = beAt s 2 2
+
+abbrev pub offsetAt : List ℕ → ℕ
+offsetAt s = beAt s 6 2 % 2 ^ 13
+
+-- All of them.
+unfoldable pub headerAt : List ℕ → Header
+headerAt s = record {
+  words = wordsAt s - 5;
+  service = beAt s 1 1;
+  size = sizeAt s;
+  id = beAt s 4 2;
+  flags = beAt s 6 2 / 2 ^ 13;
+  offset = offsetAt s;
+  life = beAt s 8 1;
+  protocol = beAt s 9 1;
+  checksum = beAt s 10 2;
+  source = beAt s 12 4;
+  destination = beAt s 16 4;
+  options = part s 20 (4 * wordsAt s);
+}
+
+-- The checks 3 to 5 of document 01, in their order.
+unfoldable pub ipv4Checks : List ℕ → List (Check Refusal)
+ipv4Checks s =
+    (ltb (length s) 20 ⇒ R.Truncated)
+    ∷ (not (eqb (versionAt s) 4) ⇒ R.Version)
+    ∷ (ltb (wordsAt s) 5 ⇒ R.HeaderLength)
+    ∷ (ltb (sizeAt s) (4 * wordsAt s) ⇒ R.TotalLength)
+    ∷ (ltb (length s) (sizeAt s) ⇒ R.TotalLength)
+    ∷ (not (eqb (ones (total (take (4 * wordsAt s) s))) 65535) ⇒ R.HeaderChecksum)
+    ∷ (not (eqb (beAt s 6 2 % 2 ^ 14) 0) ⇒ R.Fragment)
+    ∷ []
+
+-- What is accepted: who sent it to whom, what it carries, and where the payload lies.
+unfoldable pub ipv4At : List ℕ → Ipv4
+ipv4At s = record { start = 4 * wordsAt s; end = sizeAt s; source = beAt s 12 4; destination = beAt s 16 4; protocol = beAt s 9 1 }
+
+unfoldable pub ipv4Of : List ℕ → Ipv4Read
+ipv4Of s = first I.Refused (ipv4Checks s) (I.Packet (ipv4At s))
+
+-- the reader's exit number n
+pub ipv4-exit : (s : List ℕ) (n : ℕ) → At (ipv4Checks s) n → ipv4Of s ≡ given I.Refused (ipv4Checks s) (I.Packet (ipv4At s)) n
+unfolding ipv4Of
+ipv4-exit s n p = decided I.Refused (ipv4Checks s) (I.Packet (ipv4At s)) n p
+
+pub ipv4-accepts : (s : List ℕ) (start end source destination protocol : ℕ) → Passed (ipv4Checks s)
+    → start ≡ 4 * (beAt s 0 1 % 16) → end ≡ beAt s 2 2 → source ≡ beAt s 12 4 → destination ≡ beAt s 16 4 → protocol ≡ beAt s 9 1
+    → I.Packet (record { start = start; end = end; source = source; destination = destination; protocol = protocol }) ≡ ipv4Of s
+unfolding ipv4Of ipv4At
+ipv4-accepts s start end source destination protocol p e1 e2 e3 e4 e5 =
+    rw (e1, e2, e3, e4, e5) (sym (pass I.Refused (ipv4Checks s) (I.Packet (ipv4At s)) p))

@@ -1,0 +1,100 @@
+-- A segment of STT (draft-davie-stt-06, 3.2): what it is, and what the reader answers.
+-- Assumes nothing.
+use Prim.Native.Nat.{ℕ, zero, suc, _+_, _-_, _*_, _/_, _%_, _^_, _<_, _≤_}
+use mathlib.Core.Path.{_≡_, sym}
+use mathlib.Core.Bool.{Bool, true, false, not}
+use mathlib.Core.List.{List, [], _∷_, _++_}
+use lib.ListN.{length}
+use lib.Dec.{ltb, leb, eqb}
+use Rattle.wire.specs.Bytes.{be, beAt, part, _then_}
+use Rattle.wire.specs.Sum.{total, ones, pseudo}
+use Rattle.wire.specs.Checks.{Check, _⇒_, first, At, given, decided, Passed, pass}
+use Rattle.wire.specs.declared.refusal.Refusal.{Refusal}
+use Rattle.wire.specs.declared.refusal.Refusal.the-variants as R
+use Rattle.wire.specs.declared.segment.Segment.{Segment}
+use Rattle.wire.specs.declared.segment.SegmentRead.{SegmentRead}
+use Rattle.wire.specs.declared.segment.SegmentRead.the-variants as S
+
+-- The header's fields.
+pub record Header : Type 0 where
+  pub from : ℕ
+  pub to : ℕ
+  pub frame-length : ℕ  -- upper half of the sequence number: the STT frame's length
+  pub offset : ℕ  -- lower half: the place of this segment in that frame
+  pub identifier : ℕ  -- the acknowledgement number
+  pub words : ℕ  -- 32-bit words of options
+  pub reserved : ℕ
+  pub flags : ℕ
+  pub window : ℕ
+  pub checksum : ℕ
+  pub urgent : ℕ
+  pub options : List ℕ
+
+unfoldable pub header : Header → List ℕ
+header f =
+    be 2 (f .from)
+    then be 2 (f .to)
+    then be 2 (f .frame-length)
+    then be 2 (f .offset)
+    then be 4 (f .identifier)
+    then be 1 ((5 + f .words) * 16 + f .reserved)
+    then be 1 (f .flags)
+    then be 2 (f .window)
+    then be 2 (f .checksum)
+    then be 2 (f .urgent)
+    then f .options
+
+-- Each field that is read fits its bits.
+pub record Fits (f : Header) : Type 0 where
+  pub to : f .to < 256 ^ 2
+  pub frame-length : f .frame-length < 256 ^ 2
+  pub offset : f .offset < 256 ^ 2
+  pub identifier : f .identifier < 256 ^ 4
+  pub words : 5 + f .words < 2 ^ 4
+  pub reserved : f .reserved < 2 ^ 4
+  pub options : length (f .options) ≡ 4 * f .words
+
+-- `payload`, of an IPv4 packet from source to destination, is a segment for the port that carries `bytes` of a frame.
+pub record IsSegment (source destination port frameLength offset identifier : ℕ) (bytes payload : List ℕ) : Type 0 where
+  pub f : Header
+  pub fits : Fits f
+  pub whole : payload ≡ header f ++ bytes
+  pub short : length payload < 256 ^ 2  -- the pseudo header can tell its length
+  pub checksum : ones (total (pseudo source destination 6 (length payload) ++ payload)) ≡ 65535
+  pub port-is : f .to ≡ port
+  pub frame-length-is : f .frame-length ≡ frameLength
+  pub offset-is : f .offset ≡ offset
+  pub identifier-is : f .identifier ≡ identifier
+
+abbrev pub wordsAt : List ℕ → ℕ
+wordsAt s = beAt s 12 1 / 16
+
+-- The checks of document 01 in their order: 9 (short), 8 (port), 9 (too long, which no IPv4 payload is; data offset) and 10.
+unfoldable pub segmentChecks : (source destination port : ℕ) → List ℕ → List (Check Refusal)
+segmentChecks source destination port s =
+    (ltb (length s) 20 ⇒ R.Short)
+    ∷ (not (eqb (beAt s 2 2) port) ⇒ R.Port)
+    ∷ (ltb 65535 (length s) ⇒ R.TcpLength)
+    ∷ (ltb (wordsAt s) 5 ⇒ R.DataOffset)
+    ∷ (ltb (length s) (4 * wordsAt s) ⇒ R.DataOffset)
+    ∷ (not (eqb (ones (total (pseudo source destination 6 (length s) ++ s))) 65535) ⇒ R.TcpChecksum)
+    ∷ []
+
+unfoldable pub segmentAt : List ℕ → Segment
+segmentAt s = record { start = 4 * wordsAt s; identifier = beAt s 8 4; «frame_length» = beAt s 4 2; offset = beAt s 6 2 }
+
+unfoldable pub segmentOf : (source destination port : ℕ) → List ℕ → SegmentRead
+segmentOf source destination port s = first S.Refused (segmentChecks source destination port s) (S.Segment (segmentAt s))
+
+-- the reader's exit number n
+pub segment-exit : (source destination port : ℕ) (s : List ℕ) (n : ℕ) → At (segmentChecks source destination port s) n
+    → segmentOf source destination port s ≡ given S.Refused (segmentChecks source destination port s) (S.Segment (segmentAt s)) n
+unfolding segmentOf
+segment-exit source destination port s n p = decided S.Refused (segmentChecks source destination port s) (S.Segment (segmentAt s)) n p
+
+pub segment-accepts : (source destination port : ℕ) (s : List ℕ) (start identifier frameLength offset : ℕ) → Passed (segmentChecks source destination port s)
+    → start ≡ 4 * wordsAt s → identifier ≡ beAt s 8 4 → frameLength ≡ beAt s 4 2 → offset ≡ beAt s 6 2
+    → S.Segment (record { start = start; identifier = identifier; «frame_length» = frameLength; offset = offset }) ≡ segmentOf source destination port s
+unfolding segmentOf segmentAt
+segment-accepts source destination port s start identifier frameLength offset p e1 e2 e3 e4 =
+    rw (e1, e2, e3, e4) (sym (pass S.Refused (segmentChecks source destination port s) (S.Segment (segmentAt s)) p))

@@ -1,0 +1,61 @@
+-- An STT frame (draft-davie-stt-06, 3.1): what it is, and what the reader of a complete one answers.
+-- Assumes nothing.
+use Prim.Native.Nat.{ℕ, zero, suc, _+_, _-_, _*_, _/_, _%_, _^_, _<_, _≤_}
+use mathlib.Core.Path.{_≡_, sym}
+use mathlib.Core.Logic.{_≢_}
+use mathlib.Core.Bool.{Bool, true, false, not}
+use mathlib.Core.List.{List, [], _∷_, _++_}
+use lib.ListN.{length}
+use lib.Dec.{ltb, eqb}
+use Rattle.wire.specs.Bytes.{be, beAt, _then_}
+use Rattle.wire.specs.Checks.{Check, _⇒_, first, At, given, decided, Passed, pass}
+use Rattle.wire.specs.declared.refusal.Refusal.{Refusal}
+use Rattle.wire.specs.declared.refusal.Refusal.the-variants as R
+use Rattle.wire.specs.declared.stt.SttRead.{SttRead}
+use Rattle.wire.specs.declared.stt.SttRead.the-variants as T
+
+unfoldable pub stt : (version flags l4 reserved mss tag context padding : ℕ) → List ℕ → List ℕ
+stt version flags l4 reserved mss tag context padding frame =
+    be 1 version
+    then be 1 flags
+    then be 1 l4
+    then be 1 reserved
+    then be 2 mss
+    then be 2 tag  -- PCP 3, V 1, VLAN 12
+    then be 8 context
+    then be 2 padding
+    then frame
+
+-- `whole` is an STT frame of version 0 that carries the inner frame on the network of a Context ID. Flag number 0 is the lowest bit: 0x01 and 0x02 are not
+-- both set. The other flags, the hints, the tag and the padding are free.
+pub record IsStt (context : ℕ) (frame whole : List ℕ) : Type 0 where
+  pub flags : ℕ
+  pub l4 : ℕ
+  pub reserved : ℕ
+  pub mss : ℕ
+  pub tag : ℕ
+  pub padding : ℕ
+  pub is : whole ≡ stt 0 flags l4 reserved mss tag context padding frame
+  pub flags-fit : flags < 256
+  pub not-both : flags % 4 ≢ 3
+  pub context-fits : context < 256 ^ 8
+
+-- The check 11 of document 01. A complete frame has at least 32 bytes.
+unfoldable pub sttChecks : List ℕ → List (Check Refusal)
+sttChecks s =
+    (ltb (length s) 18 ⇒ R.Short)
+    ∷ (not (eqb (beAt s 0 1) 0) ⇒ R.SttVersion)
+    ∷ (eqb (beAt s 1 1 % 4) 3 ⇒ R.SttFlags)
+    ∷ []
+
+unfoldable pub sttOf : List ℕ → SttRead
+sttOf s = first T.Refused (sttChecks s) (T.Header (beAt s 8 8))
+
+-- the reader's exit number n
+pub stt-exit : (s : List ℕ) (n : ℕ) → At (sttChecks s) n → sttOf s ≡ given T.Refused (sttChecks s) (T.Header (beAt s 8 8)) n
+unfolding sttOf
+stt-exit s n p = decided T.Refused (sttChecks s) (T.Header (beAt s 8 8)) n p
+
+pub stt-accepts : (s : List ℕ) (context : ℕ) → Passed (sttChecks s) → context ≡ beAt s 8 8 → T.Header context ≡ sttOf s
+unfolding sttOf
+stt-accepts s context p e = rw e (sym (pass T.Refused (sttChecks s) (T.Header (beAt s 8 8)) p))

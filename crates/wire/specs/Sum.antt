@@ -1,0 +1,21 @@
+-- The ones' complement sum (RFC 1071), over lists of bytes. A checksum is right exactly when the sum over everything, its field included, is 0xFFFF.
+-- Assumes nothing.
+use Prim.Native.Nat.{ℕ, zero, suc, _+_, _-_, _*_, _/_, _%_, _<_}
+use mathlib.Core.List.{List, [], _∷_, _++_}
+use Rattle.wire.specs.Bytes.{be, _then_}
+
+-- the plain sum of the 16-bit big-endian words; a last odd byte is padded with a byte 0
+unfoldable pub total : List ℕ → ℕ
+total [] = 0
+total (a ∷ []) = a * 256
+total (a ∷ b ∷ s) = a * 256 + b + total s
+
+-- a number folded to 16 bits by end-around carries: 0 only for 0, and else the one of 1 to 65,535 that leaves the same rest by 65,535
+unfoldable pub ones : ℕ → ℕ
+ones zero = 0
+ones (suc n) = n % 65535 + 1
+
+-- What is summed in front of a UDP datagram (RFC 768) or of a TCP segment (RFC 793, 3.1).
+unfoldable pub pseudo : (source destination protocol size : ℕ) → List ℕ
+pseudo source destination protocol size =
+    be 4 source then be 4 destination then be 1 0 then be 1 protocol then be 2 size

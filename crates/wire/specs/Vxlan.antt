@@ -1,0 +1,50 @@
+-- VXLAN (RFC 7348, 5): what the header in front of a frame is, and what the reader answers.
+-- Assumes nothing.
+use Prim.Native.Nat.{ℕ, zero, suc, _+_, _*_, _/_, _%_, _^_, _<_}
+use mathlib.Core.Path.{_≡_, sym}
+use mathlib.Core.Bool.{Bool, true, false, not}
+use mathlib.Core.List.{List, [], _∷_, _++_}
+use lib.ListN.{length}
+use lib.Dec.{ltb, eqb}
+use Rattle.wire.specs.Bytes.{be, beAt, _then_}
+use Rattle.wire.specs.Checks.{Check, _⇒_, first, At, given, decided, Passed, pass}
+use Rattle.wire.specs.declared.refusal.Refusal.{Refusal}
+use Rattle.wire.specs.declared.refusal.Refusal.the-variants as R
+use Rattle.wire.specs.declared.vxlan.VxlanRead.{VxlanRead}
+use Rattle.wire.specs.declared.vxlan.VxlanRead.the-variants as T
+
+-- Flags, 24 reserved bits, the VNI, 8 reserved bits, and the inner frame.
+unfoldable pub vxlan : (flags reserved vni last : ℕ) → List ℕ → List ℕ
+vxlan flags reserved vni last frame = be 1 flags then be 3 reserved then be 3 vni then be 1 last then frame
+
+-- `payload` is a VXLAN header for the network and the frame. The flag I (0x08) is set; other flags and the reserved bits are free.
+pub record IsVxlan (vni : ℕ) (frame payload : List ℕ) : Type 0 where
+  pub flags : ℕ
+  pub reserved : ℕ
+  pub last : ℕ
+  pub whole : payload ≡ vxlan flags reserved vni last frame
+  pub flag : flags / 8 % 2 ≡ 1
+  pub flags-fit : flags < 256
+  pub vni-fits : vni < 256 ^ 3
+
+abbrev pub vniAt : List ℕ → ℕ
+vniAt s = beAt s 4 3
+
+-- The check 11 of document 01. What UDP carries has at least 8 bytes.
+unfoldable pub vxlanChecks : List ℕ → List (Check Refusal)
+vxlanChecks s =
+    (ltb (length s) 8 ⇒ R.Short)
+    ∷ (not (eqb (beAt s 0 1 / 8 % 2) 1) ⇒ R.VxlanFlag)
+    ∷ []
+
+unfoldable pub vxlanOf : List ℕ → VxlanRead
+vxlanOf s = first T.Refused (vxlanChecks s) (T.Header (vniAt s))
+
+-- the reader's exit number n
+pub vxlan-exit : (s : List ℕ) (n : ℕ) → At (vxlanChecks s) n → vxlanOf s ≡ given T.Refused (vxlanChecks s) (T.Header (vniAt s)) n
+unfolding vxlanOf
+vxlan-exit s n p = decided T.Refused (vxlanChecks s) (T.Header (vniAt s)) n p
+
+pub vxlan-accepts : (s : List ℕ) (vni : ℕ) → Passed (vxlanChecks s) → vni ≡ vniAt s → T.Header vni ≡ vxlanOf s
+unfolding vxlanOf
+vxlan-accepts s vni p e = rw e (sym (pass T.Refused (vxlanChecks s) (T.Header (vniAt s)) p))
