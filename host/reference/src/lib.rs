@@ -1,0 +1,27 @@
+//! A second implementation of the tunnel endpoint that document 01 describes,
+//! written from the papers alone so that it can be compared with the first.
+//!
+//! An [`Endpoint`] is started with a [`Config`], gets peers and bindings, then
+//! takes outer IPv4 packets ([`Endpoint::receive`]) and ticks, and wraps inner
+//! frames ([`Endpoint::wrap`]). A delivered frame is named by a [`Place`];
+//! [`view`] hands its bytes back. Nothing is ever allocated.
+//!
+//! The field's words are used here: a *tenant* is the paper's bench, the
+//! *received map* its map of held bytes, a *pending* frame one under way.
+
+#![forbid(unsafe_code)]
+#![warn(missing_docs)]
+
+mod answer;
+mod checksum;
+mod endpoint;
+mod headers;
+mod listing;
+mod reassembly;
+mod received_map;
+mod wrap;
+
+pub use answer::{view, Added, Answer, Code, Place, Refusal, Wrapped, DONE, HELD};
+pub use endpoint::Endpoint;
+pub use listing::{Binding, Config, Kind, MAX_BINDINGS, MAX_PEERS};
+pub use reassembly::{MEMORY_NEEDED, SLOTS_PER_PEER, SLOT_SIZE};

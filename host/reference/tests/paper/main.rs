@@ -1,0 +1,15 @@
+//! Tests of the reference against document 01. Expected bytes and numbers are
+//! the paper's own, or were worked out by hand; packets are built here with a
+//! word-by-word checksum that shares nothing with the code under test.
+
+mod build;
+mod faults;
+mod listing;
+mod memory;
+mod order;
+mod outer;
+mod segments;
+mod tunnels;
+mod view;
+mod worked_cases;
+mod wrapping;

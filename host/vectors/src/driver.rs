@@ -1,0 +1,182 @@
+//! Calls the reference and says in one line what it answered.
+
+use niulassenc_reference::{view, Endpoint, Place};
+
+/// Longest output that a wrap record may ask for.
+pub const MAX_OUTPUT: usize = 2000;
+
+/// Longest memory that a record may lend.
+pub const MAX_MEMORY: usize = 60_000;
+
+/// One endpoint, the memory lent to it and the last packet it got.
+pub struct Driver {
+    pub endpoint: Endpoint,
+    pub memory: Vec<u8>,
+    pub last_packet: Vec<u8>,
+    output: Vec<u8>,
+    written: usize,
+    last_place: Place,
+}
+
+/// The code of an answer, where it has one, and its line.
+pub struct Line {
+    pub code: Option<u8>,
+    pub text: String,
+}
+
+impl Line {
+    fn coded(code: u8, text: String) -> Line {
+        Line {
+            code: Some(code),
+            text,
+        }
+    }
+}
+
+/// h := 31 h + byte + 1 modulo 2^32, from 0.
+pub fn hash(bytes: &[u8]) -> u32 {
+    bytes.iter().fold(0u32, |h, &byte| {
+        h.wrapping_mul(31).wrapping_add(u32::from(byte) + 1)
+    })
+}
+
+/// The first contents of a lent memory.
+pub fn memory_contents(length: usize, seed: u32) -> Vec<u8> {
+    let mut x = seed;
+    (0..length)
+        .map(|_| {
+            x = x.wrapping_mul(1_103_515_245).wrapping_add(12_345);
+            (x >> 16) as u8
+        })
+        .collect()
+}
+
+fn or_dash(number: Option<u16>) -> String {
+    number.map_or_else(|| "-".to_string(), |number| number.to_string())
+}
+
+impl Default for Driver {
+    fn default() -> Driver {
+        Driver::new()
+    }
+}
+
+impl Driver {
+    pub fn new() -> Driver {
+        Driver {
+            endpoint: Endpoint::start(0, 0, 0).0,
+            memory: Vec::new(),
+            last_packet: Vec::new(),
+            output: Vec::new(),
+            written: 0,
+            last_place: Place::EMPTY,
+        }
+    }
+
+    pub fn start(&mut self, own: u32, port: u16, mtu: u16) -> Line {
+        let (endpoint, code) = Endpoint::start(own, port, mtu);
+        self.endpoint = endpoint;
+        Line::coded(code, format!("start {code}"))
+    }
+
+    pub fn peer(&mut self, address: u32) -> Line {
+        let added = self.endpoint.add_peer(address);
+        let text = format!("peer {} {}", added.code, or_dash(added.number));
+        Line::coded(added.code, text)
+    }
+
+    pub fn binding(&mut self, peer: u16, kind: u8, id: u64, tenant: u16) -> Line {
+        let added = self.endpoint.add_binding(peer, kind, id, tenant);
+        let text = format!("binding {} {}", added.code, or_dash(added.number));
+        Line::coded(added.code, text)
+    }
+
+    pub fn lend(&mut self, length: usize, seed: u32) -> Line {
+        self.memory = memory_contents(length, seed);
+        Line {
+            code: None,
+            text: format!("memory {length} {}", hash(&self.memory)),
+        }
+    }
+
+    pub fn receive(&mut self, packet: &[u8]) -> Line {
+        self.last_packet = packet.to_vec();
+        let answer = self.endpoint.receive(packet, &mut self.memory);
+        let place = answer.place;
+        self.last_place = place;
+        let text = format!(
+            "receive {} {} {} {} {} {} {} {}",
+            answer.code,
+            or_dash(answer.tenant),
+            or_dash(answer.binding),
+            if place.in_memory { "memory" } else { "packet" },
+            place.start,
+            place.length,
+            hash(view(packet, &self.memory, place)),
+            hash(&self.memory),
+        );
+        Line::coded(answer.code, text)
+    }
+
+    pub fn tick(&mut self) -> Line {
+        let code = self.endpoint.tick();
+        Line::coded(code, format!("tick {code}"))
+    }
+
+    /// A place whose numbers exceed the machine's word fits nothing.
+    pub fn view(&mut self, in_memory: bool, start: u64, length: u64) -> Line {
+        let place = Place {
+            in_memory,
+            start: usize::try_from(start).unwrap_or(usize::MAX),
+            length: usize::try_from(length).unwrap_or(usize::MAX),
+        };
+        let part = view(&self.last_packet, &self.memory, place);
+        let slice = if in_memory {
+            &self.memory
+        } else {
+            &self.last_packet
+        };
+        let text = if place.fits(slice.len()) {
+            // Told from the part itself, so that the line says where it lies.
+            let offset = part.as_ptr() as usize - slice.as_ptr() as usize;
+            format!("view {offset} {} {}", part.len(), hash(part))
+        } else {
+            assert_eq!(part.as_ptr(), self.last_packet.as_ptr());
+            format!("view - {} {}", part.len(), hash(part))
+        };
+        Line { code: None, text }
+    }
+
+    pub fn wrap(
+        &mut self,
+        binding: u16,
+        segment: u32,
+        identifier: u32,
+        output_length: usize,
+        frame: &[u8],
+    ) -> Line {
+        self.output = vec![0xAA; output_length];
+        let wrapped = self
+            .endpoint
+            .wrap(binding, frame, segment, identifier, &mut self.output);
+        self.written = wrapped.length;
+        let text = format!(
+            "wrap {} {} {} {}",
+            wrapped.code,
+            wrapped.length,
+            wrapped.segments,
+            hash(&self.output)
+        );
+        Line::coded(wrapped.code, text)
+    }
+
+    /// The packet that the last wrap wrote; empty after a refusal.
+    pub fn written(&self) -> &[u8] {
+        &self.output[..self.written]
+    }
+
+    /// The bytes that the last receive delivered; none after another answer.
+    pub fn handed_back(&self) -> &[u8] {
+        view(&self.last_packet, &self.memory, self.last_place)
+    }
+}

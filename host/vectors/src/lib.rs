@@ -1,0 +1,28 @@
+//! Makes runs (lists of calls) and the reference's answers to them, so that
+//! another implementation can be compared call by call.
+
+#![forbid(unsafe_code)]
+
+pub mod directed;
+pub mod driver;
+pub mod packet;
+pub mod prng;
+pub mod random;
+pub mod record;
+pub mod recorder;
+
+use prng::Prng;
+use recorder::Recorder;
+
+/// Seed and number of random steps when the command line names none.
+pub const DEFAULT_SEED: u64 = 20_140_415;
+pub const DEFAULT_STEPS: usize = 4500;
+
+/// All directed cases, then `steps` random steps.
+pub fn generate(seed: u64, steps: usize) -> Recorder {
+    let mut recorder = Recorder::new();
+    let mut prng = Prng::new(seed);
+    directed::all(&mut recorder, &mut prng);
+    random::steps(&mut recorder, &mut prng, steps);
+    recorder
+}

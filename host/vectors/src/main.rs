@@ -1,0 +1,56 @@
+//! `vectors OUTDIR [SEED] [STEPS]`: writes OUTDIR/runs.bin and
+//! OUTDIR/answers.txt, and to standard error how often each code occurred.
+
+#![forbid(unsafe_code)]
+
+use std::path::Path;
+use std::process::ExitCode;
+use vectors::recorder::Recorder;
+use vectors::{generate, DEFAULT_SEED, DEFAULT_STEPS};
+
+fn main() -> ExitCode {
+    match run(std::env::args().skip(1).collect()) {
+        Ok(()) => ExitCode::SUCCESS,
+        Err(message) => {
+            eprintln!("vectors: {message}");
+            ExitCode::FAILURE
+        }
+    }
+}
+
+fn run(arguments: Vec<String>) -> Result<(), String> {
+    let (folder, rest) = arguments
+        .split_first()
+        .filter(|(_, rest)| rest.len() <= 2)
+        .ok_or("usage: vectors OUTDIR [SEED] [STEPS]")?;
+    let seed = number(rest.first(), DEFAULT_SEED)?;
+    let steps = number(rest.get(1), DEFAULT_STEPS as u64)?;
+    let recorder = generate(seed, steps as usize);
+    write(Path::new(folder), &recorder).map_err(|error| format!("{folder}: {error}"))?;
+    report(seed, &recorder);
+    Ok(())
+}
+
+fn number(argument: Option<&String>, default: u64) -> Result<u64, String> {
+    argument.map_or(Ok(default), |text| {
+        text.parse().map_err(|_| format!("not a number: {text}"))
+    })
+}
+
+fn write(folder: &Path, recorder: &Recorder) -> std::io::Result<()> {
+    std::fs::create_dir_all(folder)?;
+    std::fs::write(folder.join("runs.bin"), &recorder.runs)?;
+    std::fs::write(folder.join("answers.txt"), &recorder.answers)
+}
+
+fn report(seed: u64, recorder: &Recorder) {
+    eprintln!(
+        "seed {seed}: {} records, {} bytes of runs, {} bytes of answers",
+        recorder.records,
+        recorder.runs.len(),
+        recorder.answers.len()
+    );
+    for (code, count) in recorder.histogram.iter().enumerate() {
+        eprintln!("code {code:2}: {count}");
+    }
+}

@@ -1,0 +1,168 @@
+//! The two files: their form, byte by byte, and what the generator promises.
+
+use vectors::prng::Prng;
+use vectors::record::{decode, replay, Record};
+use vectors::recorder::Recorder;
+use vectors::{generate, random, DEFAULT_SEED, DEFAULT_STEPS};
+
+fn bytes(hex: &str) -> Vec<u8> {
+    hex.split_whitespace()
+        .map(|pair| u8::from_str_radix(pair, 16).expect("two hex digits"))
+        .collect()
+}
+
+/// A run written by hand.
+const RUN: &str = "
+         01 00 08  0a 00 00 01  1d 2f  05 dc
+         02 00 04  0a 00 00 02
+         02 00 04  0a 00 00 01
+         03 00 0d  00 00  01  00 00 00 00 00 00 00 16  00 65
+         03 00 0d  00 00  03  00 00 00 00 00 00 00 16  ff ff
+         03 00 0d  00 00  03  00 00 00 00 00 00 00 16  00 01
+         04 00 08  00 00 00 04  00 00 00 01
+         05 00 00
+         04 00 08  00 00 d8 00  00 00 00 09
+         05 00 32  45 00 00 32 00 00 40 00 40 11 26 b9 0a 00 00 02 0a 00 00 01
+                   cc b8 12 b5 00 1e 00 00 08 00 00 00 00 00 16 00
+                   02 00 00 00 00 02 02 00 00 00 00 01 88 b5
+         07 00 11  00  00 00 00 00 00 00 00 24  00 00 00 00 00 00 00 0e
+         07 00 11  00  00 00 00 00 00 00 00 24  00 00 00 00 00 00 00 0f
+         05 00 48  45 00 00 48 00 00 40 00 40 06 26 ae 0a 00 00 02 0a 00 00 01
+                   cc b8 1d 2f 00 20 00 00 00 00 00 05 50 18 00 00 24 cf 00 00
+                   00 00 00 00 00 00 00 00 00 00 00 00 00 00 00 16 00 00
+                   02 00 00 00 00 02 02 00 00 00 00 01 88 b5
+         06 00 00
+         08 00 1a  00 00  00 00 00 00  00 00 00 07  00 34
+                   02 00 00 00 00 02 02 00 00 00 00 01 88 b5
+         08 00 1a  00 02  00 00 00 00  00 00 00 07  00 34
+                   02 00 00 00 00 02 02 00 00 00 00 01 88 b5";
+
+/// The lines that the paper and the file's form demand for it; the hashes were
+/// worked out outside of this program.
+const LINES: &str = "\
+start 0
+peer 0 0
+peer 18 -
+binding 0 0
+binding 0 1
+binding 19 -
+memory 4 6054594
+receive 2 - - packet 0 0 0 6054594
+memory 55296 1297393986
+receive 0 101 0 packet 36 14 1343666380 1297393986
+view 36 14 1343666380
+view - 0 0
+receive 0 65535 1 memory 18 14 1343666380 3222715768
+tick 0
+wrap 0 50 1 696778459
+wrap 23 0 0 3627348928
+";
+
+#[test]
+fn a_run_by_hand() {
+    let runs = bytes(RUN);
+    assert_eq!(replay(&runs).unwrap(), LINES);
+    let mut again = Vec::new();
+    for record in decode(&runs).unwrap() {
+        record.encode(&mut again);
+    }
+    assert_eq!(again, runs);
+}
+
+#[test]
+fn broken_runs_are_told() {
+    for broken in [
+        "00 00 00",
+        "09 00 00",
+        "06",
+        "06 00 01 00",
+        "02 00 03 0a 00 00",
+        "05 00 02 45",
+        "05 07 d1",
+        "04 00 08 00 00 ea 61 00 00 00 00",
+        "07 00 11 02 00 00 00 00 00 00 00 00 00 00 00 00 00 00 00 00",
+        "08 00 0c 00 00 00 00 00 00 00 00 00 00 07 d1",
+    ] {
+        assert!(decode(&bytes(broken)).is_err(), "{broken}");
+    }
+    assert!(decode(&bytes("04 00 08 00 00 ea 60 00 00 00 00")).is_ok());
+}
+
+#[test]
+fn the_same_seed_gives_the_same_bytes() {
+    let first = generate(5, 300);
+    let second = generate(5, 300);
+    assert_eq!(first.runs, second.runs);
+    assert_eq!(first.answers, second.answers);
+    let other = generate(6, 300);
+    assert_ne!(first.runs, other.runs);
+    assert_ne!(first.answers, other.answers);
+}
+
+#[test]
+fn a_replay_gives_the_answers() {
+    for (seed, steps) in [(DEFAULT_SEED, DEFAULT_STEPS), (1, 500), (u64::MAX, 500)] {
+        let made = generate(seed, steps);
+        assert_eq!(replay(&made.runs).unwrap(), made.answers);
+        assert_eq!(made.answers.lines().count(), made.records);
+        assert_eq!(decode(&made.runs).unwrap().len(), made.records);
+    }
+}
+
+#[test]
+fn every_code_is_reached() {
+    let made = generate(DEFAULT_SEED, DEFAULT_STEPS);
+    for (code, &count) in made.histogram.iter().enumerate() {
+        assert!(count >= 4, "code {code} occurs {count} times");
+    }
+}
+
+/// The random part alone reaches everything that receiving and writing can
+/// answer, on seeds of all sorts.
+#[test]
+fn the_random_part_goes_deep() {
+    for seed in [DEFAULT_SEED, 1, 2, 3] {
+        let mut recorder = Recorder::new();
+        random::steps(&mut recorder, &mut Prng::new(seed), DEFAULT_STEPS);
+        let reached = |call: &str, code: usize| {
+            let start = format!("{call} {code} ");
+            recorder
+                .answers
+                .lines()
+                .filter(|line| line.starts_with(&start))
+                .count()
+        };
+        for code in 0..=17 {
+            assert!(reached("receive", code) >= 3, "seed {seed}, receive {code}");
+        }
+        for code in [0, 13, 21, 23] {
+            assert!(reached("wrap", code) >= 3, "seed {seed}, wrap {code}");
+        }
+        assert!(reached("receive", 0) > 300, "seed {seed}");
+    }
+}
+
+#[test]
+fn the_default_runs_keep_their_bounds() {
+    let made = generate(DEFAULT_SEED, DEFAULT_STEPS);
+    assert!(made.runs.len() < 700_000, "{}", made.runs.len());
+    let mut started = false;
+    let mut lent = false;
+    let mut received = false;
+    for record in decode(&made.runs).unwrap() {
+        match record {
+            Record::Start { .. } => {
+                started = true;
+                received = false;
+            }
+            Record::Lend { .. } => lent = true,
+            Record::Receive { .. } => {
+                assert!(lent, "a receive before the first memory");
+                received = true;
+            }
+            Record::View { .. } => assert!(received, "a view without a packet"),
+            _ => {}
+        }
+        assert!(started, "a call before the first start");
+    }
+}
