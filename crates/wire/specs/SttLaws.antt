@@ -79,3 +79,10 @@ sound s b context eq =
 pub ignores : (s t : List ℕ) → length s ≡ length t → beAt s 0 1 ≡ beAt t 0 1 → beAt s 1 1 % 4 ≡ beAt t 1 1 % 4 → beAt s 8 8 ≡ beAt t 8 8 → sttOf s ≡ sttOf t
 unfolding sttOf sttChecks
 ignores s t l v f c = rw (l, v, f, c)
+
+-- what is read as a header is one, for any list
+pub stt-room : (s : List ℕ) (context : ℕ) → sttOf s ≡ T.Header context → 18 ≤ length s
+unfolding sttOf sttChecks
+stt-room s context eq =
+    let p = passed T.Refused (sttChecks s) (T.Header (beAt s 8 8)) (T.Header context) (λ r e. let z : _≡_ {A = ℕ} 0 1 = cc in omega arith) eq in
+    omega (arith, tests)

@@ -1,0 +1,128 @@
+-- Small tools that every layer uses: bounded tests over the numbers below n, a table of values, and case analysis that keeps the equation.
+-- Assumes nothing.
+use mathlib.Core.Path.{_≡_, refl, sym, ap, subst, _∙_}
+use mathlib.Core.Logic.{_⊎_, inl, inr, _≢_}
+use mathlib.Core.Bool.{Bool, true, false, cond, not, _&&_, _||_}
+use mathlib.Core.List.{List, [], _∷_, _++_}
+use mathlib.Core.Option.{Option, none, some}
+use Prim.Native.Nat.{ℕ, zero, suc, _+_, _-_, _*_, _≤_, _<_}
+use native.Mathlib.Omega.{arith}
+use lib.ListN.{length, getD, take, drop, set, length-append}
+use lib.Seq.{ext-getD, getD-at}
+use lib.ListN.{List·getD-append}
+use lib.Dec.{ltb, leb, eqb}
+use borrow.Author.Tests.{ltb-true, ltb-false, eqb-true, eqb-false, lt-ltb, le-ltb, eq-eqb, ne-eqb}
+
+-- does the test pass at some number below n; at every number below n; the list of a function's values below n
+unfoldable pub someBelow : ℕ → (ℕ → Bool) → Bool
+someBelow zero f = false
+someBelow (suc n) f = f n || someBelow n f
+
+unfoldable pub allBelow : ℕ → (ℕ → Bool) → Bool
+allBelow zero f = true
+allBelow (suc n) f = f n && allBelow n f
+
+unfoldable pub table : {A : Type 0} → ℕ → (ℕ → A) → List A
+table zero f = []
+table (suc n) f = table n f ++ (f n ∷ [])
+
+-- case analysis that keeps the equation: a value is handed over with what each case knows. The goal needs no motive.
+pub caseB {ℓ} : {C : Type ℓ} (b : Bool) → (b ≡ true → C) → (b ≡ false → C) → C
+caseB true f g = f refl
+caseB false f g = g refl
+
+pub caseO {ℓ} : {A : Type 0} {C : Type ℓ} (o : Option A) → (o ≡ none → C) → ((a : A) → o ≡ some a → C) → C
+caseO none f g = f refl
+caseO (some a) f g = g a refl
+
+pub either {ℓ} : {A B : Type 0} {C : Type ℓ} → A ⊎ B → (A → C) → (B → C) → C
+either (inl a) f g = f a
+either (inr b) f g = g b
+
+-- two constructors that clash: `clash (cc)`
+pub clash {ℓ} : {C : Type ℓ} → _≡_ {A = ℕ} 0 1 → C
+clash e = absurd (omega arith)
+
+-- lt is lt or equal
+pub below-suc : {i n : ℕ} → i < suc n → (i < n) ⊎ (i ≡ n)
+below-suc {i} {n} h = caseB (ltb i n) (λ e. inl (ltb-true i n e)) (λ e. inr (omega (arith, ltb-false i n e)))
+
+pub someBelow-ext : (n : ℕ) (f g : ℕ → Bool) → ((i : ℕ) → i < n → f i ≡ g i) → someBelow n f ≡ someBelow n g
+unfolding someBelow
+someBelow-ext zero f g h = refl
+someBelow-ext (suc n) f g h = cc (h n (omega arith), someBelow-ext n f g (λ i l. h i (omega arith)))
+
+pub allBelow-ext : (n : ℕ) (f g : ℕ → Bool) → ((i : ℕ) → i < n → f i ≡ g i) → allBelow n f ≡ allBelow n g
+unfolding allBelow
+allBelow-ext zero f g h = refl
+allBelow-ext (suc n) f g h = cc (h n (omega arith), allBelow-ext n f g (λ i l. h i (omega arith)))
+
+pub table-ext : {A : Type 0} (n : ℕ) (f g : ℕ → A) → ((i : ℕ) → i < n → f i ≡ g i) → table n f ≡ table n g
+unfolding table
+table-ext zero f g h = refl
+table-ext (suc n) f g h = cc (h n (omega arith), table-ext n f g (λ i l. h i (omega arith)))
+
+pub and-l : (a b : Bool) → (a && b) ≡ true → a ≡ true
+and-l true b e = refl
+and-l false b e = e
+
+pub and-r : (a b : Bool) → (a && b) ≡ true → b ≡ true
+and-r true b e = e
+and-r false b e = let z : true ≡ false = cc in cc
+
+pub or-false-l : (a b : Bool) → (a || b) ≡ false → a ≡ false
+or-false-l true b e = e
+or-false-l false b e = refl
+
+pub or-false-r : (a b : Bool) → (a || b) ≡ false → b ≡ false
+or-false-r true b e = cc
+or-false-r false b e = e
+
+pub allBelow-at : (n : ℕ) (f : ℕ → Bool) → allBelow n f ≡ true → (i : ℕ) → i < n → f i ≡ true
+unfolding allBelow
+allBelow-at zero f e i h = absurd (omega arith)
+allBelow-at (suc n) f e i h =
+    either (below-suc h)
+    (λ l. allBelow-at n f (and-r (f n) (allBelow n f) e) i l)
+    (λ q. cc (and-l (f n) (allBelow n f) e))
+
+pub allBelow-intro : (n : ℕ) (f : ℕ → Bool) → ((i : ℕ) → i < n → f i ≡ true) → allBelow n f ≡ true
+unfolding allBelow
+allBelow-intro zero f h = refl
+allBelow-intro (suc n) f h = cc (h n (omega arith), allBelow-intro n f (λ i l. h i (omega arith)))
+
+pub someBelow-none : (n : ℕ) (f : ℕ → Bool) → ((i : ℕ) → i < n → f i ≡ false) → someBelow n f ≡ false
+unfolding someBelow
+someBelow-none zero f h = refl
+someBelow-none (suc n) f h = cc (h n (omega arith), someBelow-none n f (λ i l. h i (omega arith)))
+
+pub length-table : {A : Type 0} (n : ℕ) (f : ℕ → A) → length (table n f) ≡ n
+unfolding table
+length-table zero f = refl
+length-table (suc n) f = length-append (table n f) (f n ∷ []) ∙ omega (arith, length-table n f)
+
+pub getD-table : {A : Type 0} (n : ℕ) (f : ℕ → A) (d : A) (i : ℕ) → i < n → getD (table n f) i d ≡ f i
+unfolding table
+getD-table zero f d i h = absurd (omega arith)
+getD-table (suc n) f d i h =
+    either (below-suc h)
+    (λ l. List·getD-append (table n f) (f n ∷ []) d i (omega (arith, length-table n f)) ∙ getD-table n f d i l)
+    (λ q. rw q (getD-at (table n f) (f n) [] d n (length-table n f)))
+
+-- two tests that pass together are the same
+pub same-test : (x y : Bool) → (x ≡ true → y ≡ true) → (y ≡ true → x ≡ true) → x ≡ y
+same-test true true f g = refl
+same-test true false f g = sym (f refl)
+same-test false true f g = g refl
+same-test false false f g = refl
+
+pub or-cases : (a b : Bool) → (a || b) ≡ true → (a ≡ true) ⊎ (b ≡ true)
+or-cases true b e = inl refl
+or-cases false b e = inr e
+
+pub or-true-r : (a b : Bool) → b ≡ true → (a || b) ≡ true
+or-true-r true b e = refl
+or-true-r false b e = e
+
+pub allBelow-fails : (n : ℕ) (f : ℕ → Bool) (i : ℕ) → i < n → f i ≡ false → allBelow n f ≡ false
+allBelow-fails n f i l e = caseB (allBelow n f) (λ q. cc (allBelow-at n f q i l)) (λ q. q)

@@ -1,0 +1,333 @@
+-- For every run from a set-up, mixing or not (demand 2, "exactly the frame that was carried"): the bytes of a complete frame are exactly the bytes of the segments taken for it since it opened,
+-- each at its place, each byte from one segment.
+use mathlib.Core.Path.{_≡_, refl, sym, ap, subst, _∙_}
+use mathlib.Core.Bool.{Bool, true, false, cond}
+use mathlib.Core.List.{List, [], _∷_, _++_, map, append-assoc, append-nil}
+use Prim.Native.Nat.{ℕ, zero, suc, _+_, _*_, _≤_, _<_}
+use native.Mathlib.Omega.{arith}
+use lib.ListN.{length, getD, set}
+use lib.Seq.{getD-set-same}
+use lib.Dec.{eqb}
+use borrow.Author.Tests.{eq-eqb, eqb-true}
+use Rattle.reassembly.specs.Base.{caseB, clash, table, length-table}
+use Rattle.reassembly.specs.Slots.{Slot, Row, Note, noRow, free}
+use Rattle.reassembly.specs.Take.{slotNo, Seg, Outcome, Rejected, Pending, Complete, NoMemory, Choice, reject, old, fresh, chosen, Effect, frameIn, takeSegment}
+use Rattle.reassembly.specs.TakeFacts.{length-frame}
+use Rattle.reassembly.specs.Store.{bytesOf, takeIn, take-in}
+use Rattle.reassembly.specs.StoreLaws.{bytes-laws}
+use Rattle.reassembly.specs.Receive.{Answers, Verdict, Seen, stranger, plain, segment, Event, receive, tick, State, react, after, run}
+use Rattle.reassembly.specs.Sim.{Alike, take-alike}
+use Rattle.reassembly.specs.Runs.{mine, own, keeps, Listed, Sim, event-sim, rows-older}
+use Rattle.reassembly.specs.NonInterference.{emptyRows, emptyRow, empty-at, empty-free, start, ghostStart}
+use Rattle.reassembly.specs.Ghost.{ghost, ghost-laws}
+use Rattle.reassembly.specs.SetUp.{Layers, Kept, Promised, Endpoint, World, setUp, next, runs}
+use Rattle.reassembly.specs.ClaimProof.{kept-listed, set-up-rows, at, next-at, begins}
+use Rattle.reassembly.specs.Log.{Log, writes, enters, entered, logged, noSeg, carries, OneOf, OfFrame, AllOf, all-of-at, Logs, Pieced, Logged, take-logs, tick-logs, uncovered, apart-at, pieced-byte, Misses, Waiting}
+
+module _ (W : Answers) (Config : Type 0) (U : Layers W Config) (p : ℕ) where
+  -- ---- the log of peer p's slots over a run
+
+  -- what taking peer p's segment g gives in this world
+  abbrev pub taking : World Config → Seg → Effect bytesOf
+  taking w g = takeIn p (getD (w .ends .rows) p noRow) (w .mem) g
+
+  abbrev pub logSeen : World Config → Log → Seen W → Log
+  logSeen w L (stranger a) = L
+  logSeen w L (plain q a) = L
+  logSeen w L (segment q g) = cond (eqb q p) (logged L (getD (w .ends .rows) p noRow .slots) g (taking w g .outcome)) L
+
+  abbrev pub logNext : World Config → Log → Event → Log
+  logNext w L tick = L
+  logNext w L (receive k) = logSeen w L (U .header (w .ends .config) k)
+
+  abbrev pub logRun : World Config → Log → List Event → Log
+  logRun w L [] = L
+  logRun w L (e ∷ es) = logRun (next W Config U w e) (logNext w L e) es
+
+  -- the segments taken for the frame in slot s since it opened, latest first, after a run from this world
+  abbrev pub takenSince : World Config → List Event → ℕ → List Seg
+  takenSince w es s = logRun w (λ t. []) es s
+
+  -- a segment that some packet of the run carries, which is peer p's and sound
+  pub record CameIn (c : Config) (es : List Event) (g : Seg) : Type 0 where
+    pub before : List Event
+    pub packet : List ℕ
+    pub after : List Event
+    pub is : es ≡ before ++ (receive packet ∷ after)
+    pub sound : U .header c packet ≡ segment p g
+
+  -- ---- THE STATEMENT: the frame is made up of these segments, which came in this run
+  pub record Carried (c : Config) (es : List Event) (g : Seg) (gs : List Seg) (frame : List ℕ) : Type 0 where
+    -- this segment is the last of them, and the frame has the length that it states
+    pub earlier : List Seg
+    pub latest : gs ≡ g ∷ earlier
+    pub size : length frame ≡ g .frame-length
+    -- each segment came in a sound packet of the peer's, and states this identifier and this length
+    pub came : (j : ℕ) → j < length gs → CameIn c es (getD gs j noSeg)
+    pub of-frame : (j : ℕ) → j < length gs → OfFrame (g .identifier) (g .frame-length) (getD gs j noSeg)
+    -- each byte is from the one segment that covers it
+    pub bytes : (i : ℕ) → i < length frame → OneOf gs i (getD frame i 0)
+
+  -- the segments taken for a frame that is not complete: they came in this run, they are of the frame, no byte is covered twice, and some byte is not covered
+  pub record Unfinished (c : Config) (es : List Event) (g : Seg) (gs : List Seg) : Type 0 where
+    pub earlier : List Seg
+    pub latest : gs ≡ g ∷ earlier
+    pub came : (j : ℕ) → j < length gs → CameIn c es (getD gs j noSeg)
+    pub of-frame : (j : ℕ) → j < length gs → OfFrame (g .identifier) (g .frame-length) (getD gs j noSeg)
+    pub once : (i j k : ℕ) → j < length gs → k < length gs → carries (getD gs j noSeg) i ≡ true → carries (getD gs k noSeg) i ≡ true → j ≡ k
+    pub byte : ℕ
+    pub is-byte : byte < g .frame-length
+    pub uncovered : (j : ℕ) → j < length gs → carries (getD gs j noSeg) byte ≡ false
+
+  -- at a segment that leaves its frame pending, after any run: in one of the peer's slots
+  pub record AtPending (c : Config) (w : World Config) (es : List Event) (k : List ℕ) (g : Seg) : Type 0 where
+    pub slot : ℕ
+    pub is-slot : slot < 4
+    pub unfinished : Unfinished c (es ++ (receive k ∷ [])) g (takenSince w (es ++ (receive k ∷ [])) slot)
+
+  -- at a segment that completes a frame, after any run
+  abbrev pub AtComplete : Config → World Config → List Event → List ℕ → Seg → ℕ → Type 0
+  AtComplete c w es k g s = Carried c (es ++ (receive k ∷ [])) g (takenSince w (es ++ (receive k ∷ [])) s) (frameIn bytesOf (taking (runs W Config U w es) g .mem) (slotNo p s) (g .frame-length))
+
+  -- ---- the proof: the ghost's pieces are the log's
+
+  abbrev Came : Config → List Event → List Seg → Type 0
+  Came c es [] = Unit {0}
+  Came c es (g ∷ gs) = CameIn c es g × Came c es gs
+
+  came-at : (c : Config) (es : List Event) (gs : List Seg) → Came c es gs → (j : ℕ) → j < length gs → CameIn c es (getD gs j noSeg)
+  came-at c es [] a j l = absurd (omega arith)
+  came-at c es (g ∷ gs) a zero l = a .0
+  came-at c es (g ∷ gs) a (suc j) l = came-at c es gs (a .1) j (omega arith)
+
+  came-more : (c : Config) (es : List Event) (e : Event) (gs : List Seg) → Came c es gs → Came c (es ++ (e ∷ [])) gs
+  came-more c es e [] a = tt
+  came-more c es e (g ∷ gs) a = (
+    record {
+      before = a .0 .before;
+      packet = a .0 .packet;
+      after = a .0 .after ++ (e ∷ []);
+      is = ap (λ (x : List Event). x ++ (e ∷ [])) (a .0 .is) ∙ append-assoc (a .0 .before) (receive (a .0 .packet) ∷ a .0 .after) (e ∷ []);
+      sound = a .0 .sound;
+    },
+    came-more c es e gs (a .1),
+  )
+
+  module _ (p< : p < 8) (c : Config) (promise : Promised W Config U c) where
+    abbrev header : List ℕ → Seen W
+    header k = U .header c k
+
+    abbrev judge : ℕ → Note → List ℕ → Verdict W
+    judge q t f = U .judge c q t f
+
+    listed : (k : List ℕ) → Listed W (header k)
+    listed k = kept-listed W (header k) (promise .kept k)
+
+    abbrev world : State bytesOf → World Config
+    world s = record { ends = record { config = c; rows = s .rows }; mem = s .mem }
+
+    -- what holds after the events so far
+    record Inv (past : List Event) (s : State bytesOf) (g : State ghost) (L : Log) : Type 0 where
+      sim : Sim bytesOf ghost p s g
+      logs : Logs p (getD (g .rows) p noRow .slots) (g .mem) L
+      came : (t : ℕ) → Came c past (L t)
+
+    -- what the log gains came in the run
+    enters-came : (past : List Event) (L : Log) (g : Seg) (x : Choice) → CameIn c past g → ((t : ℕ) → Came c past (L t)) → (t : ℕ) → Came c past (enters L g x t)
+    enters-came past L g (reject r) i a t = a t
+    enters-came past L g (old s) i a t = caseB (eqb t s) (λ q. rw q (i, a s)) (λ q. rw q (a t))
+    enters-came past L g (fresh s) i a t = caseB (eqb t s) (λ q. rw q (i, tt)) (λ q. rw q (a t))
+
+    entered-came : (past : List Event) (L : Log) (g : Seg) (x : Choice) (o : Outcome) → CameIn c past g → ((t : ℕ) → Came c past (L t)) → (t : ℕ) → Came c past (entered L g x o t)
+    entered-came past L g x (Rejected r) i a t = a t
+    entered-came past L g x Pending i a t = enters-came past L g x i a t
+    entered-came past L g x (Complete s) i a t = enters-came past L g x i a t
+    entered-came past L g x NoMemory i a t = a t
+
+    seen-came : (past : List Event) (s : State bytesOf) (L : Log) (x : Seen W) → ((q : ℕ) (g : Seg) → x ≡ segment q g → q ≡ p → CameIn c past g) → ((t : ℕ) → Came c past (L t)) → (t : ℕ) → Came c past (logSeen (world s) L x t)
+    seen-came past s L (stranger a) i h t = h t
+    seen-came past s L (plain q a) i h t = h t
+    seen-came past s L (segment q g) i h t =
+        caseB (eqb q p)
+        (λ e. rw e (entered-came past L g (chosen (getD (s .rows) p noRow .slots) g) (taking (world s) g .outcome) (i q g refl (eqb-true q p e)) h t))
+        (λ e. rw e (h t))
+
+    -- the real row and outcome are the ghost's
+    logged-same : (s : State bytesOf) (g : State ghost) (L : Log) (x : Seg) → Sim bytesOf ghost p s g
+        → logged L (getD (s .rows) p noRow .slots) x (taking (world s) x .outcome) ≡ logged L (getD (g .rows) p noRow .slots) x (takeSegment ghost p (getD (g .rows) p noRow) (g .mem) x .outcome)
+    logged-same s g L x h =
+        let r : getD (s .rows) p noRow ≡ getD (g .rows) p noRow = ap (λ (l : List Slot). record { slots = l }) (h .row) in
+        let l : Alike bytesOf ghost p (x .frame-length) (takeSegment bytesOf p (getD (s .rows) p noRow) (s .mem) x) (takeSegment ghost p (getD (s .rows) p noRow) (g .mem) x) =
+        take-alike bytesOf ghost bytes-laws ghost-laws p p< (getD (s .rows) p noRow) (s .mem) (g .mem) x (h .same) in
+        rw (take-in p (getD (s .rows) p noRow) (s .mem) x p< (h .same .okA), l .outcome, r)
+
+    mine-logs : (s : State bytesOf) (g : State ghost) (L : Log) (x : Seen W) → mine W p x ≡ true → Sim bytesOf ghost p s g → Logs p (getD (g .rows) p noRow .slots) (g .mem) L
+        → Logs p (getD (react W judge ghost g x .state .rows) p noRow .slots) (react W judge ghost g x .state .mem) (logSeen (world s) L x)
+    mine-logs s g L (stranger a) m h l = l
+    mine-logs s g L (plain q a) m h l = l
+    mine-logs s g L (segment q x) m h l =
+        let z : q ≡ p = eqb-true q p m in
+        let o : Effect ghost = takeSegment ghost p (getD (g .rows) p noRow) (g .mem) x in
+        let r : getD (set (g .rows) p (o .row)) p noRow ≡ o .row = getD-set-same (g .rows) p (o .row) noRow (omega (arith, h .eightB)) in
+        rw (m, z, logged-same s g L x h) (rw r (take-logs p (getD (g .rows) p noRow) (g .mem) L x l .logs))
+
+    other-log : (s : State bytesOf) (L : Log) (x : Seen W) → mine W p x ≡ false → logSeen (world s) L x ≡ L
+    other-log s L (stranger a) m = refl
+    other-log s L (plain q a) m = refl
+    other-log s L (segment q x) m = rw m
+
+    -- one event
+    step : (past : List Event) (s : State bytesOf) (g : State ghost) (L : Log) (e : Event) → Inv past s g L
+        → Inv (past ++ (e ∷ [])) (after W judge bytesOf header s e) (run W judge ghost header g (cond (keeps (own W header p) e) (e ∷ []) [])) (logNext (world s) L e)
+    step past s g L tick h =
+        record {
+          sim = event-sim W judge bytesOf ghost bytes-laws ghost-laws header listed p p< s g tick (h .sim);
+          logs = rw (rows-older (g .rows) p) (tick-logs p _ _ L (h .logs));
+          came = λ t. came-more c past tick (L t) (h .came t);
+        }
+    step past s g L (receive k) h =
+        record {
+          sim = event-sim W judge bytesOf ghost bytes-laws ghost-laws header listed p p< s g (receive k) (h .sim);
+          logs =
+              caseB (mine W p (header k))
+              (λ m. rw m (mine-logs s g L (header k) m (h .sim) (h .logs)))
+              (λ m. rw (m, other-log s L (header k) m) (h .logs));
+          came = seen-came (past ++ (receive k ∷ [])) s L (header k)
+              (λ q x e z. record { before = past; packet = k; after = []; is = refl; sound = e ∙ ap (λ (n : ℕ). segment n x) z })
+              (λ t. came-more c past (receive k) (L t) (h .came t));
+        }
+
+    -- a run comes to a state of which it still holds
+    record Reach (past es : List Event) (s : State bytesOf) (L : Log) : Type 0 where
+      state : State bytesOf
+      ghosts : State ghost
+      is : runs W Config U (world s) es ≡ world state
+      inv : Inv (past ++ es) state ghosts (logRun (world s) L es)
+
+    reach : (es past : List Event) (s : State bytesOf) (g : State ghost) (L : Log) → Inv past s g L → Reach past es s L
+    reach [] past s g L h = record { state = s; ghosts = g; is = refl; inv = subst (λ (x : List Event). Inv x s g L) (sym (append-nil past)) h }
+    reach (v ∷ es) past s g L h =
+        let q : next W Config U (world s) v ≡ world (after W judge bytesOf header s v) = next-at W Config U c promise p p< s g v (h .sim) in
+        let r : Reach (past ++ (v ∷ [])) es (after W judge bytesOf header s v) (logNext (world s) L v) = reach es (past ++ (v ∷ [])) _ _ (logNext (world s) L v) (step past s g L v h) in
+        record {
+          state = r .state;
+          ghosts = r .ghosts;
+          is = ap (λ (w : World Config). runs W Config U w es) q ∙ r .is;
+          inv =
+              subst (λ (x : List Event). Inv x (r .state) (r .ghosts) (logRun (next W Config U (world s) v) (logNext (world s) L v) es)) (append-assoc past (v ∷ []) es)
+              (subst (λ (w : World Config). Inv ((past ++ (v ∷ [])) ++ es) (r .state) (r .ghosts) (logRun w (logNext (world s) L v) es)) (sym q) (r .inv));
+        }
+
+    log-snoc : (es : List Event) (w : World Config) (L : Log) (e : Event) → logRun w L (es ++ (e ∷ [])) ≡ logNext (runs W Config U w es) (logRun w L es) e
+    log-snoc [] w L e = refl
+    log-snoc (v ∷ es) w L e = log-snoc es (next W Config U w v) (logNext w L v) e
+
+    -- one more packet, which carries segment x of peer p's
+    module _ (past : List Event) (s : State bytesOf) (g : State ghost) (L : Log) (h : Inv past s g L) (k : List ℕ) (x : Seg) (e : header k ≡ segment p x) where
+      abbrev row : Row
+      row = getD (s .rows) p noRow
+
+      abbrev ghostly : Effect ghost
+      ghostly = takeSegment ghost p row (g .mem) x
+
+      in-memory : takeIn p row (s .mem) x ≡ takeSegment bytesOf p row (s .mem) x
+      in-memory = take-in p row (s .mem) x p< (h .sim .same .okA)
+
+      alike : Alike bytesOf ghost p (x .frame-length) (takeSegment bytesOf p row (s .mem) x) ghostly
+      alike = take-alike bytesOf ghost bytes-laws ghost-laws p p< row (s .mem) (g .mem) x (h .sim .same)
+
+      same-outcome : taking (world s) x .outcome ≡ ghostly .outcome
+      same-outcome = ap (λ (o : Effect bytesOf). o .outcome) in-memory ∙ alike .outcome
+
+      log-now : logNext (world s) L (receive k) ≡ logged L (row .slots) x (ghostly .outcome)
+      log-now = rw (e, eq-eqb p p refl, same-outcome)
+
+      kept-log : Logged p x ghostly (logNext (world s) L (receive k))
+      kept-log = rw log-now (take-logs p row (g .mem) L x (subst (λ (r : List Slot). Logs p r (g .mem) L) (sym (h .sim .row)) (h .logs)))
+
+      came-now : (t : ℕ) → Came c (past ++ (receive k ∷ [])) (logNext (world s) L (receive k) t)
+      came-now = step past s g L (receive k) h .came
+
+      completes : (t : ℕ) → taking (world s) x .outcome ≡ Complete t
+          → Carried c (past ++ (receive k ∷ [])) x (logNext (world s) L (receive k) t) (frameIn bytesOf (taking (world s) x .mem) (slotNo p t) (x .frame-length))
+      completes t o =
+          let w = kept-log .pieced t (sym same-outcome ∙ o) in
+          let f : frameIn bytesOf (takeIn p row (s .mem) x .mem) (slotNo p t) (x .frame-length) ≡ frameIn ghost (ghostly .mem) (slotNo p t) (x .frame-length) =
+          ap (λ (z : Effect bytesOf). frameIn bytesOf (z .mem) (slotNo p t) (x .frame-length)) in-memory ∙ alike .frame t (rw in-memory at o) in
+          let n : length (frameIn bytesOf (takeIn p row (s .mem) x .mem) (slotNo p t) (x .frame-length)) ≡ x .frame-length = length-frame bytesOf (takeIn p row (s .mem) x .mem) (slotNo p t) (x .frame-length) in
+          record {
+            earlier = w .0 .earlier;
+            latest = w .0 .latest;
+            size = n;
+            came = came-at c (past ++ (receive k ∷ [])) (logNext (world s) L (receive k) t) (came-now t);
+            of-frame = all-of-at (x .identifier) (x .frame-length) (logNext (world s) L (receive k) t) (w .0 .all-of);
+            bytes = λ i li. rw f (pieced-byte p t x (ghostly .mem) (logNext (world s) L (receive k) t) (w .0) (w .1) i (omega arith));
+          }
+
+      waits : taking (world s) x .outcome ≡ Pending → Waiting p x (ghostly .mem) (logNext (world s) L (receive k))
+      waits o = kept-log .waits (sym same-outcome ∙ o)
+
+      unfinished : (o : taking (world s) x .outcome ≡ Pending) → Unfinished c (past ++ (receive k ∷ [])) x (logNext (world s) L (receive k) (waits o .slot))
+      unfinished o =
+          let w : Waiting p x (ghostly .mem) (logNext (world s) L (receive k)) = waits o in
+          record {
+            earlier = w .pieced .earlier;
+            latest = w .pieced .latest;
+            came = came-at c (past ++ (receive k ∷ [])) (logNext (world s) L (receive k) (w .slot)) (came-now (w .slot));
+            of-frame = all-of-at (x .identifier) (x .frame-length) (logNext (world s) L (receive k) (w .slot)) (w .pieced .all-of);
+            once = apart-at (logNext (world s) L (receive k) (w .slot)) (w .pieced .all-apart);
+            byte = w .misses .byte;
+            is-byte = w .misses .is-byte;
+            uncovered = uncovered (logNext (world s) L (receive k) (w .slot)) (w .misses .byte) (w .misses .fails);
+          }
+
+    begin : (m : List ℕ) → 55296 ≤ length m → Inv [] (start bytesOf m) ghostStart (λ t. [])
+    begin m o =
+        let row : getD emptyRows p noRow .slots ≡ emptyRow = empty-at p p< in
+        let no-slot : (s : ℕ) → s < 4 → getD (getD emptyRows p noRow .slots) s free ≡ free = λ s l. rw row (empty-free s l) in
+        record {
+          sim = begins W Config U c promise p p< m o;
+          logs = record { four = rw row; pieces = λ s l. refl; all-of = λ s l e. clash (cc (no-slot s l)); all-apart = λ s l e. clash (cc (no-slot s l)) };
+          came = λ t. tt;
+        }
+
+    abbrev from : List ℕ → World Config
+    from m = world (start bytesOf m)
+
+    reached : (m : List ℕ) → 55296 ≤ length m → (es : List Event) → Reach [] es (start bytesOf m) (λ t. [])
+    reached m o es = reach es [] (start bytesOf m) ghostStart (λ t. []) (begin m o)
+
+    complete-from : (m : List ℕ) → 55296 ≤ length m → (es : List Event) (k : List ℕ) (g : Seg) (s : ℕ) → header k ≡ segment p g
+        → taking (runs W Config U (from m) es) g .outcome ≡ Complete s → AtComplete c (from m) es k g s
+    complete-from m o es k g s e q =
+        let r : Reach [] es (start bytesOf m) (λ t. []) = reached m o es in
+        rw (log-snoc es (from m) (λ t. []) (receive k), r .is)
+        (completes es (r .state) (r .ghosts) (logRun (from m) (λ t. []) es) (r .inv) k g e s (rw (r .is) at q))
+
+    pending-from : (m : List ℕ) → 55296 ≤ length m → (es : List Event) (k : List ℕ) (g : Seg) → header k ≡ segment p g
+        → taking (runs W Config U (from m) es) g .outcome ≡ Pending → AtPending c (from m) es k g
+    pending-from m o es k g e q =
+        let r : Reach [] es (start bytesOf m) (λ t. []) = reached m o es in
+        let q′ : taking (world (r .state)) g .outcome ≡ Pending = rw (r .is) at q in
+        let w = waits es (r .state) (r .ghosts) (logRun (from m) (λ t. []) es) (r .inv) k g e q′ in
+        record {
+          slot = w .slot;
+          is-slot = w .is-slot;
+          unfinished = rw (log-snoc es (from m) (λ t. []) (receive k), r .is) (unfinished es (r .state) (r .ghosts) (logRun (from m) (λ t. []) es) (r .inv) k g e q′);
+        }
+
+  -- ---- of every run from a set-up whose layers keep their promise, at each segment of peer p's that completes a frame, whatever its verdict: it is carried; and at each that does not, a byte is missing
+  pub record EveryRun (e : Endpoint Config) : Type 0 where
+    pub complete : (m : List ℕ) → 55296 ≤ length m → (es : List Event) (k : List ℕ) (g : Seg) (s : ℕ) → U .header (e .config) k ≡ segment p g
+        → taking (runs W Config U (record { ends = e; mem = m }) es) g .outcome ≡ Complete s → AtComplete (e .config) (record { ends = e; mem = m }) es k g s
+    pub pending : (m : List ℕ) → 55296 ≤ length m → (es : List Event) (k : List ℕ) (g : Seg) → U .header (e .config) k ≡ segment p g
+        → taking (runs W Config U (record { ends = e; mem = m }) es) g .outcome ≡ Pending → AtPending (e .config) (record { ends = e; mem = m }) es k g
+
+  module _ (Adding : Type 0) (adds : Config → Adding → Config) where
+    pub every-run : (c : Config) (as′ : List Adding) → Promised W Config U (setUp Config Adding adds c as′ .config) → p < 8 → EveryRun (setUp Config Adding adds c as′)
+    every-run c as′ promised p< = of (setUp Config Adding adds c as′) (set-up-rows Config Adding adds as′ (record { config = c; rows = emptyRows })) promised
+      where
+        of : (e : Endpoint Config) → e .rows ≡ emptyRows → Promised W Config U (e .config) → EveryRun e
+        of e q promise =
+            subst (λ (r : List Row). EveryRun (record { config = e .config; rows = r })) (sym q)
+            (record { complete = complete-from p< (e .config) promise; pending = pending-from p< (e .config) promise })

@@ -1,0 +1,56 @@
+-- Demand 3, first half: two runs alike for a peer give that peer the same answers, whatever the other senders sent and whatever the two memories held at first.
+use mathlib.Core.Path.{_≡_, refl, sym, ap, subst, _∙_}
+use mathlib.Core.Bool.{Bool, true, false, cond}
+use mathlib.Core.List.{List, [], _∷_, _++_, map}
+use Prim.Native.Nat.{ℕ, zero, suc, _+_, _*_, _≤_, _<_}
+use native.Mathlib.Omega.{arith}
+use lib.ListN.{length, getD, replicate, getD-replicate}
+use Rattle.reassembly.specs.Base.{caseB, clash}
+use Rattle.reassembly.specs.Slots.{Slot, Row, Note, noRow, slotsOf, free}
+use Rattle.reassembly.specs.Take.{Ops}
+use Rattle.reassembly.specs.Laws.{Laws}
+use Rattle.reassembly.specs.Receive.{Answers, Event, State, Answer, Verdict, Seen, run}
+use Rattle.reassembly.specs.Sim.{RowOk, Same}
+use Rattle.reassembly.specs.Runs.{Listed, own, strike, answers, Sim, answers-sim}
+use Rattle.reassembly.specs.Ghost.{ghost, ghost-laws}
+
+abbrev pub emptyRow : List Slot
+emptyRow = replicate 4 free
+
+abbrev pub emptyRows : List Row
+emptyRows = replicate 8 (record { slots = emptyRow })
+
+pub empty-at : (q : ℕ) → q < 8 → getD emptyRows q noRow .slots ≡ emptyRow
+empty-at q l = ap slotsOf (getD-replicate 8 q (record { slots = emptyRow }) noRow l)
+
+pub empty-free : (s : ℕ) → s < 4 → getD emptyRow s free ≡ free
+empty-free s l = getD-replicate 4 s free free l
+
+-- the state that a set-up leaves: every slot free, over a memory of any contents
+abbrev pub start : (O : Ops) → O .S → State O
+start O m = record { rows = emptyRows; mem = m }
+
+abbrev pub ghostStart : State ghost
+ghostStart = record { rows = emptyRows; mem = λ k. [] }
+
+empty-row : RowOk emptyRow
+empty-row = record { four = refl; sizes = λ s l t. let z : getD emptyRow s free ≡ free = empty-free s l in clash (cc) }
+
+pub start-sim : (O : Ops) (p : ℕ) → p < 8 → (m : O .S) → O .Ok m → Sim O ghost p (start O m) ghostStart
+start-sim O p p< m o =
+    record {
+      rows-ok = λ q l. rw (empty-at q l) empty-row;
+      eightA = refl;
+      eightB = refl;
+      row = refl;
+      same = rw (empty-at p p<) (record { row-ok = empty-row; okA = o; okB = tt; agree = λ s l t. let z : getD emptyRow s free ≡ free = empty-free s l in clash (cc) });
+    }
+
+module _ (W : Answers) (judge : ℕ → Note → List ℕ → Verdict W) (O : Ops) (L : Laws O) (header : List ℕ → Seen W) (listed : (k : List ℕ) → Listed W (header k)) (p : ℕ) (p< : p < 8) where
+  pub non-interference : (m m′ : O .S) → O .Ok m → O .Ok m′ → (es es′ : List Event) → strike (own W header p) es ≡ strike (own W header p) es′
+      → answers W header p judge O (start O m) es ≡ answers W header p judge O (start O m′) es′
+  non-interference m m′ o o′ es es′ alike =
+      cc (
+        answers-sim W judge O ghost L ghost-laws header listed p p< es (start O m) ghostStart (start-sim O p p< m o),
+        answers-sim W judge O ghost L ghost-laws header listed p p< es′ (start O m′) ghostStart (start-sim O p p< m′ o′),
+      )

@@ -1,0 +1,130 @@
+-- One receive, one tick, and a run of them, over any memory that is asked as `Ops` says.
+-- Parameters: what an answer is and carries (`Answers`); the header layer, which says whose packet it is and what it carries; and the judgement of a complete frame, which is applied here, above taking.
+use mathlib.Core.Path.{_≡_, refl}
+use mathlib.Core.Bool.{Bool, true, false, cond}
+use mathlib.Core.List.{List, [], _∷_, _++_, map}
+use Prim.Native.Nat.{ℕ, zero, suc, _+_, _-_, _*_, _≤_, _<_}
+use lib.ListN.{length, getD, take, drop, set}
+use lib.Dec.{ltb, leb, eqb}
+use Rattle.reassembly.specs.Slots.{Slot, Row, Note, noRow, olderRow}
+use Rattle.reassembly.specs.Take.{slotNo, Seg, Ops, Rejection, Outcome, Rejected, Pending, Complete, NoMemory, Effect, frameIn, takeSegment}
+use Rattle.reassembly.specs.Store.{slotStart}
+
+-- where an inner frame lies: a part of the packet or of the reassembly memory
+pub record Place : Type 0 where
+  pub inMemory : Bool
+  pub start : ℕ
+  pub len : ℕ
+
+-- the empty place, which a refusal and answer 1 carry
+abbrev pub nowhere : Place
+nowhere = record { inMemory = false; start = 0; len = 0 }
+
+-- the second call: the part of the packet or of the memory that a place names; a place that does not fit its slice gives the empty part
+abbrev pub partOfSlice : List ℕ → ℕ → ℕ → List ℕ
+partOfSlice s start len = cond (leb (start + len) (length s)) (take len (drop start s)) []
+
+abbrev pub viewOf : List ℕ → List ℕ → Place → List ℕ
+viewOf packet m a = cond (a .inMemory) (partOfSlice m (a .start) (a .len)) (partOfSlice packet (a .start) (a .len))
+
+-- what a receive answers, as far as the theory of runs looks: what a refusal and a delivery carry is the user's
+pub record Answers : Type 1 where
+  -- an answer; what a bad frame's verdict carries (11 to 13); what a good one's does (tenant, binding)
+  pub A : Type 0
+  pub Bad : Type 0
+  pub Good : Type 0
+  -- the place that an answer names; is it answer 0
+  pub place : A → Place
+  pub delivered : A → Bool
+  -- 2; 1; 14 to 17; a bad frame's; a good frame's, with the start and the length of its inner frame in the memory
+  pub tooSmall : A
+  pub pending : A
+  pub rejected : Rejection → A
+  pub refused : Bad → A
+  pub gives : Good → ℕ → ℕ → A
+  -- all but the last carry the empty place and are not answer 0
+  pub tooSmall-place : place tooSmall ≡ nowhere
+  pub pending-place : place pending ≡ nowhere
+  pub rejected-place : (r : Rejection) → place (rejected r) ≡ nowhere
+  pub refused-place : (b : Bad) → place (refused b) ≡ nowhere
+  pub gives-place : (v : Good) (start len : ℕ) → place (gives v start len) ≡ record { inMemory = true; start = start; len = len }
+  pub tooSmall-not : delivered tooSmall ≡ false
+  pub pending-not : delivered pending ≡ false
+  pub rejected-not : (r : Rejection) → delivered (rejected r) ≡ false
+  pub refused-not : (b : Bad) → delivered (refused b) ≡ false
+  pub gives-is : (v : Good) (start len : ℕ) → delivered (gives v start len) ≡ true
+
+pub data Event : Type 0 where
+  receive : List ℕ → Event
+  tick : Event
+
+-- the rows and the memory
+pub record State (O : Ops) : Type 0 where
+  pub rows : List Row
+  pub mem : O .S
+
+-- peer p's row, among the eight: a frame's key is its peer and its identifier
+abbrev pub rowOf : ℕ → ℕ
+rowOf p = p
+
+module _ (W : Answers) where
+  -- an answer, as demand 3 has it: what the receive gives back, and the bytes handed back before the next receive
+  pub record Answer : Type 0 where
+    pub reply : W .A
+    pub bytes : List ℕ
+
+  abbrev pub bare : W .A → Answer
+  bare a = record { reply = a; bytes = [] }
+
+  -- an answer that names a part of the packet has its bytes from there
+  abbrev pub fill : List ℕ → Answer → Answer
+  fill k a = cond (W .place (a .reply) .inMemory) a (record { reply = a .reply; bytes = partOfSlice k (W .place (a .reply) .start) (W .place (a .reply) .len) })
+
+  -- what checks 11 to 13 say of a complete frame
+  pub data Verdict : Type 0 where
+    bad : W .Bad → Verdict
+    good : W .Good → Verdict
+
+  -- what the header layer makes of a packet, with the memory large enough:
+  -- another sender's, refused by one of the checks 3 to 7; a listed peer's that never comes to reassembly (refused by 8 to 10, or of another kind than STT), with its answer;
+  -- or a listed peer's STT packet that passes 3 to 10, with the segment that it carries
+  pub data Seen : Type 0 where
+    stranger : W .A → Seen
+    plain : ℕ → W .A → Seen
+    segment : ℕ → Seg → Seen
+
+  -- the answer on the complete frame of slot k, of length n: its bytes from 18 on, where they lie in the memory
+  abbrev pub spoken : Verdict → ℕ → ℕ → List ℕ → Answer
+  spoken (bad b) k n frame = bare (W .refused b)
+  spoken (good v) k n frame = record { reply = W .gives v (slotStart k + 18) (n - 18); bytes = drop 18 frame }
+
+  module _ (judge : ℕ → Note → List ℕ → Verdict) (O : Ops) where
+    -- the answer to peer p's segment g, of which taking had this effect
+    abbrev pub told : ℕ → Seg → Effect O → Outcome → Answer
+    told p g o (Rejected r) = bare (W .rejected r)
+    told p g o Pending = bare (W .pending)
+    told p g o (Complete s) =
+        let frame : List ℕ = frameIn O (o .mem) (slotNo p s) (g .frame-length) in
+        spoken (judge p (o .note) frame) (slotNo p s) (g .frame-length) frame
+    told p g o NoMemory = bare (W .tooSmall)
+
+    pub record Out : Type 0 where
+      pub answer : Answer
+      pub state : State O
+
+    abbrev pub react : State O → Seen → Out
+    react e (stranger a) = record { answer = bare a; state = e }
+    react e (plain p a) = record { answer = bare a; state = e }
+    react e (segment p g) =
+        let o : Effect O = takeSegment O p (getD (e .rows) (rowOf p) noRow) (e .mem) g in
+        record { answer = told p g o (o .outcome); state = record { rows = set (e .rows) (rowOf p) (o .row); mem = o .mem } }
+
+    module _ (header : List ℕ → Seen) where
+      abbrev pub after : State O → Event → State O
+      after e tick = record { rows = map olderRow (e .rows); mem = e .mem }
+      after e (receive k) = react e (header k) .state
+
+      -- the state that a list of events leaves
+      abbrev pub run : State O → List Event → State O
+      run e [] = e
+      run e (ev ∷ evs) = run (after e ev) evs

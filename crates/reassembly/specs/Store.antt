@@ -1,0 +1,70 @@
+-- The reassembly memory as bytes (document 01, "Reassembly memory"): slot k starts at byte 1,728 k, with 1,536 bytes of frame and a map of 192 bytes,
+-- whose bit i mod 8, lowest first, of byte i div 8 says that byte i is received. And what `take` gives over it.
+use mathlib.Core.Path.{_≡_, refl}
+use mathlib.Core.Bool.{Bool, true, false, cond, _&&_}
+use mathlib.Core.List.{List, [], _∷_, _++_}
+use Prim.Native.Nat.{ℕ, zero, suc, _+_, _-_, _*_, _/_, _%_, _^_, _≤_, _<_}
+use lib.ListN.{length, getD, set, replicate}
+use lib.Seq.{sets}
+use lib.Dec.{ltb, leb, eqb}
+use lib.Bits.{bitOr}
+use borrow.Author.Tests.{lt-ltb, le-leb}
+use Rattle.reassembly.specs.Slots.{Row, noNote}
+use Rattle.reassembly.specs.Take.{Ops, Seg, Outcome, NoMemory, Effect, takeSegment}
+
+-- bit j of the number x
+unfoldable pub isOn : ℕ → ℕ → Bool
+isOn x j = eqb (x / 2 ^ j % 2) 1
+
+-- bit i of the map that starts at byte b; it is set; n bits from a on are set
+unfoldable pub bitAt : List ℕ → ℕ → ℕ → Bool
+bitAt m b i = isOn (getD m (b + i / 8) 0) (i % 8)
+
+unfoldable pub setBit : List ℕ → ℕ → ℕ → List ℕ
+setBit m b i = set m (b + i / 8) (bitOr (getD m (b + i / 8) 0) (2 ^ (i % 8)))
+
+unfoldable pub setBits : List ℕ → ℕ → ℕ → ℕ → List ℕ
+setBits m b a zero = m
+setBits m b a (suc n) = setBit (setBits m b a n) b (a + n)
+
+-- slot k: its first byte, and its map's
+unfoldable pub slotStart : ℕ → ℕ
+slotStart k = k * 1728
+
+unfoldable pub mapStart : ℕ → ℕ
+mapStart k = k * 1728 + 1536
+
+-- the map's bytes, and a map that is cleared: all of them (document 01: "with its map cleared")
+abbrev pub mapSize : ℕ
+mapSize = 192
+
+abbrev pub zeros : List ℕ
+zeros = replicate mapSize 0
+
+unfoldable pub clearAt : List ℕ → ℕ → List ℕ
+clearAt m k = sets m (mapStart k) zeros
+
+-- a segment's bytes at their place in slot k, and their bits
+unfoldable pub putAt : List ℕ → ℕ → ℕ → List ℕ → List ℕ
+putAt m k a bs = setBits (sets m (slotStart k + a) bs) (mapStart k) a (length bs)
+
+unfoldable pub receivedAt : List ℕ → ℕ → ℕ → Bool
+receivedAt m k i = bitAt m (mapStart k) i
+
+unfoldable pub byteAt : List ℕ → ℕ → ℕ → ℕ
+byteAt m k i = getD m (slotStart k + i) 0
+
+abbrev pub bytesOf : Ops
+bytesOf = record { S = List ℕ; Ok = λ m. 55296 ≤ length m; received = receivedAt; byte = byteAt; clear = clearAt; put = putAt }
+
+-- the slots of this peer lie in the memory
+unfoldable pub hasSlots : ℕ → List ℕ → Bool
+hasSlots p m = ltb p 8 && leb 55296 (length m)
+
+-- what `take` gives for any row, peer, memory and segment. Where the peer's slots do not lie in the memory nothing is touched
+unfoldable pub takeIn : ℕ → Row → List ℕ → Seg → Effect bytesOf
+takeIn p row m g = cond (hasSlots p m) (takeSegment bytesOf p row m g) (record { row = row; outcome = NoMemory; note = noNote; mem = m })
+
+pub take-in : (p : ℕ) (row : Row) (m : List ℕ) (g : Seg) → p < 8 → 55296 ≤ length m → takeIn p row m g ≡ takeSegment bytesOf p row m g
+unfolding hasSlots takeIn
+take-in p row m g l o = rw (lt-ltb p 8 l, le-leb 55296 (length m) o)

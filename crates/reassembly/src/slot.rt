@@ -1,0 +1,76 @@
+// The slots of a peer's row (document 01, "Reassembly memory").
+ghost use mathlib.Core.Path.{_≡_};
+ghost use Rattle.reassembly.specs.Slots.{free, first, bears, isFree};
+ghost use Rattle.reassembly.specs.TakeLaws.{foundOf};
+
+// A slot holds a pending frame or is free. The paper leaves open what numbers a free slot has: here they are all 0.
+#[repr(C)]
+pub struct Slot {
+    pub identifier: u32,
+    pub frame_length: u16,
+    pub age: u8,
+    pub pending: bool,
+}
+
+// Each peer has a row of four slots.
+#[repr(C)]
+pub struct Row {
+    pub slots: [Slot; 4],
+}
+
+// The number of a slot in its row.
+pub enum Found {
+    At(usize),
+    Nothing,
+}
+
+pub fn free_slot() -> Slot
+    ensures { λ r. ⌜ r ≡ free ⌝ }
+{
+    Slot {
+        identifier: 0,
+        frame_length: 0,
+        age: 0,
+        pending: false,
+    }
+}
+
+// Is a frame with this identifier pending in the slot?
+fn bears_identifier(slot: Slot, identifier: u32) -> bool
+    ensures { λ r. ⌜ r ≡ bears identifier slot ⌝ }
+{
+    if !slot.pending {
+        return false;
+    }
+    slot.identifier == identifier
+}
+
+// The lowest slot in which a frame with this identifier is pending.
+pub fn find_pending(row: Row, identifier: u32) -> Found
+    ensures { λ r. ⌜ r ≡ foundOf (first (bears identifier) (row .slots)) ⌝ }
+{
+    let mut s: usize = 0;
+    while s < 4 {
+        let slot = row.slots[s];
+        if bears_identifier(slot, identifier) {
+            return Found::At(s);
+        }
+        s += 1;
+    }
+    Found::Nothing
+}
+
+// The lowest free slot.
+pub fn find_free(row: Row) -> Found
+    ensures { λ r. ⌜ r ≡ foundOf (first isFree (row .slots)) ⌝ }
+{
+    let mut s: usize = 0;
+    while s < 4 {
+        let slot = row.slots[s];
+        if !slot.pending {
+            return Found::At(s);
+        }
+        s += 1;
+    }
+    Found::Nothing
+}
