@@ -10,9 +10,9 @@ use lib.Seq.{sets, length-sets, ext-getD, getD-drop, getD-take}
 use lib.Dec.{ltb, leb, eqb}
 use borrow.Author.Tests.{ltb-true, leb-true}
 use Rattle.reassembly.specs.Base.{caseB, clash, and-l, and-r, table, length-table, getD-table}
-use Rattle.reassembly.specs.Slots.{Slot, Row, noNote, noteOf, free}
-use Rattle.reassembly.specs.Take.{Seg, Outcome, Rejected, Pending, Complete, NoMemory, Choice, reject, old, fresh, chosen, Effect, complete, overlaps, frameIn, finish, placed, furtherSlot, openedSlot, noteAfter, takeSegment}
-use Rattle.reassembly.specs.TakeFacts.{Fits, isComplete, not-complete, take-complete}
+use Rattle.reassembly.specs.Slots.{Slot, Row, Note, noNote, noteOf, free}
+use Rattle.reassembly.specs.Take.{Seg, slotNo, storedBytes, AlreadyReceived, Rejection, Outcome, Rejected, Pending, Complete, NoMemory, Choice, reject, old, fresh, chosen, Effect, complete, overlaps, frameIn, finish, placed, furtherSlot, openedSlot, noteAfter, takeSegment}
+use Rattle.reassembly.specs.TakeFacts.{Fits, isComplete, not-complete, take-complete, take-rejects}
 use Rattle.reassembly.specs.Store.{bytesOf, hasSlots, takeIn, putAt, clearAt, slotStart, mapStart, byteAt}
 use Rattle.reassembly.specs.TakeLaws.{takenOf}
 use Rattle.reassembly.specs.StoreLaws.{length-setBits, slot-inside}
@@ -96,3 +96,34 @@ taken-row e = refl
 pub taken-outcome : (e : Effect bytesOf) → takenOf e .outcome ≡ e .outcome
 unfolding takenOf
 taken-outcome e = refl
+
+-- ---- what is not taken changes nothing
+
+pub take-refused : (p : ℕ) (row : Row) (m : List ℕ) (g : Seg) (r : Rejection) → takeIn p row m g .outcome ≡ Rejected r → (takeIn p row m g .row ≡ row) × (takeIn p row m g .mem ≡ m)
+unfolding takeIn
+take-refused p row m g r e =
+    caseB (hasSlots p m)
+    (λ d. rw d (take-rejects bytesOf p row m g r (rw d at e)))
+    (λ d. rw d (refl, refl))
+
+some-finish : (p s : ℕ) (row : List Slot) (m : List ℕ) (g : Seg) (t : Note) → finish bytesOf p s row m g t .outcome ≡ NoMemory → ⊥
+some-finish p s row m g t e =
+    caseB (complete bytesOf m (slotNo p s) (g .frame-length))
+    (λ d. let z : Complete s ≡ NoMemory = rw d at e in let y : _≡_ {A = ℕ} 0 1 = cc (z) in omega arith)
+    (λ d. let z : Pending ≡ NoMemory = rw d at e in let y : _≡_ {A = ℕ} 0 1 = cc (z) in omega arith)
+
+some-placed : (p : ℕ) (row : List Slot) (m : List ℕ) (g : Seg) (c : Choice) → placed bytesOf p row m g c .outcome ≡ NoMemory → ⊥
+some-placed p row m g (reject r) e = let y : _≡_ {A = ℕ} 0 1 = cc in omega arith
+some-placed p row m g (old s) e =
+    caseB (overlaps bytesOf m (slotNo p s) g)
+    (λ d. let z : Rejected AlreadyReceived ≡ NoMemory = rw d at e in let y : _≡_ {A = ℕ} 0 1 = cc (z) in omega arith)
+    (λ d. some-finish p s (set row s (furtherSlot (getD row s free) g)) (putAt m (slotNo p s) (g .offset) (storedBytes g)) g (noteAfter (noteOf (getD row s free)) g) (rw d at e))
+some-placed p row m g (fresh s) e =
+    some-finish p s (set row s (openedSlot g)) (putAt (clearAt m (slotNo p s)) (slotNo p s) (g .offset) (g .bytes)) g (noteAfter noNote g) e
+
+pub take-no-memory : (p : ℕ) (row : Row) (m : List ℕ) (g : Seg) → takeIn p row m g .outcome ≡ NoMemory → (takeIn p row m g .row ≡ row) × (takeIn p row m g .mem ≡ m)
+unfolding takeIn takeSegment
+take-no-memory p row m g e =
+    caseB (hasSlots p m)
+    (λ d. absurd (some-placed p (row .slots) m g (chosen (row .slots) g) (rw d at e)))
+    (λ d. rw d (refl, refl))

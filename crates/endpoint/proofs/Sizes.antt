@@ -1,0 +1,12 @@
+-- How many peers an endpoint has room for, from what owning it tells (`c .good` of a parameter).
+-- Assumes nothing.
+use mathlib.Core.Path.{_≡_, _∙_, sym}
+use lib.ListN.{length, length-map}
+use denote.Laws.{Is}
+use denote.Struct.Laws as LL
+use Rattle.endpoint.specs.declared.config.Endpoint.{Endpoint}
+use Rattle.endpoint.proofs.config.Endpoint as E
+use Rattle.endpoint.proofs.config.Endpoint.Laws as E′
+
+pub eight-peers : (e : Endpoint) → Is E.the-row e (LL.vals E.the-type E′.the-laws e) → length (e .peers) ≡ 8
+eight-peers e is = sym (length-map (e .peers) _) ∙ LL.owed E.the-type E′.the-laws e (LL.vals E.the-type E′.the-laws e) is .1 .0 .1 .0 .1

@@ -1,0 +1,72 @@
+-- `endpoint::tick::tick` meets its contract. The loop's invariant: the rows of the peers before p are older, and all else is as it came.
+-- Assumes nothing.
+use mathlib.Core.Path.{_≡_, _∙_}
+use Prim.Native.Nat.{_≤_, _<_, _-_}
+use native.Mathlib.Omega.{arith}
+use lib.ListN.{length}
+use Rattle.endpoint.specs.TickLaws.{olderBefore, withPeers, none-older, one-older, all-older}
+use Rattle.endpoint.proofs.Sizes.{eight-peers}
+use Rattle.endpoint.proofs.tick.tick.Statement.{statement}
+use Rattle.endpoint.proofs.tick.tick.Tie as tie
+
+abbrev Inv-loop : tie.InvT-loop
+Inv-loop next₀ p₀ next p = (p ≤ 8) × (next ≡ withPeers next₀ (olderBefore (next₀ .peers) p))
+
+abbrev μ-loop : tie.MeasureT-loop
+μ-loop next₀ p₀ next p = 8 - p
+
+loop-holds : tie.Need-loop-holds Inv-loop μ-loop
+loop-holds c = (omega arith, none-older (c .args .e))
+
+mul-peer : tie.Need-mul-peer Inv-loop μ-loop
+mul-peer c = omega arith
+
+element-copy-out-peer : tie.Need-element-copy-out-peer Inv-loop μ-loop
+element-copy-out-peer c = omega arith
+
+tick-row-requires : tie.Need-tick-row-requires Inv-loop μ-loop
+tick-row-requires c κs = tt
+
+mul-peer-2 : tie.Need-mul-peer-2 Inv-loop μ-loop
+mul-peer-2 c = omega arith
+
+element-set-from-peer : tie.Need-element-set-from-peer Inv-loop μ-loop
+element-set-from-peer c = omega arith
+
+add-p : tie.Need-add-p Inv-loop μ-loop
+add-p c = omega arith
+
+loop-less : tie.Need-loop-less Inv-loop μ-loop
+loop-less c = omega arith
+
+loop-again : tie.Need-loop-again Inv-loop μ-loop
+loop-again c =
+    let at = c .before .before .before .before .loop in
+    let start = c .before .before .before .before .before in
+    let n = eight-peers (start .args .e) (start .good .0) in
+    let h : at .p < length (start .args .e .peers) = omega arith in
+    (omega arith, one-older (start .args .e) (at .next) (at .p) (c .tick-row .result) h (at .inv .1) (c .tick-row .ensures))
+
+returns : tie.Need-returns Inv-loop μ-loop
+returns c =
+    let start = c .before .before in
+    let n = eight-peers (start .args .e) (start .good .0) in
+    let all : c .before .loop .p ≡ length (start .args .e .peers) = omega arith in
+    c .before .loop .inv .1 ∙ all-older (start .args .e) (c .before .loop .p) all
+
+pub tick-spec : {M : Type 1} → statement M
+tick-spec =
+    tie.close
+    (tie.spec
+    Inv-loop
+    μ-loop
+    loop-holds
+    mul-peer
+    element-copy-out-peer
+    tick-row-requires
+    mul-peer-2
+    element-set-from-peer
+    add-p
+    loop-less
+    loop-again
+    returns)

@@ -1,0 +1,57 @@
+-- Document 01's number and values for each answer ("The numbered answers").
+-- Assumes nothing.
+use Prim.Native.Nat.{ℕ}
+use mathlib.Core.Bool.{Bool, true, false}
+use mathlib.Core.Option.{Option, none, some}
+use Rattle.wire.specs.Refusal as W
+use Rattle.reassembly.specs.Take.{rejectionCode}
+use Rattle.reassembly.specs.Receive as P
+use Rattle.endpoint.specs.declared.answer.Place.{Place}
+use Rattle.endpoint.specs.declared.answer.Target.{Target}
+use Rattle.endpoint.specs.declared.answer.Drop.{Drop}
+use Rattle.endpoint.specs.declared.answer.Drop.the-variants as D
+use Rattle.endpoint.specs.declared.answer.Received.{Received}
+use Rattle.endpoint.specs.declared.answer.Received.the-variants as R
+use Rattle.endpoint.specs.declared.answer.ConfigRefusal.{ConfigRefusal}
+use Rattle.endpoint.specs.declared.answer.ConfigRefusal.the-variants as C
+use Rattle.endpoint.specs.declared.answer.Added.{Added}
+use Rattle.endpoint.specs.declared.answer.Added.the-variants as A
+use Rattle.endpoint.specs.declared.answer.Start.{Start}
+use Rattle.endpoint.specs.declared.answer.Start.the-variants as S
+
+abbrev pub dropCode : Drop → ℕ
+dropCode D.Memory = 2
+dropCode (D.Format r) = W.codeOf r
+dropCode D.Destination = 6
+dropCode D.Peer = 7
+dropCode D.Binding = 12
+dropCode (D.Segment r) = rejectionCode r
+
+abbrev pub configCode : ConfigRefusal → ℕ
+configCode C.OutOfRange = 18
+configCode C.AlreadyListed = 19
+configCode C.Full = 20
+
+-- a place as the theory of runs has it
+abbrev pub placeOf : Place → P.Place
+placeOf p = record { inMemory = p .«in_memory»; start = p .start; len = p .length }
+
+-- what a receive gives back: its number, and the tenant, binding and place of answer 0. A refusal and answer 1 carry no tenant and no binding, and the empty place
+pub record Values : Type 0 where
+  pub number : ℕ
+  pub tenant : Option ℕ
+  pub binding : Option ℕ
+  pub place : P.Place
+
+abbrev pub valuesOf : Received → Values
+valuesOf (R.Delivered t p) = record { number = 0; tenant = some (t .tenant); binding = some (t .binding); place = placeOf p }
+valuesOf R.Pending = record { number = 1; tenant = none; binding = none; place = P.nowhere }
+valuesOf (R.Dropped d) = record { number = dropCode d; tenant = none; binding = none; place = P.nowhere }
+
+abbrev pub addedCode : Added → ℕ
+addedCode (A.Number n) = 0
+addedCode (A.Refused r) = configCode r
+
+abbrev pub startCode : Start → ℕ
+startCode S.Done = 0
+startCode (S.Refused r) = configCode r

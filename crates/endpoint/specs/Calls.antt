@@ -1,0 +1,103 @@
+-- The calls, as their contracts give them, are the steps of the theory of runs: a receive is `receives`, a tick is `next .. tick`, a set-up has every slot free.
+-- So what is proved of `runs` is proved of every list of these calls, each given the endpoint and the memory that the last one left.
+-- Assumes nothing.
+use Prim.Native.Nat.{ℕ, zero, suc, _+_, _<_, _≤_, min}
+use mathlib.Core.Path.{_≡_, refl, sym, ap, ap₂, _∙_}
+use mathlib.Core.Bool.{Bool, true, false, cond}
+use mathlib.Core.List.{List, [], _∷_, map}
+use lib.ListN.{length, getD, set}
+use lib.Seq.{map-set-same, set-getD}
+use lib.Dec.{ltb}
+use Rattle.reassembly.specs.Base.{caseB}
+use Rattle.reassembly.specs.Slots.{noRow}
+use Rattle.reassembly.specs.Receive.{Seen, stranger, plain, segment, Event, receive, tick}
+use Rattle.reassembly.specs.SetUp.{World, Endpoint as Ends, Said, receives, saidOf, next, runs, Promised}
+use Rattle.reassembly.specs.declared.slot.Row.{Row}
+use Rattle.endpoint.specs.Config.{Config, configOf, rowsOf, addressOf, rowOf, noPeer, tickOf}
+use Rattle.endpoint.specs.ConfigLaws.{rows-tick, config-tick}
+use Rattle.endpoint.specs.Receive.{answers, layers, headerOf, Step, rowAt, unchanged, stepped, stepOf, withRow, worldOf}
+use Rattle.endpoint.specs.ReceiveLaws.{header-kept, header-whose, config-few}
+use Rattle.endpoint.specs.declared.answer.Drop.the-variants as D
+use Rattle.endpoint.specs.declared.answer.Received.the-variants as R
+use Rattle.endpoint.specs.declared.config.Peer.{Peer}
+use Rattle.endpoint.specs.declared.config.Endpoint.{Endpoint}
+
+-- ---- a row put back
+
+pub config-row : (e : Endpoint) (p : ℕ) (row : Row) → configOf (withRow e p row) ≡ configOf e
+unfolding configOf withRow
+config-row e p row =
+    rw (map-set-same addressOf (e .peers) p (record { row = row; address = getD (e .peers) p noPeer .address }) noPeer refl)
+
+map-set : (l : List Peer) (p : ℕ) (x : Peer) → map rowOf (set l p x) ≡ set (map rowOf l) p (x .row)
+map-set [] p x = refl
+map-set (y ∷ l) zero x = refl
+map-set (y ∷ l) (suc p) x = ap (λ (r : List Row). y .row ∷ r) (map-set l p x)
+
+pub rows-row : (e : Endpoint) (p : ℕ) (row : Row) → rowsOf (withRow e p row) ≡ set (rowsOf e) p row
+unfolding rowsOf withRow
+rows-row e p row = map-set (e .peers) p (record { row = row; address = getD (e .peers) p noPeer .address })
+
+pub world-row : (e : Endpoint) (p : ℕ) (row : Row) (m : List ℕ)
+    → worldOf (withRow e p row) m ≡ record { ends = record { config = configOf e; rows = set (rowsOf e) p row }; mem = m }
+world-row e p row m = rw (config-row e p row, rows-row e p row)
+
+same-world : (e : Endpoint) (p : ℕ) (m : List ℕ) → worldOf (withRow e p (rowAt e p)) m ≡ worldOf e m
+unfolding rowAt
+same-world e p m = world-row e p (getD (rowsOf e) p noRow) m ∙ rw (set-getD (rowsOf e) p noRow)
+
+-- ---- a receive
+
+-- what the call answers, and the endpoint and memory that it leaves
+abbrev pub afterStep : Endpoint → Step → Said answers Config layers
+afterStep e s = record { reply = s .answer; world = worldOf (withRow e (s .peer) (s .row)) (s .mem) }
+
+stepped-is : (e : Endpoint) (m : List ℕ) (x : Seen answers) → afterStep e (stepped e m x) ≡ saidOf answers Config layers (worldOf e m) x
+unfolding rowAt
+stepped-is e m (stranger a) = ap (λ (w : World Config). record { reply = a; world = w }) (same-world e 0 m)
+stepped-is e m (plain p a) = ap (λ (w : World Config). record { reply = a; world = w }) (same-world e p m)
+stepped-is e m (segment p g) =
+    ap (λ (w : World Config). record { reply = stepped e m (segment p g) .answer; world = w })
+    (world-row e p (stepped e m (segment p g) .row) (stepped e m (segment p g) .mem))
+
+pub receive-is : (e : Endpoint) (m k : List ℕ) → afterStep e (stepOf e m k) ≡ receives answers Config layers (worldOf e m) k
+unfolding stepOf
+receive-is e m k =
+    caseB (ltb (length m) 55296)
+    (λ b. rw b (ap (λ (w : World Config). record { reply = R.Dropped D.Memory; world = w }) (same-world e 0 m)))
+    (λ b. rw b (stepped-is e m (headerOf (configOf e) k)))
+
+-- ---- a tick
+
+pub tick-is : (e : Endpoint) (m : List ℕ) → worldOf (tickOf e) m ≡ next answers Config layers (worldOf e m) tick
+tick-is e m = rw (config-tick e, rows-tick e)
+
+-- ---- a run
+
+-- the endpoint and the memory that a list of calls leaves
+pub record Left : Type 0 where
+  pub endpoint : Endpoint
+  pub mem : List ℕ
+
+abbrev pub called : Left → Event → Left
+called w tick = record { endpoint = tickOf (w .endpoint); mem = w .mem }
+called w (receive k) =
+    let s : Step = stepOf (w .endpoint) (w .mem) k in
+    record { endpoint = withRow (w .endpoint) (s .peer) (s .row); mem = s .mem }
+
+abbrev pub calls : Left → List Event → Left
+calls w [] = w
+calls w (e ∷ es) = calls (called w e) es
+
+called-is : (w : Left) (e : Event) → worldOf (called w e .endpoint) (called w e .mem) ≡ next answers Config layers (worldOf (w .endpoint) (w .mem)) e
+called-is w tick = tick-is (w .endpoint) (w .mem)
+called-is w (receive k) = ap (λ (s : Said answers Config layers). s .world) (receive-is (w .endpoint) (w .mem) k)
+
+pub calls-are : (w : Left) (es : List Event) → worldOf (calls w es .endpoint) (calls w es .mem) ≡ runs answers Config layers (worldOf (w .endpoint) (w .mem)) es
+calls-are w [] = refl
+calls-are w (e ∷ es) = calls-are (called w e) es ∙ ap (λ (x : World Config). runs answers Config layers x es) (called-is w e)
+
+-- ---- what the theory of runs asks of the layers
+
+pub promised : (e : Endpoint) → Promised answers Config layers (configOf e)
+promised e = record { kept = header-kept (configOf e) (config-few e); whose = header-whose (configOf e) (config-few e) }

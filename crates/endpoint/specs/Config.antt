@@ -1,0 +1,228 @@
+-- The configuration (document 01, "Listing and numbers"): settings, peers and bindings, and the calls that make it.
+-- Assumes nothing.
+use Prim.Native.Nat.{ℕ, _+_, _/_, _^_, min}
+use mathlib.Core.Bool.{Bool, true, false, not, _&&_, _||_}
+use mathlib.Core.List.{List, [], _∷_, _++_, map}
+use mathlib.Core.Option.{Option, none, some}
+use lib.ListN.{getD, set, replicate}
+use lib.Dec.{ltb, leb, eqb}
+use Rattle.wire.specs.Checks.{Check, _⇒_, first}
+use Rattle.reassembly.specs.Slots.{free, noRow, olderRow}
+use Rattle.reassembly.specs.declared.slot.Row.{Row}
+use Rattle.endpoint.specs.Search.{lowest}
+use Rattle.endpoint.specs.declared.answer.ConfigRefusal.{ConfigRefusal}
+use Rattle.endpoint.specs.declared.answer.ConfigRefusal.the-variants as C
+use Rattle.endpoint.specs.declared.answer.Added.the-variants as A
+use Rattle.endpoint.specs.declared.answer.Start.the-variants as S
+use Rattle.endpoint.specs.declared.config.Peer.{Peer}
+use Rattle.endpoint.specs.declared.config.Endpoint.{Endpoint}
+use Rattle.endpoint.specs.declared.config.Configured.{Configured}
+use Rattle.endpoint.specs.declared.config.Started.{Started}
+
+-- ---- the configuration that an endpoint holds: all of it but the rows of slots
+
+pub record Config : Type 0 where
+  pub own : ℕ
+  pub port : ℕ
+  pub mtu : ℕ
+  pub addresses : List ℕ
+  pub peers : ℕ  -- how many are listed
+  pub owners : List ℕ  -- of binding i: the peer's number
+  pub kinds : List ℕ  -- 1 VXLAN, 2 NVGRE, 3 STT
+  pub networks : List ℕ
+  pub tenants : List ℕ
+  pub bindings : ℕ  -- how many are listed
+
+abbrev pub addressOf : Peer → ℕ
+addressOf p = p .address
+
+abbrev pub rowOf : Peer → Row
+rowOf p = p .row
+
+-- no peer: what a list of peers has past its end
+abbrev pub noPeer : Peer
+noPeer = record { row = noRow; address = 0 }
+
+unfoldable pub configOf : Endpoint → Config
+configOf e = record {
+  own = e .own;
+  port = e .port;
+  mtu = e .mtu;
+  addresses = map addressOf (e .peers);
+  peers = min (e .«peer_count») 8;
+  owners = e .owners;
+  kinds = e .kinds;
+  networks = e .networks;
+  tenants = e .tenants;
+  bindings = min (e .«binding_count») 64;
+}
+
+-- the rows of slots, one a peer
+unfoldable pub rowsOf : Endpoint → List Row
+rowsOf e = map rowOf (e .peers)
+
+-- ---- lookups: the lowest-numbered one that matches
+
+-- number i of these addresses is this one
+unfoldable pub hasAddress : (addresses : List ℕ) (address : ℕ) → ℕ → Bool
+hasAddress addresses address i = eqb (getD addresses i 0) address
+
+unfoldable pub findPeer : Config → ℕ → Option ℕ
+findPeer c address = lowest (hasAddress (c .addresses) address) (c .peers)
+
+-- number i of these bindings has this network, kind and peer
+unfoldable pub binds : (networks kinds owners : List ℕ) (peer kind network : ℕ) → ℕ → Bool
+binds networks kinds owners peer kind network i = eqb (getD networks i 0) network && (eqb (getD kinds i 0) kind && eqb (getD owners i 0) peer)
+
+unfoldable pub findBinding : Config → (peer kind network : ℕ) → Option ℕ
+findBinding c peer kind network = lowest (binds (c .networks) (c .kinds) (c .owners) peer kind network) (c .bindings)
+
+abbrev pub isSome : Option ℕ → Bool
+isSome none = false
+isSome (some i) = true
+
+-- ---- start
+
+abbrev pub freeRow : Row
+freeRow = record { slots = replicate 4 free }
+
+-- an endpoint with these settings, no listing, and every slot free
+unfoldable pub fresh : (own port mtu : ℕ) → Endpoint
+fresh own port mtu = record {
+  networks = replicate 64 0;
+  peers = replicate 8 (record { row = freeRow; address = 0 });
+  own = own;
+  tenants = replicate 64 0;
+  port = port;
+  mtu = mtu;
+  «peer_count» = 0;
+  «binding_count» = 0;
+  kinds = replicate 64 0;
+  owners = replicate 64 0;
+}
+
+-- an address whose first byte is 0, or 224 or more, is refused
+abbrev pub addressChecks : ℕ → List (Check ConfigRefusal)
+addressChecks address =
+    (eqb (address / 2 ^ 24) 0 ⇒ C.OutOfRange)
+    ∷ (leb 224 (address / 2 ^ 24) ⇒ C.OutOfRange)
+    ∷ []
+
+unfoldable pub startChecks : (own port mtu : ℕ) → List (Check ConfigRefusal)
+startChecks own port mtu =
+    addressChecks own
+    ++ ((eqb port 0 ⇒ C.OutOfRange)
+    ∷ (ltb mtu 576 ⇒ C.OutOfRange)
+    ∷ (ltb 1600 mtu ⇒ C.OutOfRange)
+    ∷ [])
+
+-- a refused start gives every number 0
+abbrev pub refusedStart : ConfigRefusal → Started
+refusedStart r = record { endpoint = fresh 0 0 0; answer = S.Refused r }
+
+unfoldable pub startOf : (own port mtu : ℕ) → Started
+startOf own port mtu = first refusedStart (startChecks own port mtu) (record { endpoint = fresh own port mtu; answer = S.Done })
+
+-- ---- adding: 18, 19, 20 in this order; a refusal changes nothing
+
+abbrev pub refusedAdd : Endpoint → ConfigRefusal → Configured
+refusedAdd e r = record { endpoint = e; answer = A.Refused r }
+
+unfoldable pub addPeerChecks : Endpoint → (address : ℕ) → List (Check ConfigRefusal)
+addPeerChecks e address =
+    (eqb (e .port) 0 ⇒ C.OutOfRange)  -- a refused start
+    ∷ (addressChecks address
+    ++ ((eqb address (e .own) ⇒ C.OutOfRange)
+    ∷ (isSome (findPeer (configOf e) address) ⇒ C.AlreadyListed)
+    ∷ (leb 8 (e .«peer_count») ⇒ C.Full)
+    ∷ []))
+
+-- peer number n gets this address; its row stays
+unfoldable pub withAddress : Endpoint → ℕ → ℕ → Endpoint
+withAddress e n address = record {
+  networks = e .networks;
+  peers = set (e .peers) n (record { row = getD (e .peers) n noPeer .row; address = address });
+  own = e .own;
+  tenants = e .tenants;
+  port = e .port;
+  mtu = e .mtu;
+  «peer_count» = n + 1;
+  «binding_count» = e .«binding_count»;
+  kinds = e .kinds;
+  owners = e .owners;
+}
+
+unfoldable pub addPeerOf : Endpoint → (address : ℕ) → Configured
+addPeerOf e address =
+    first (refusedAdd e) (addPeerChecks e address)
+    (record { endpoint = withAddress e (e .«peer_count») address; answer = A.Number (e .«peer_count») })
+
+-- the ids of a kind: VXLAN 0 to 16,777,215, NVGRE 4,096 to 16,777,214 (RFC 7637, 3.3), STT any 64-bit Context ID
+unfoldable pub isNetwork : (kind network : ℕ) → Bool
+isNetwork kind network =
+    (eqb kind 1 && ltb network 16777216)
+    || ((eqb kind 2 && (leb 4096 network && ltb network 16777215))
+    || eqb kind 3)
+
+unfoldable pub addBindingChecks : Endpoint → (peer kind network : ℕ) → List (Check ConfigRefusal)
+addBindingChecks e peer kind network =
+    (leb (configOf e .peers) peer ⇒ C.OutOfRange)
+    ∷ (not (isNetwork kind network) ⇒ C.OutOfRange)
+    ∷ (isSome (findBinding (configOf e) peer kind network) ⇒ C.AlreadyListed)
+    ∷ (leb 64 (e .«binding_count») ⇒ C.Full)
+    ∷ []
+
+unfoldable pub withBinding : Endpoint → (n peer kind network tenant : ℕ) → Endpoint
+withBinding e n peer kind network tenant = record {
+  networks = set (e .networks) n network;
+  peers = e .peers;
+  own = e .own;
+  tenants = set (e .tenants) n tenant;
+  port = e .port;
+  mtu = e .mtu;
+  «peer_count» = e .«peer_count»;
+  «binding_count» = n + 1;
+  kinds = set (e .kinds) n kind;
+  owners = set (e .owners) n peer;
+}
+
+unfoldable pub addBindingOf : Endpoint → (peer kind network tenant : ℕ) → Configured
+addBindingOf e peer kind network tenant =
+    first (refusedAdd e) (addBindingChecks e peer kind network)
+    (record { endpoint = withBinding e (e .«binding_count») peer kind network tenant; answer = A.Number (e .«binding_count») })
+
+-- ---- a tick (document 01, "Reassembly memory"): every pending frame grows older by 1, and those that reach 4 are freed. It changes nothing else
+
+abbrev pub olderPeer : Peer → Peer
+olderPeer p = record { row = olderRow (p .row); address = p .address }
+
+unfoldable pub tickOf : Endpoint → Endpoint
+tickOf e = record {
+  networks = e .networks;
+  peers = map olderPeer (e .peers);
+  own = e .own;
+  tenants = e .tenants;
+  port = e .port;
+  mtu = e .mtu;
+  «peer_count» = e .«peer_count»;
+  «binding_count» = e .«binding_count»;
+  kinds = e .kinds;
+  owners = e .owners;
+}
+
+-- ---- a set-up is what a start and any adding calls leave, refused ones too (document 01, "Whose packet it is")
+
+pub data Adding : Type 0 where
+  addPeer : (address : ℕ) → Adding
+  addBinding : (peer kind network tenant : ℕ) → Adding
+
+unfoldable pub added : Endpoint → Adding → Endpoint
+added e (addPeer address) = addPeerOf e address .endpoint
+added e (addBinding peer kind network tenant) = addBindingOf e peer kind network tenant .endpoint
+
+unfoldable pub addedAll : Endpoint → List Adding → Endpoint
+addedAll e [] = e
+addedAll e (call ∷ calls) = addedAll (added e call) calls
+
+unfoldable pub setUp : (own port mtu : ℕ) → List Adding → Endpoint
+setUp own port mtu calls = addedAll (startOf own port mtu .endpoint) calls

@@ -1,0 +1,211 @@
+-- Receiving (document 01, "The numbered answers"): what the layers below make of a packet, what a complete STT frame is worth, and one receive, whole.
+-- Assumes nothing.
+use Prim.Native.Nat.{ℕ, zero, suc, _+_, _-_, _*_, _<_, _≤_}
+use mathlib.Core.Path.{_≡_, refl}
+use mathlib.Core.Bool.{Bool, true, false, cond}
+use mathlib.Core.List.{List, [], _∷_, _++_, map}
+use mathlib.Core.Option.{Option, none, some}
+use lib.ListN.{length, getD, set, drop}
+use lib.Dec.{ltb, eqb}
+use Rattle.wire.specs.Bytes.{part}
+use Rattle.wire.specs.Ipv4.{ipv4Of}
+use Rattle.wire.specs.Carriage.{carriageOf}
+use Rattle.wire.specs.Stt.{sttOf}
+use Rattle.wire.specs.Frame.{frameOf}
+use Rattle.wire.specs.declared.ipv4.Ipv4.{Ipv4}
+use Rattle.wire.specs.declared.ipv4.Ipv4Read.{Ipv4Read}
+use Rattle.wire.specs.declared.ipv4.Ipv4Read.the-variants as I
+use Rattle.wire.specs.declared.carriage.Tunnel.{Tunnel}
+use Rattle.wire.specs.declared.carriage.Carried.{Carried}
+use Rattle.wire.specs.declared.carriage.Carried.the-variants as C
+use Rattle.wire.specs.declared.stt.SttRead.{SttRead}
+use Rattle.wire.specs.declared.stt.SttRead.the-variants as T
+use Rattle.wire.specs.declared.frame.FrameRead.{FrameRead}
+use Rattle.wire.specs.declared.frame.FrameRead.the-variants as F
+use Rattle.reassembly.specs.Slots.{Note, noRow}
+use Rattle.reassembly.specs.Take.{Seg, segOf, Effect}
+use Rattle.reassembly.specs.Store.{bytesOf, takeIn}
+use Rattle.reassembly.specs.Receive.{Answers, Seen, stranger, plain, segment, Verdict, bad, good, told}
+use Rattle.reassembly.specs.SetUp.{Layers, World}
+use Rattle.reassembly.specs.declared.slot.Row.{Row}
+use Rattle.endpoint.specs.Answer.{valuesOf}
+use Rattle.endpoint.specs.Search.{lowest}
+use Rattle.endpoint.specs.Config.{Config, configOf, rowsOf, findPeer, binds, noPeer}
+use Rattle.endpoint.specs.declared.answer.Place.{Place}
+use Rattle.endpoint.specs.declared.answer.Target.{Target}
+use Rattle.endpoint.specs.declared.answer.Drop.{Drop}
+use Rattle.endpoint.specs.declared.answer.Drop.the-variants as D
+use Rattle.endpoint.specs.declared.answer.Received.{Received}
+use Rattle.endpoint.specs.declared.answer.Received.the-variants as R
+use Rattle.endpoint.specs.declared.receive.Inner.{Inner}
+use Rattle.endpoint.specs.declared.receive.Inner.the-variants as N
+use Rattle.endpoint.specs.declared.config.Peer.{Peer}
+use Rattle.endpoint.specs.declared.config.Endpoint.{Endpoint}
+use Rattle.endpoint.specs.declared.receive.Changed.{Changed}
+use Rattle.endpoint.specs.declared.receive.Receipt.{Receipt}
+
+-- ---- what an answer is to the theory of runs
+
+abbrev pub isDelivered : Received → Bool
+isDelivered (R.Delivered t p) = true
+isDelivered R.Pending = false
+isDelivered (R.Dropped d) = false
+
+abbrev pub inMemory : Target → ℕ → ℕ → Received
+inMemory t start n = R.Delivered t (record { start = start; length = n; «in_memory» = true })
+
+abbrev pub answers : Answers
+answers = record {
+  A = Received;
+  Bad = Drop;
+  Good = Target;
+  place = λ a. valuesOf a .place;
+  delivered = isDelivered;
+  tooSmall = R.Dropped D.Memory;
+  pending = R.Pending;
+  rejected = λ r. R.Dropped (D.Segment r);
+  refused = λ d. R.Dropped d;
+  gives = inMemory;
+  tooSmall-place = refl;
+  pending-place = refl;
+  rejected-place = λ r. refl;
+  refused-place = λ d. refl;
+  gives-place = λ t start n. refl;
+  tooSmall-not = refl;
+  pending-not = refl;
+  rejected-not = λ r. refl;
+  refused-not = λ d. refl;
+  gives-is = λ t start n. refl;
+}
+
+-- ---- the inner frame: 12, then 13. `networks`, `kinds`, `owners` and `tenants` are the bindings' columns, of which n are listed
+
+abbrev pub frame? : FrameRead → Target → Inner
+frame? F.Good t = N.Good t
+frame? (F.Refused r) t = N.Bad (D.Format r)
+
+abbrev pub bound? : (tenants : List ℕ) → Option ℕ → FrameRead → Inner
+bound? tenants none frame = N.Bad D.Binding
+bound? tenants (some b) frame = frame? frame (record { tenant = getD tenants b 0; binding = b })
+
+-- a frame from this peer on this network
+unfoldable pub innerFrom : (networks kinds owners tenants : List ℕ) (n peer kind network : ℕ) → List ℕ → Inner
+innerFrom networks kinds owners tenants n peer kind network frame =
+    bound? tenants (lowest (binds networks kinds owners peer kind network) n) (frameOf frame)
+
+abbrev pub innerOf : Config → (peer kind network : ℕ) → List ℕ → Inner
+innerOf c peer kind network frame = innerFrom (c .networks) (c .kinds) (c .owners) (c .tenants) (c .bindings) peer kind network frame
+
+-- ---- what is made of a packet: checks 3 to 10, and for VXLAN and NVGRE 11 to 13
+
+-- the answer on a frame that lies at a place
+abbrev pub answerAt : Inner → Place → Received
+answerAt (N.Bad d) place = R.Dropped d
+answerAt (N.Good t) place = R.Delivered t place
+
+unfoldable pub tunnelFrom : (networks kinds owners tenants : List ℕ) (n peer kind network at : ℕ) → List ℕ → Received
+tunnelFrom networks kinds owners tenants n peer kind network at frame =
+    answerAt (innerFrom networks kinds owners tenants n peer kind network frame) (record { start = at; length = length frame; «in_memory» = false })
+
+abbrev pub tunnelOf : Config → (peer kind network at : ℕ) → List ℕ → Received
+tunnelOf c peer kind network at frame = tunnelFrom (c .networks) (c .kinds) (c .owners) (c .tenants) (c .bindings) peer kind network at frame
+
+abbrev pub carried? : Config → (peer start end : ℕ) → List ℕ → Carried → Seen answers
+carried? c p start end k (C.Refused r) = plain p (R.Dropped (D.Format r))
+carried? c p start end k (C.Tunnel t) = plain p (tunnelOf c p (t .kind) (t .network) (start + t .start) (part k (start + t .start) end))
+carried? c p start end k (C.Segment g) = segment p (segOf g (part k (start + g .start) end))
+
+abbrev pub peer? : Config → Ipv4 → List ℕ → Option ℕ → Seen answers
+peer? c h k none = stranger (R.Dropped D.Peer)
+peer? c h k (some p) = carried? c p (h .start) (h .end) k (carriageOf (h .protocol) (h .source) (h .destination) (c .port) (part k (h .start) (h .end)))
+
+abbrev pub ours? : Config → Ipv4 → List ℕ → Bool → Seen answers
+ours? c h k true = peer? c h k (findPeer c (h .source))
+ours? c h k false = stranger (R.Dropped D.Destination)
+
+abbrev pub ip? : Config → List ℕ → Ipv4Read → Seen answers
+ip? c k (I.Refused r) = stranger (R.Dropped (D.Format r))
+ip? c k (I.Packet h) = ours? c h k (eqb (h .destination) (c .own))
+
+unfoldable pub headerOf : Config → List ℕ → Seen answers
+headerOf c k = ip? c k (ipv4Of k)
+
+-- whose packet it is: it passes 3 to 6, and its source is that peer
+abbrev pub sender? : Config → Ipv4Read → Option ℕ
+sender? c (I.Refused r) = none
+sender? c (I.Packet h) = cond (eqb (h .destination) (c .own)) (findPeer c (h .source)) none
+
+unfoldable pub sourceOf : Config → List ℕ → Option ℕ
+sourceOf c k = sender? c (ipv4Of k)
+
+-- ---- what a complete STT frame from peer p is worth: checks 11, 12, 13
+
+abbrev pub verdictOf : Inner → Verdict answers
+verdictOf (N.Bad d) = bad d
+verdictOf (N.Good t) = good t
+
+abbrev pub stt? : SttRead → (ℕ → Inner) → Inner
+stt? (T.Refused r) next = N.Bad (D.Format r)
+stt? (T.Header context) next = next context
+
+unfoldable pub sttFrom : (networks kinds owners tenants : List ℕ) (n peer : ℕ) → List ℕ → Inner
+sttFrom networks kinds owners tenants n peer frame =
+    stt? (sttOf frame) (λ context. innerFrom networks kinds owners tenants n peer 3 context (drop 18 frame))
+
+unfoldable pub judgeOf : Config → (peer : ℕ) → Note → List ℕ → Verdict answers
+judgeOf c p note frame = verdictOf (sttFrom (c .networks) (c .kinds) (c .owners) (c .tenants) (c .bindings) p frame)
+
+abbrev pub layers : Layers answers Config
+layers = record { header = headerOf; judge = judgeOf; source = sourceOf }
+
+-- ---- one receive, whole: check 2, then what the layers make of the packet
+
+-- the row of one peer that it leaves, its answer, and the memory that it leaves
+pub record Step : Type 0 where
+  pub peer : ℕ
+  pub row : Row
+  pub answer : Received
+  pub mem : List ℕ
+
+unfoldable pub rowAt : Endpoint → ℕ → Row
+rowAt e p = getD (rowsOf e) p noRow
+
+-- nothing changes: peer p keeps its row
+abbrev pub unchanged : Endpoint → ℕ → List ℕ → Received → Step
+unchanged e p m a = record { peer = p; row = rowAt e p; answer = a; mem = m }
+
+abbrev pub stepped : Endpoint → List ℕ → Seen answers → Step
+stepped e m (stranger a) = unchanged e 0 m a
+stepped e m (plain p a) = unchanged e p m a
+stepped e m (segment p g) =
+    let o : Effect bytesOf = takeIn p (rowAt e p) m g in
+    record { peer = p; row = o .row; answer = told answers (judgeOf (configOf e)) bytesOf p g o (o .outcome) .reply; mem = o .mem }
+
+unfoldable pub stepOf : Endpoint → (memory packet : List ℕ) → Step
+stepOf e m k = cond (ltb (length m) 55296) (unchanged e 0 m (R.Dropped D.Memory)) (stepped e m (headerOf (configOf e) k))
+
+abbrev pub changedOf : Step → Changed
+changedOf s = record { row = s .row; peer = s .peer; answer = s .answer }
+
+-- peer p's row is this one
+unfoldable pub withRow : Endpoint → ℕ → Row → Endpoint
+withRow e p row = record {
+  networks = e .networks;
+  peers = set (e .peers) p (record { row = row; address = getD (e .peers) p noPeer .address });
+  own = e .own;
+  tenants = e .tenants;
+  port = e .port;
+  mtu = e .mtu;
+  «peer_count» = e .«peer_count»;
+  «binding_count» = e .«binding_count»;
+  kinds = e .kinds;
+  owners = e .owners;
+}
+
+-- what the call gives back; the memory is the step's
+abbrev pub receiptOf : Endpoint → Step → Receipt
+receiptOf e s = record { endpoint = withRow e (s .peer) (s .row); answer = s .answer }
+
+-- an endpoint and its memory, as the theory of runs has them
+abbrev pub worldOf : Endpoint → List ℕ → World Config
+worldOf e m = record { ends = record { config = configOf e; rows = rowsOf e }; mem = m }

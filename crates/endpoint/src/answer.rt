@@ -1,0 +1,58 @@
+// What the calls answer. `valuesOf` and its like in specs/Answer.antt give document 01's number and values for each case.
+use reassembly::take::Rejection;
+use wire::refusal::Refusal;
+
+// Where a frame lies: a part of the packet, or of the reassembly memory.
+#[repr(C)]
+pub struct Place {
+    pub start: usize,
+    pub length: usize,
+    pub in_memory: bool,
+}
+
+// The tenant (document 01: bench) and the binding to whose network a frame belongs.
+#[repr(C)]
+pub struct Target {
+    pub tenant: u16,
+    pub binding: u16,
+}
+
+// Why a packet is dropped.
+pub enum Drop {
+    // 2: the reassembly memory has under 55,296 bytes
+    Memory,
+    // 3 to 5, 8 to 11, 13: it breaks a format
+    Format(Refusal),
+    // 6: it is not for us
+    Destination,
+    // 7: no listed peer sent it
+    Peer,
+    // 12: no binding has its network
+    Binding,
+    // 14 to 17: its segment is not taken
+    Segment(Rejection),
+}
+
+pub enum Received {
+    Delivered(Target, Place),
+    Pending,
+    Dropped(Drop),
+}
+
+// Why the configuration is not changed: 18, 19, 20.
+pub enum ConfigRefusal {
+    OutOfRange,
+    AlreadyListed,
+    Full,
+}
+
+// A good adding call gives the new peer's or binding's number.
+pub enum Added {
+    Number(u16),
+    Refused(ConfigRefusal),
+}
+
+pub enum Start {
+    Done,
+    Refused(ConfigRefusal),
+}

@@ -1,0 +1,7 @@
+// The tunnel endpoint: configuration, receiving, ageing, and the view of a delivered frame.
+pub mod answer;
+pub mod config;
+pub mod receive;
+pub mod search;
+pub mod tick;
+pub mod view;
