@@ -1,5 +1,6 @@
 // The tunnel endpoint: configuration, receiving, ageing, and the view of a delivered frame.
 pub mod answer;
+pub mod code;
 pub mod config;
 pub mod receive;
 pub mod search;

@@ -20,7 +20,16 @@ pub const DEFAULT_STEPS: usize = 4500;
 
 /// All directed cases, then `steps` random steps.
 pub fn generate(seed: u64, steps: usize) -> Recorder {
-    let mut recorder = Recorder::new();
+    fill(Recorder::new(), seed, steps)
+}
+
+/// The same calls without the wraps, for an implementation that cannot write.
+/// A wrap changes neither endpoint nor memory, so every other answer stays.
+pub fn generate_receive_only(seed: u64, steps: usize) -> Recorder {
+    fill(Recorder::receive_only(), seed, steps)
+}
+
+fn fill(mut recorder: Recorder, seed: u64, steps: usize) -> Recorder {
     let mut prng = Prng::new(seed);
     directed::all(&mut recorder, &mut prng);
     random::steps(&mut recorder, &mut prng, steps);

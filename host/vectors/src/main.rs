@@ -1,4 +1,4 @@
-//! `vectors OUTDIR [SEED] [STEPS]`: writes OUTDIR/runs.bin and
+//! `vectors OUTDIR [SEED] [STEPS] [receive-only]`: writes OUTDIR/runs.bin and
 //! OUTDIR/answers.txt, and to standard error how often each code occurred.
 
 #![forbid(unsafe_code)]
@@ -6,7 +6,10 @@
 use std::path::Path;
 use std::process::ExitCode;
 use vectors::recorder::Recorder;
-use vectors::{generate, DEFAULT_SEED, DEFAULT_STEPS};
+use vectors::{generate, generate_receive_only, DEFAULT_SEED, DEFAULT_STEPS};
+
+/// The last argument that leaves the wraps out.
+const RECEIVE_ONLY: &str = "receive-only";
 
 fn main() -> ExitCode {
     match run(std::env::args().skip(1).collect()) {
@@ -18,14 +21,22 @@ fn main() -> ExitCode {
     }
 }
 
-fn run(arguments: Vec<String>) -> Result<(), String> {
+fn run(mut arguments: Vec<String>) -> Result<(), String> {
+    let receive_only = arguments.last().is_some_and(|last| last == RECEIVE_ONLY);
+    if receive_only {
+        arguments.pop();
+    }
     let (folder, rest) = arguments
         .split_first()
         .filter(|(_, rest)| rest.len() <= 2)
-        .ok_or("usage: vectors OUTDIR [SEED] [STEPS]")?;
+        .ok_or("usage: vectors OUTDIR [SEED] [STEPS] [receive-only]")?;
     let seed = number(rest.first(), DEFAULT_SEED)?;
     let steps = number(rest.get(1), DEFAULT_STEPS as u64)?;
-    let recorder = generate(seed, steps as usize);
+    let recorder = if receive_only {
+        generate_receive_only(seed, steps as usize)
+    } else {
+        generate(seed, steps as usize)
+    };
     write(Path::new(folder), &recorder).map_err(|error| format!("{folder}: {error}"))?;
     report(seed, &recorder);
     Ok(())

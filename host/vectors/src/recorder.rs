@@ -14,6 +14,9 @@ pub struct Recorder {
     pub answers: String,
     pub histogram: Histogram,
     pub records: usize,
+    /// Whether wraps are written down. They are made in any case: directed
+    /// cases receive what a wrap wrote.
+    wraps: bool,
     /// Name of the directed case under way, for messages.
     pub case: &'static str,
 }
@@ -32,11 +35,23 @@ impl Recorder {
             answers: String::new(),
             histogram: [0; 24],
             records: 0,
+            wraps: true,
             case: "",
         }
     }
 
+    /// A recorder that leaves every wrap out of both files.
+    pub fn receive_only() -> Recorder {
+        Recorder {
+            wraps: false,
+            ..Recorder::new()
+        }
+    }
+
     fn note(&mut self, record: Record, line: Line) -> Option<u8> {
+        if !self.wraps && matches!(record, Record::Wrap { .. }) {
+            return line.code;
+        }
         record.encode(&mut self.runs);
         self.answers.push_str(&line.text);
         self.answers.push('\n');

@@ -1,9 +1,11 @@
 //! The two files: their form, byte by byte, and what the generator promises.
 
+use std::path::Path;
+use std::process::Command;
 use vectors::prng::Prng;
 use vectors::record::{decode, replay, Record};
 use vectors::recorder::Recorder;
-use vectors::{generate, random, DEFAULT_SEED, DEFAULT_STEPS};
+use vectors::{generate, generate_receive_only, random, DEFAULT_SEED, DEFAULT_STEPS};
 
 fn bytes(hex: &str) -> Vec<u8> {
     hex.split_whitespace()
@@ -164,5 +166,88 @@ fn the_default_runs_keep_their_bounds() {
             _ => {}
         }
         assert!(started, "a call before the first start");
+    }
+}
+
+/// Nothing but the wraps is left out, and what is left stands by itself.
+#[test]
+fn receive_only_leaves_the_wraps_out() {
+    for (seed, steps) in [(DEFAULT_SEED, DEFAULT_STEPS), (7, 500)] {
+        let all = generate(seed, steps);
+        let made = generate_receive_only(seed, steps);
+        let mut kept = Vec::new();
+        for record in decode(&all.runs).unwrap() {
+            if !matches!(record, Record::Wrap { .. }) {
+                record.encode(&mut kept);
+            }
+        }
+        assert!(kept.len() < all.runs.len());
+        assert_eq!(made.runs, kept);
+        let answers: Vec<_> = made.answers.lines().collect();
+        let others = all
+            .answers
+            .lines()
+            .filter(|line| !line.starts_with("wrap "));
+        assert_eq!(answers, others.collect::<Vec<_>>());
+        assert_eq!(replay(&made.runs).unwrap(), made.answers);
+        assert_eq!(made.records, answers.len());
+        assert_eq!(made.histogram[21..], [0, 0, 0]);
+        for code in 0..=17 {
+            assert!(made.histogram[code] > 0, "seed {seed}, code {code}");
+        }
+        let again = generate_receive_only(seed, steps);
+        assert_eq!((again.runs, again.answers), (made.runs, made.answers));
+    }
+}
+
+/// The test program `replay` runs on files that are committed; `scripts/vectors`
+/// makes them anew.
+#[test]
+fn the_committed_files_are_the_generators() {
+    let folder = Path::new(env!("CARGO_MANIFEST_DIR")).join("../../crates/replay");
+    let committed = |name: &str| {
+        let path = folder.join(name);
+        std::fs::read(&path).unwrap_or_else(|error| panic!("{}: {error}", path.display()))
+    };
+    let made = generate_receive_only(DEFAULT_SEED, DEFAULT_STEPS);
+    // No assert_eq: a difference would print megabytes.
+    for (name, bytes) in [("stdin", made.runs), ("stdout", made.answers.into_bytes())] {
+        assert!(committed(name) == bytes, "{name}: run scripts/vectors");
+    }
+}
+
+fn run_program(arguments: &[&str]) -> bool {
+    Command::new(env!("CARGO_BIN_EXE_vectors"))
+        .args(arguments)
+        .output()
+        .expect("the program starts")
+        .status
+        .success()
+}
+
+/// The program's arguments: seed and steps may be left out, before
+/// `receive-only` too, which comes last.
+#[test]
+fn the_program_takes_receive_only_last() {
+    let folder = Path::new(env!("CARGO_TARGET_TMPDIR")).join("receive-only");
+    let name = folder.to_str().expect("a name of text");
+    let written = |arguments: &[&str]| {
+        assert!(run_program(arguments), "{arguments:?}");
+        let runs = std::fs::read(folder.join("runs.bin")).unwrap();
+        let answers = std::fs::read_to_string(folder.join("answers.txt")).unwrap();
+        assert_eq!(replay(&runs).unwrap(), answers);
+        runs
+    };
+    assert!(written(&[name, "5", "50"]) == generate(5, 50).runs);
+    let without = generate_receive_only(5, 50).runs;
+    assert!(written(&[name, "5", "50", "receive-only"]) == without);
+    let default = generate_receive_only(DEFAULT_SEED, DEFAULT_STEPS).runs;
+    assert!(written(&[name, "receive-only"]) == default);
+    for wrong in [
+        &["receive-only"][..],
+        &[name, "receive-only", "5"],
+        &[name, "5", "50", "9"],
+    ] {
+        assert!(!run_program(wrong), "{wrong:?}");
     }
 }

@@ -1,0 +1,74 @@
+// Document 01's number for each answer ("The numbered answers"), as specs/Answer.antt gives it.
+ghost use mathlib.Core.Path.{_≡_};
+ghost use Rattle.reassembly.specs.Take.{rejectionCode};
+ghost use Rattle.endpoint.specs.Answer.{dropCode, configCode, addedCode, startCode, valuesOf};
+use crate::answer::Added;
+use crate::answer::ConfigRefusal;
+use crate::answer::Drop;
+use crate::answer::Received;
+use crate::answer::Start;
+use reassembly::take::Rejection;
+
+pub fn rejection_code(r: Rejection) -> u8
+    ensures { λ n. ⌜ n ≡ rejectionCode r ⌝ }
+{
+    match r {
+        Rejection::Empty => 14,
+        Rejection::FrameLength => 14,
+        Rejection::PastEnd => 14,
+        Rejection::OtherLength => 15,
+        Rejection::AlreadyReceived => 16,
+        Rejection::NoSlot => 17,
+    }
+}
+
+pub fn drop_code(d: Drop) -> u8
+    ensures { λ n. ⌜ n ≡ dropCode d ⌝ }
+{
+    match d {
+        Drop::Memory => 2,
+        Drop::Format(r) => wire::refusal::code(r),
+        Drop::Destination => 6,
+        Drop::Peer => 7,
+        Drop::Binding => 12,
+        Drop::Segment(r) => rejection_code(r),
+    }
+}
+
+pub fn received_code(answer: Received) -> u8
+    ensures { λ n. ⌜ n ≡ valuesOf answer .number ⌝ }
+{
+    match answer {
+        Received::Delivered(_, _) => 0,
+        Received::Pending => 1,
+        Received::Dropped(d) => drop_code(d),
+    }
+}
+
+pub fn config_code(r: ConfigRefusal) -> u8
+    ensures { λ n. ⌜ n ≡ configCode r ⌝ }
+{
+    match r {
+        ConfigRefusal::OutOfRange => 18,
+        ConfigRefusal::AlreadyListed => 19,
+        ConfigRefusal::Full => 20,
+    }
+}
+
+pub fn added_code(answer: Added) -> u8
+    ensures { λ n. ⌜ n ≡ addedCode answer ⌝ }
+{
+    match answer {
+        Added::Number(_) => 0,
+        Added::Refused(r) => config_code(r),
+    }
+}
+
+pub fn start_code(answer: Start) -> u8
+    ensures { λ n. ⌜ n ≡ startCode answer ⌝ }
+{
+    match answer {
+        Start::Done => 0,
+        Start::Refused(r) => config_code(r),
+    }
+}

@@ -1,0 +1,35 @@
+-- `replay::record::read_packet` is safe.
+-- Assumes nothing.
+use Rattle.replay.proofs.Prefix.{prefix}
+use borrow.Author.Needs.{needs}
+use Rattle.replay.proofs.record.read_packet.Statement.{statement}
+use Rattle.replay.proofs.record.read_packet.Tie as tie
+
+returns : tie.Need-returns
+returns c = search needs
+
+slice-relend-prefix-read-full : tie.Need-slice-relend-prefix-read-full
+slice-relend-prefix-read-full c = search needs
+
+slice-aggregate-read-full : tie.Need-slice-aggregate-read-full
+slice-aggregate-read-full c = search (needs, prefix)
+
+read-full-requires : tie.Need-read-full-requires
+read-full-requires c κs = search needs
+
+same-length : tie.Need-same-length
+same-length c = search needs
+
+returns-2 : tie.Need-returns-2
+returns-2 c = search needs
+
+pub read-packet-spec : {M : Type 1} → statement M
+read-packet-spec =
+    tie.close
+    (tie.spec
+    returns
+    slice-relend-prefix-read-full
+    slice-aggregate-read-full
+    read-full-requires
+    same-length
+    returns-2)

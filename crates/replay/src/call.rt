@@ -1,0 +1,161 @@
+// The calls, each with its line.
+use crate::line;
+use crate::number;
+use crate::record;
+use endpoint::answer::Place;
+use endpoint::config;
+use endpoint::config::Endpoint;
+
+// The endpoint, how many bytes of the memory are lent, and the last packet's length. `done`: nothing more is to be read.
+pub(crate) struct State {
+    pub endpoint: Endpoint,
+    pub lent: usize,
+    pub received: usize,
+    pub done: bool,
+}
+
+pub(crate) fn begin() -> State {
+    let started = config::start(0, 0, 0);
+    let e = started.endpoint;
+    State {
+        endpoint: e,
+        lent: 0,
+        received: 0,
+        done: false,
+    }
+}
+
+pub(crate) fn ended(state: State) -> State {
+    let mut next = state;
+    next.done = true;
+    next
+}
+
+// A record that breaks the form ends the run with a line that no answer has.
+pub(crate) fn broken(state: State) -> State {
+    line::text(b"broken record\n");
+    ended(state)
+}
+
+fn with(state: State, e: Endpoint) -> State {
+    let mut next = state;
+    next.endpoint = e;
+    next
+}
+
+fn start(state: State, f: &[u8]) -> State {
+    let own = number::low32(number::at(f, 0, 4));
+    let port = number::low16(number::at(f, 4, 6));
+    let mtu = number::low16(number::at(f, 6, 8));
+    let made = config::start(own, port, mtu);
+    let answer = made.answer;
+    line::started(answer);
+    let e = made.endpoint;
+    with(state, e)
+}
+
+fn peer(state: State, f: &[u8]) -> State {
+    let address = number::low32(number::at(f, 0, 4));
+    let made = config::add_peer(state.endpoint, address);
+    let answer = made.answer;
+    line::added(b"peer ", answer);
+    let e = made.endpoint;
+    with(state, e)
+}
+
+fn binding(state: State, f: &[u8]) -> State {
+    let owner = number::low16(number::at(f, 0, 2));
+    let kind = number::low8(number::at(f, 2, 3));
+    let network = number::at(f, 3, 11);
+    let tenant = number::low16(number::at(f, 11, 13));
+    let made = config::add_binding(state.endpoint, owner, kind, network, tenant);
+    let answer = made.answer;
+    line::added(b"binding ", answer);
+    let e = made.endpoint;
+    with(state, e)
+}
+
+fn lend_all(memory: &mut [u8], seed: u64) {
+    number::fill(memory, seed);
+    line::lent(memory);
+}
+
+fn lend(state: State, f: &[u8], memory: &mut [u8]) -> State {
+    let length = number::low32(number::at(f, 0, 4)) as usize;
+    if memory.len() < length {
+        return broken(state);
+    }
+    let seed = number::at(f, 4, 8);
+    lend_all(&mut memory[..length], seed);
+    let mut next = state;
+    next.lent = length;
+    next
+}
+
+fn tick(state: State) -> State {
+    let e = endpoint::tick::tick(state.endpoint);
+    line::text(b"tick 0\n");
+    with(state, e)
+}
+
+fn view<'p, 'm>(state: State, f: &[u8], packet: &'p [u8], memory: &'m [u8]) -> State
+where
+    'p: 'm,
+{
+    let slice = number::at(f, 0, 1);
+    let lent = state.lent;
+    let received = state.received;
+    if 1 < slice {
+        return broken(state);
+    }
+    if memory.len() < lent {
+        return broken(state);
+    }
+    if packet.len() < received {
+        return broken(state);
+    }
+    let place = Place {
+        start: number::at(f, 1, 9) as usize,
+        length: number::at(f, 9, 17) as usize,
+        in_memory: slice == 1,
+    };
+    line::viewed(place, &packet[..received], &memory[..lent]);
+    state
+}
+
+fn receive_in(e: Endpoint, packet: &[u8], memory: &mut [u8]) -> Endpoint {
+    let receipt = endpoint::receive::receive(e, packet, memory);
+    let answer = receipt.answer;
+    line::received(answer, packet, memory);
+    receipt.endpoint
+}
+
+pub(crate) fn receive(state: State, length: usize, packet: &mut [u8], memory: &mut [u8]) -> State {
+    if !record::read_packet(length, packet) {
+        return broken(state);
+    }
+    let lent = state.lent;
+    if memory.len() < lent {
+        return broken(state);
+    }
+    if packet.len() < length {
+        return broken(state);
+    }
+    let e = receive_in(state.endpoint, &packet[..length], &mut memory[..lent]);
+    let mut next = with(state, e);
+    next.received = length;
+    next
+}
+
+// Every call but a receive.
+pub(crate) fn other(state: State, op: u8, f: &[u8], packet: &mut [u8], memory: &mut [u8]) -> State {
+    match op {
+        1 => start(state, f),
+        2 => peer(state, f),
+        3 => binding(state, f),
+        4 => lend(state, f, memory),
+        6 => tick(state),
+        7 => view(state, f, packet, memory),
+        _ => broken(state),
+    }
+}

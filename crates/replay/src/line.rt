@@ -1,0 +1,117 @@
+// The lines of the answers.
+use crate::number;
+use endpoint::answer::Added;
+use endpoint::answer::Place;
+use endpoint::answer::Received;
+use endpoint::answer::Start;
+use endpoint::answer::Target;
+use endpoint::code;
+
+pub(crate) fn text(s: &[u8]) {
+    io::write_all(1, s);
+}
+
+fn decimal(n: u64) {
+    io::print_decimal(1, n);
+}
+
+pub(crate) fn started(answer: Start) {
+    text(b"start ");
+    decimal(code::start_code(answer) as u64);
+    text(b"\n");
+}
+
+pub(crate) fn added(name: &[u8], answer: Added) {
+    text(name);
+    decimal(code::added_code(answer) as u64);
+    match answer {
+        Added::Number(n) => {
+            text(b" ");
+            decimal(n as u64);
+        }
+        Added::Refused(_) => text(b" -"),
+    }
+    text(b"\n");
+}
+
+pub(crate) fn lent(memory: &[u8]) {
+    text(b"memory ");
+    decimal(memory.len() as u64);
+    text(b" ");
+    decimal(number::hash(memory));
+    text(b"\n");
+}
+
+fn slice_name(in_memory: bool) {
+    if in_memory {
+        text(b" memory ");
+        return;
+    }
+    text(b" packet ");
+}
+
+// Tenant, binding and place of a delivered frame, and the hash of its bytes.
+fn delivered<'p, 'm>(target: Target, place: Place, packet: &'p [u8], memory: &'m [u8])
+where
+    'p: 'm,
+{
+    let frame = endpoint::view::view(packet, memory, place);
+    text(b" ");
+    decimal(target.tenant as u64);
+    text(b" ");
+    decimal(target.binding as u64);
+    slice_name(place.in_memory);
+    decimal(place.start as u64);
+    text(b" ");
+    decimal(place.length as u64);
+    text(b" ");
+    decimal(number::hash(frame));
+}
+
+// Answer 1 and a refusal carry no tenant, no binding and the empty place.
+pub(crate) fn received<'p, 'm>(answer: Received, packet: &'p [u8], memory: &'m [u8])
+where
+    'p: 'm,
+{
+    text(b"receive ");
+    decimal(code::received_code(answer) as u64);
+    match answer {
+        Received::Delivered(t, p) => delivered(t, p, packet, memory),
+        Received::Pending => text(b" - - packet 0 0 0"),
+        Received::Dropped(_) => text(b" - - packet 0 0 0"),
+    }
+    text(b" ");
+    decimal(number::hash(memory));
+    text(b"\n");
+}
+
+fn fits(size: usize, start: usize, length: usize) -> bool {
+    if size < length {
+        return false;
+    }
+    start <= size - length
+}
+
+// Where the part lies cannot be told from the part itself here. `view` promises it; the line says what document 01 asks for.
+pub(crate) fn viewed<'p, 'm>(place: Place, packet: &'p [u8], memory: &'m [u8])
+where
+    'p: 'm,
+{
+    let part = endpoint::view::view(packet, memory, place);
+    let size = if place.in_memory {
+        memory.len()
+    } else {
+        packet.len()
+    };
+    text(b"view ");
+    if fits(size, place.start, place.length) {
+        decimal(place.start as u64);
+    } else {
+        text(b"-");
+    }
+    text(b" ");
+    decimal(part.len() as u64);
+    text(b" ");
+    decimal(number::hash(part));
+    text(b"\n");
+}

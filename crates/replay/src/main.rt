@@ -1,0 +1,49 @@
+// Makes the calls of a recorded run on the endpoint, and writes a line for each answer. host/README.md has the form of both. The lines that it is held to are the
+// answers of host/reference, a second implementation, written from document 01 alone. The input has no wraps (op 8), which the endpoint does not have yet.
+mod call;
+mod line;
+mod number;
+mod record;
+
+use call::State;
+use record::Head;
+
+// Makes the call of one record. A packet stays where it was read, for the views after it; other payloads have at most 17 bytes.
+fn turn(state: State, memory: &mut [u8], packet: &mut [u8]) -> State {
+    let mut head = [0u8; 3];
+    let read = record::read_head(&mut head);
+    match read {
+        Head::End => call::ended(state),
+        Head::Broken => call::broken(state),
+        Head::Record(op, length) => {
+            if op == 5 {
+                return call::receive(state, length, packet, memory);
+            }
+            let mut fields = [0u8; 17];
+            if !record::read_fields(op, length, &mut fields) {
+                return call::broken(state);
+            }
+            call::other(state, op, &fields, packet, memory)
+        }
+    }
+}
+
+// Nothing says that the input ends, so the turns are counted down from a number that no run uses up.
+fn run(memory: &mut [u8], packet: &mut [u8]) {
+    let mut state = call::begin();
+    let mut turns = u64::MAX;
+    while turns > 0 {
+        state = turn(state, memory, packet);
+        if state.done {
+            break;
+        }
+        turns -= 1;
+    }
+}
+
+// A record lends at most 60,000 bytes, and has at most 2,000.
+fn main() {
+    let mut memory = [0u8; 60000];
+    let mut packet = [0u8; 2000];
+    run(&mut memory, &mut packet);
+}
