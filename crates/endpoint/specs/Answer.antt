@@ -18,6 +18,11 @@ use Rattle.endpoint.specs.declared.answer.Added.{Added}
 use Rattle.endpoint.specs.declared.answer.Added.the-variants as A
 use Rattle.endpoint.specs.declared.answer.Start.{Start}
 use Rattle.endpoint.specs.declared.answer.Start.the-variants as S
+use Rattle.endpoint.specs.declared.answer.WrapRefusal.{WrapRefusal}
+use Rattle.endpoint.specs.declared.answer.WrapRefusal.the-variants as X
+use Rattle.endpoint.specs.declared.answer.Packet.{Packet}
+use Rattle.endpoint.specs.declared.answer.Wrapped.{Wrapped}
+use Rattle.endpoint.specs.declared.answer.Wrapped.the-variants as Y
 
 abbrev pub dropCode : Drop → ℕ
 dropCode D.Memory = 2
@@ -55,3 +60,20 @@ addedCode (A.Refused r) = configCode r
 abbrev pub startCode : Start → ℕ
 startCode S.Done = 0
 startCode (S.Refused r) = configCode r
+
+abbrev pub wrapRefusalCode : WrapRefusal → ℕ
+wrapRefusalCode X.Binding = 23
+wrapRefusalCode X.Frame = 13
+wrapRefusalCode X.Mtu = 22
+wrapRefusalCode X.Segment = 23
+wrapRefusalCode X.Output = 21
+
+-- what writing gives back: its number, and the packet's length and the number of segments. A refusal carries 0 and 0
+pub record WrapValues : Type 0 where
+  pub number : ℕ
+  pub length-is : ℕ
+  pub segments : ℕ
+
+abbrev pub wrapValuesOf : Wrapped → WrapValues
+wrapValuesOf (Y.Written p) = record { number = 0; length-is = p .length; segments = p .segments }
+wrapValuesOf (Y.Refused r) = record { number = wrapRefusalCode r; length-is = 0; segments = 0 }

@@ -7,6 +7,8 @@ pub mod ConfigLaws
 pub mod TickLaws
 pub mod View
 pub mod Receive
+pub mod Wrap
+pub mod WrapExits
 pub mod ReceiveLaws
 pub mod Calls
 pub mod Formats
@@ -14,6 +16,14 @@ pub mod FormatsLaws
 pub mod Demand1
 pub mod Demand2
 pub mod Demand3
+pub mod WrapLaws
+pub mod Reached
+pub mod Demand2Writing
+pub mod RoundTrip
+pub mod RoundTripLaws
+pub mod RoundTripProof
+pub mod RoundTripPossible
 pub mod PossibleRun
-pub mod WorkedCases
+pub mod WorkedRun
 pub mod Possible
+pub mod WorkedCases

@@ -20,7 +20,7 @@ use Rattle.endpoint.specs.Receive.{answers, inMemory, headerOf, judgeOf,
 use Rattle.endpoint.specs.ReceiveLaws.{header-kept, header-whose, config-few}
 use Rattle.endpoint.specs.declared.answer.Received.the-variants as R
 use Rattle.endpoint.specs.PossibleRun.{calls, ready, listed, inner-a, inner-b, frame-a, frame-b, frames, vxlan-packet, rival-packet, stray-packet, mixed, alone, turn}
-use Rattle.endpoint.specs.WorkedCases.{ready-config, heard-a0, heard-a1, heard-b0, heard-b1, worth-a, worth-b, heard-vxlan, heard-rival, heard-stray, mixes-frames, turns-frames}
+use Rattle.endpoint.specs.WorkedRun.{ready-config, heard-a0, heard-a1, heard-b0, heard-b1, worth-a, worth-b, heard-vxlan, heard-rival, heard-stray, mixes-frames, turns-frames}
 
 -- ---- what demand 3 asks for, of a configuration and a peer: cuts of good frames, a mixing of them, the same segments one after another, and a second run that is alike for the peer
 

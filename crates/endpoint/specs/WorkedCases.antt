@@ -1,84 +1,95 @@
--- Worked cases, computed through the definitions of every layer: what the set-up of PossibleRun holds, what becomes of each packet of its run, and what each frame is worth.
+-- The worked cases of document 01 ("Bench sheet") that are to be proved: one table of what the definitions give beside what the paper says, and one statement, that the two columns are equal.
+-- Assumes nothing.
+use Prim.Native.Nat.{ℕ, zero, suc, _+_, _*_}
 use mathlib.Core.Path.{_≡_, refl}
-use mathlib.Core.Bool.{true, false}
-use lib.ListN.{replicate}
-use Rattle.wire.specs.Bytes.{be, beAt, part}
-use Rattle.wire.specs.Sum.{total, ones, pseudo}
-use Rattle.wire.specs.Ipv4.{ipv4Checks, ipv4At, ipv4Of}
-use Rattle.wire.specs.Udp.{udpSum, udpChecks, udpOf}
-use Rattle.wire.specs.Vxlan.{vxlanChecks, vxlanOf}
-use Rattle.wire.specs.Segment.{segmentChecks, segmentAt, segmentOf}
-use Rattle.wire.specs.Stt.{sttChecks, sttOf}
-use Rattle.wire.specs.Frame.{frameChecks, frameOf}
-use Rattle.wire.specs.Carriage.{vxlanIn, vxlanUdpOf, sttIpOf, carriageOf}
-use Rattle.reassembly.specs.Base.{allBelow, table}
-use Rattle.reassembly.specs.Slots.{Note, noMark}
-use Rattle.reassembly.specs.Receive.{stranger, plain, segment, good}
-use Rattle.reassembly.specs.Mix.{partOf, states}
-use Rattle.reassembly.specs.MixTest.{mixes}
-use Rattle.reassembly.specs.OneByOne.{turns}
-use Rattle.endpoint.specs.Search.{from, lowest}
-use Rattle.endpoint.specs.Config.{configOf, hasAddress, findPeer, binds, findBinding, fresh, startChecks, startOf, addPeerChecks, withAddress, addPeerOf, isNetwork, addBindingChecks, withBinding, addBindingOf, added, addedAll, setUp}
-use Rattle.endpoint.specs.Receive.{innerFrom, tunnelFrom, headerOf, sttFrom, judgeOf}
-use Rattle.endpoint.specs.declared.answer.Drop.the-variants as D
-use Rattle.endpoint.specs.declared.answer.Received.the-variants as R
-use Rattle.endpoint.specs.PossibleRun.{ready, listed, frame-a, frame-b, frames, vxlan-packet, rival-packet, stray-packet, mixed, turn}
+use mathlib.Core.Bool.{Bool, true, false, cond}
+use mathlib.Core.List.{List, [], _∷_, _++_, map}
+use lib.ListN.{length, replicate}
+use Rattle.wire.specs.Bytes.{be, beAt}
+use Rattle.wire.specs.Sum.{total, ones}
+use Rattle.wire.specs.SumLaws.{complement}
+use Rattle.wire.specs.Ipv4 as I
+use Rattle.wire.specs.Udp.{udp}
+use Rattle.wire.specs.Vxlan.{vxlan}
+use Rattle.wire.specs.Nvgre.{gre, nvgreChecks, nvgreOf}
+use Rattle.wire.specs.Refusal.{codeOf}
+use Rattle.wire.specs.Write.{ipv4With, outer, ipv4Head, packet, sourcePort, vxlanBody, nvgreBody, vxlanPacket, nvgrePacket}
+use Rattle.wire.specs.declared.nvgre.NvgreRead.{NvgreRead}
+use Rattle.wire.specs.declared.nvgre.NvgreRead.the-variants as N
+use Rattle.reassembly.specs.Base.{allBelow}
+use Rattle.reassembly.specs.Slots.{free, first, bears, isFree, noMark}
+use Rattle.reassembly.specs.Take.{Choice, reject, old, fresh, chosen, rejectionCode}
+use Rattle.reassembly.specs.Store.{isOn, bitAt, setBit, setBits}
+use Rattle.endpoint.specs.Wrap.{segmentsOf, segmentSize, packetOf}
 
--- ---- the set-up
+-- T, our own address 10.0.0.1 and the peer's 10.0.0.2
+abbrev T : List ℕ
+T = 2 ∷ 0 ∷ 0 ∷ 0 ∷ 0 ∷ 2 ∷ 2 ∷ 0 ∷ 0 ∷ 0 ∷ 0 ∷ 1 ∷ 136 ∷ 181 ∷ []
 
-pub ready-config : configOf ready ≡ listed
-unfolding configOf from lowest hasAddress findPeer binds findBinding fresh startChecks startOf addPeerChecks withAddress addPeerOf isNetwork addBindingChecks withBinding addBindingOf added addedAll setUp
-ready-config = refl
+abbrev own : ℕ
+own = 167772161
 
--- ---- the segments of peer 0's two frames: each packet is sound, and states its frame's length, its offset and its identifier
+abbrev peer : ℕ
+peer = 167772162
 
-pub heard-a0 : headerOf listed (partOf frame-a 0 .packet) ≡ segment 0 (states frame-a 0)
-unfolding headerOf ipv4Checks ipv4At ipv4Of be beAt part total ones pseudo segmentChecks segmentAt segmentOf sttIpOf carriageOf from lowest hasAddress findPeer
-heard-a0 = refl
+-- the number that is given to an NVGRE header with this first byte: 0, or the refusal's
+abbrev nvgreCode : NvgreRead → ℕ
+nvgreCode (N.Header vsid) = 0
+nvgreCode (N.Refused r) = codeOf r
 
-pub heard-a1 : headerOf listed (partOf frame-a 1 .packet) ≡ segment 0 (states frame-a 1)
-unfolding headerOf ipv4Checks ipv4At ipv4Of be beAt part total ones pseudo segmentChecks segmentAt segmentOf sttIpOf carriageOf from lowest hasAddress findPeer
-heard-a1 = refl
+abbrev nvgreFirst : ℕ → ℕ
+nvgreFirst x = nvgreCode (nvgreOf (x ∷ 0 ∷ 101 ∷ 88 ∷ 0 ∷ 16 ∷ 0 ∷ 0 ∷ []))
 
-pub heard-b0 : headerOf listed (partOf frame-b 0 .packet) ≡ segment 0 (states frame-b 0)
-unfolding headerOf ipv4Checks ipv4At ipv4Of be beAt part total ones pseudo segmentChecks segmentAt segmentOf sttIpOf carriageOf from lowest hasAddress findPeer
-heard-b0 = refl
+-- the number that is given to a first segment of one byte, of a frame of this length: 0 where a slot is found for it
+abbrev choiceCode : Choice → ℕ
+choiceCode (reject r) = rejectionCode r
+choiceCode (old s) = 0
+choiceCode (fresh s) = 0
 
-pub heard-b1 : headerOf listed (partOf frame-b 1 .packet) ≡ segment 0 (states frame-b 1)
-unfolding headerOf ipv4Checks ipv4At ipv4Of be beAt part total ones pseudo segmentChecks segmentAt segmentOf sttIpOf carriageOf from lowest hasAddress findPeer
-heard-b1 = refl
+abbrev lengthCode : ℕ → ℕ
+lengthCode n = choiceCode (chosen (replicate 4 free) (record { identifier = 1; frame-length = n; offset = 0; bytes = 7 ∷ []; mark = noMark }))
 
--- ---- what the frames are worth: Context ID 77 is binding 0, tenant 7; the other is binding 1, tenant 8
+abbrev whole : List ℕ → ℕ
+whole map = cond (allBelow 9 (λ i. bitAt map 0 i)) 1 0
 
-pub worth-a : (note : Note) → judgeOf listed 0 note (frame-a .content) ≡ good (record { tenant = 7; binding = 0 })
-unfolding judgeOf sttFrom sttChecks sttOf beAt innerFrom from lowest binds frameChecks frameOf
-worth-a note = refl
+-- a case: what the definitions give, and what the paper says
+pub record Case : Type 0 where
+  pub computed : List ℕ
+  pub stated : List ℕ
 
-pub worth-b : (note : Note) → judgeOf listed 0 note (frame-b .content) ≡ good (record { tenant = 8; binding = 1 })
-unfolding judgeOf sttFrom sttChecks sttOf beAt innerFrom from lowest binds frameChecks frameOf
-worth-b note = refl
+abbrev given : Case → List ℕ
+given c = c .computed
 
--- ---- other senders' packets
+abbrev paper : Case → List ℕ
+paper c = c .stated
 
--- delivered: the frame of 14 bytes behind 36
-pub heard-vxlan : headerOf listed vxlan-packet ≡ plain 1 (R.Delivered (record { tenant = 9; binding = 2 }) (record { start = 36; length = 14; «in_memory» = false }))
-unfolding headerOf ipv4Checks ipv4At ipv4Of be beAt part total ones udpSum udpChecks udpOf vxlanChecks vxlanOf vxlanIn vxlanUdpOf carriageOf from lowest hasAddress findPeer binds innerFrom tunnelFrom frameChecks frameOf
-heard-vxlan = refl
+infix 20 _is_
+abbrev _is_ : List ℕ → List ℕ → Case
+a is b = record { computed = a; stated = b }
 
-pub heard-rival : headerOf listed rival-packet ≡ segment 1 (record { identifier = 1001; frame-length = 32; offset = 0; bytes = replicate 10 255; mark = noMark })
-unfolding headerOf ipv4Checks ipv4At ipv4Of be beAt part total ones pseudo segmentChecks segmentAt segmentOf sttIpOf carriageOf from lowest hasAddress findPeer
-heard-rival = refl
+unfoldable pub cases : List Case
+cases =
+    -- 1. the sum of RFC 1071's example is 0xDDF2
+    (ones (total (0 ∷ 1 ∷ 242 ∷ 3 ∷ 244 ∷ 245 ∷ 246 ∷ 247 ∷ [])) ∷ [] is 56818 ∷ [])
+    -- 2. T's source port
+    ∷ (sourcePort T ∷ [] is 52408 ∷ [])
+    -- 3. T on VNI 22, whole
+    ∷ (packetOf 1 own peer 7471 22 1500 T 0 0 is 69 ∷ 0 ∷ 0 ∷ 50 ∷ 0 ∷ 0 ∷ 64 ∷ 0 ∷ 64 ∷ 17 ∷ 38 ∷ 185 ∷ 10 ∷ 0 ∷ 0 ∷ 1 ∷ 10 ∷ 0 ∷ 0 ∷ 2 ∷ 204 ∷ 184 ∷ 18 ∷ 181 ∷ 0 ∷ 30 ∷ 0 ∷ 0 ∷ 8 ∷ 0 ∷ 0 ∷ 0 ∷ 0 ∷ 0 ∷ 22 ∷ 0 ∷ 2 ∷ 0 ∷ 0 ∷ 0 ∷ 0 ∷ 2 ∷ 2 ∷ 0 ∷ 0 ∷ 0 ∷ 0 ∷ 1 ∷ 136 ∷ 181 ∷ [])
+    -- 4. T on VSID 4,096, whole
+    ∷ (packetOf 2 own peer 7471 4096 1500 T 0 0 is 69 ∷ 0 ∷ 0 ∷ 42 ∷ 0 ∷ 0 ∷ 64 ∷ 0 ∷ 64 ∷ 47 ∷ 38 ∷ 163 ∷ 10 ∷ 0 ∷ 0 ∷ 1 ∷ 10 ∷ 0 ∷ 0 ∷ 2 ∷ 32 ∷ 0 ∷ 101 ∷ 88 ∷ 0 ∷ 16 ∷ 0 ∷ 0 ∷ 2 ∷ 0 ∷ 0 ∷ 0 ∷ 0 ∷ 2 ∷ 2 ∷ 0 ∷ 0 ∷ 0 ∷ 0 ∷ 1 ∷ 136 ∷ 181 ∷ [])
+    -- 5. MTU 576, inner 1,514: three segments of 536, 536, 460. MTU 1,500: inner 1,442 makes one, 1,443 makes two
+    ∷ (segmentsOf 3 1514 576 ∷ segmentSize 1514 576 0 ∷ segmentSize 1514 576 1 ∷ segmentSize 1514 576 2 ∷ [] is 3 ∷ 536 ∷ 536 ∷ 460 ∷ [])
+    ∷ (segmentsOf 3 1442 1500 ∷ segmentsOf 3 1443 1500 ∷ [] is 1 ∷ 2 ∷ [])
+    -- 6. frame length 31 is 14, 32 is not; 1,532 is not, 1,533 is
+    ∷ (lengthCode 31 ∷ lengthCode 32 ∷ lengthCode 1532 ∷ lengthCode 1533 ∷ [] is 14 ∷ 0 ∷ 0 ∷ 14 ∷ [])
+    -- 7. NVGRE first byte 0x23 passes, 0x24 is 11
+    ∷ (nvgreFirst 35 ∷ nvgreFirst 36 ∷ [] is 0 ∷ 11 ∷ [])
+    -- 8. the map of a 9-byte reach: 0xFF, 0x01 are set; with 0xFF, 0x00 it is not complete
+    ∷ (setBits (0 ∷ 0 ∷ []) 0 0 9 is 255 ∷ 1 ∷ [])
+    ∷ (whole (255 ∷ 1 ∷ []) ∷ whole (255 ∷ 0 ∷ []) ∷ [] is 1 ∷ 0 ∷ [])
+    ∷ []
 
-pub heard-stray : headerOf listed stray-packet ≡ stranger (R.Dropped D.Peer)
-unfolding headerOf ipv4Checks ipv4At ipv4Of be beAt part total ones pseudo segmentChecks segmentAt segmentOf sttIpOf carriageOf from lowest hasAddress findPeer
-heard-stray = refl
-
--- ---- the run is a mixing, as far as it can be told without the packets
-
-pub mixes-frames : mixes frames mixed ≡ true
-unfolding allBelow
-mixes-frames = refl
-
-pub turns-frames : turns 0 frames ≡ turn
-unfolding table
-turns-frames = refl
+-- THE STATEMENT
+pub worked : map given cases ≡ map paper cases
+unfolding cases total ones be beAt I.header complement udp vxlan gre nvgreChecks nvgreOf ipv4With outer ipv4Head packet sourcePort vxlanBody nvgreBody vxlanPacket nvgrePacket allBelow first bears isFree chosen isOn bitAt setBit setBits segmentsOf packetOf
+worked = refl

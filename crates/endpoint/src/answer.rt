@@ -56,3 +56,29 @@ pub enum Start {
     Done,
     Refused(ConfigRefusal),
 }
+
+// Why nothing is written.
+pub enum WrapRefusal {
+    // 23: no such binding
+    Binding,
+    // 13: the inner frame breaks its rule
+    Frame,
+    // 22: the packet would exceed the MTU
+    Mtu,
+    // 23: no such segment number
+    Segment,
+    // 21: the output is shorter than the packet
+    Output,
+}
+
+// The length of the packet that was written, and how many segments its frame has.
+#[repr(C)]
+pub struct Packet {
+    pub length: usize,
+    pub segments: usize,
+}
+
+pub enum Wrapped {
+    Written(Packet),
+    Refused(WrapRefusal),
+}

@@ -1,12 +1,13 @@
 // Document 01's number for each answer ("The numbered answers"), as specs/Answer.antt gives it.
 ghost use mathlib.Core.Path.{_≡_};
 ghost use Rattle.reassembly.specs.Take.{rejectionCode};
-ghost use Rattle.endpoint.specs.Answer.{dropCode, configCode, addedCode, startCode, valuesOf};
+ghost use Rattle.endpoint.specs.Answer.{dropCode, configCode, addedCode, startCode, valuesOf, wrapRefusalCode};
 use crate::answer::Added;
 use crate::answer::ConfigRefusal;
 use crate::answer::Drop;
 use crate::answer::Received;
 use crate::answer::Start;
+use crate::answer::WrapRefusal;
 use reassembly::take::Rejection;
 
 pub fn rejection_code(r: Rejection) -> u8
@@ -70,5 +71,17 @@ pub fn start_code(answer: Start) -> u8
     match answer {
         Start::Done => 0,
         Start::Refused(r) => config_code(r),
+    }
+}
+
+pub fn wrap_code(r: WrapRefusal) -> u8
+    ensures { λ n. ⌜ n ≡ wrapRefusalCode r ⌝ }
+{
+    match r {
+        WrapRefusal::Binding => 23,
+        WrapRefusal::Frame => 13,
+        WrapRefusal::Mtu => 22,
+        WrapRefusal::Segment => 23,
+        WrapRefusal::Output => 21,
     }
 }

@@ -6,3 +6,4 @@ pub mod receive;
 pub mod search;
 pub mod tick;
 pub mod view;
+pub mod wrap;

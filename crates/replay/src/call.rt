@@ -147,7 +147,43 @@ pub(crate) fn receive(state: State, length: usize, packet: &mut [u8], memory: &m
     next
 }
 
-// Every call but a receive.
+// The frame stands behind 12 bytes of numbers.
+fn wrap_in(state: State, length: usize, f: &[u8], output: &mut [u8]) -> State {
+    if length < 12 {
+        return broken(state);
+    }
+    if f.len() < length {
+        return broken(state);
+    }
+    number::fill_same(output, 170);
+    let binding = number::low16(number::at(f, 0, 2));
+    let segment = number::low32(number::at(f, 2, 6));
+    let identifier = number::low32(number::at(f, 6, 10));
+    let frame = &f[12..length];
+    let answer = endpoint::wrap::wrap(state.endpoint, binding, frame, segment, identifier, output);
+    line::wrapped(answer, output);
+    state
+}
+
+fn wrap_read(state: State, length: usize, payload: &mut [u8], output: &mut [u8]) -> State {
+    if !record::read_packet(length, payload) {
+        return broken(state);
+    }
+    let room = number::low16(number::at(payload, 10, 12)) as usize;
+    if output.len() < room {
+        return broken(state);
+    }
+    wrap_in(state, length, payload, &mut output[..room])
+}
+
+// It is read to a place of its own: the last packet stays, for the views after it.
+pub(crate) fn wrap(state: State, length: usize) -> State {
+    let mut payload = [0u8; 2000];
+    let mut output = [0u8; 2000];
+    wrap_read(state, length, &mut payload, &mut output)
+}
+
+// Every call but a receive and a wrap.
 pub(crate) fn other(state: State, op: u8, f: &[u8], packet: &mut [u8], memory: &mut [u8]) -> State {
     match op {
         1 => start(state, f),

@@ -5,6 +5,7 @@ use endpoint::answer::Place;
 use endpoint::answer::Received;
 use endpoint::answer::Start;
 use endpoint::answer::Target;
+use endpoint::answer::Wrapped;
 use endpoint::code;
 
 pub(crate) fn text(s: &[u8]) {
@@ -113,5 +114,25 @@ where
     decimal(part.len() as u64);
     text(b" ");
     decimal(number::hash(part));
+    text(b"\n");
+}
+
+// A refusal carries the length 0 and 0 segments.
+pub(crate) fn wrapped(answer: Wrapped, output: &[u8]) {
+    text(b"wrap ");
+    match answer {
+        Wrapped::Refused(r) => {
+            decimal(code::wrap_code(r) as u64);
+            text(b" 0 0");
+        }
+        Wrapped::Written(p) => {
+            text(b"0 ");
+            decimal(p.length as u64);
+            text(b" ");
+            decimal(p.segments as u64);
+        }
+    }
+    text(b" ");
+    decimal(number::hash(output));
     text(b"\n");
 }

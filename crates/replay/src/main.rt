@@ -1,5 +1,5 @@
 // Makes the calls of a recorded run on the endpoint, and writes a line for each answer. host/README.md has the form of both. The lines that it is held to are the
-// answers of host/reference, a second implementation, written from document 01 alone. The input has no wraps (op 8), which the endpoint does not have yet.
+// answers of host/reference, a second implementation, written from document 01 alone.
 mod call;
 mod line;
 mod number;
@@ -18,6 +18,9 @@ fn turn(state: State, memory: &mut [u8], packet: &mut [u8]) -> State {
         Head::Record(op, length) => {
             if op == 5 {
                 return call::receive(state, length, packet, memory);
+            }
+            if op == 8 {
+                return call::wrap(state, length);
             }
             let mut fields = [0u8; 17];
             if !record::read_fields(op, length, &mut fields) {

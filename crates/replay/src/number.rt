@@ -59,3 +59,12 @@ pub(crate) fn fill(s: &mut [u8], seed: u64) {
         i += 1;
     }
 }
+
+// Every byte of s is this one.
+pub(crate) fn fill_same(s: &mut [u8], byte: u8) {
+    let mut i = 0;
+    while i < s.len() {
+        s[i] = byte;
+        i += 1;
+    }
+}

@@ -19,3 +19,6 @@ pub mod SttLaws
 pub mod Frame
 pub mod Carriage
 pub mod CarriageLaws
+pub mod Write
+pub mod WriteLaws
+pub mod WriteIs

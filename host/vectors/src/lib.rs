@@ -10,6 +10,7 @@ pub mod prng;
 pub mod random;
 pub mod record;
 pub mod recorder;
+pub mod round_trip;
 
 use prng::Prng;
 use recorder::Recorder;

@@ -209,11 +209,24 @@ fn the_committed_files_are_the_generators() {
         let path = folder.join(name);
         std::fs::read(&path).unwrap_or_else(|error| panic!("{}: {error}", path.display()))
     };
-    let made = generate_receive_only(DEFAULT_SEED, DEFAULT_STEPS);
+    let made = generate(DEFAULT_SEED, DEFAULT_STEPS);
     // No assert_eq: a difference would print megabytes.
     for (name, bytes) in [("stdin", made.runs), ("stdout", made.answers.into_bytes())] {
         assert!(committed(name) == bytes, "{name}: run scripts/vectors");
     }
+}
+
+/// The test program `roundtrip` is held to a file that is committed.
+#[test]
+fn the_committed_round_trips_are_the_references() {
+    let path = Path::new(env!("CARGO_MANIFEST_DIR")).join("../../crates/roundtrip/stdout");
+    let committed = std::fs::read_to_string(&path)
+        .unwrap_or_else(|error| panic!("{}: {error}", path.display()));
+    assert_eq!(
+        committed,
+        vectors::round_trip::lines(),
+        "run scripts/vectors"
+    );
 }
 
 fn run_program(arguments: &[&str]) -> bool {

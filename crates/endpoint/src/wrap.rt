@@ -1,0 +1,187 @@
+// Wrapping (document 01, "Wrapping"): a tenant's frame goes out on a binding, as one packet or one segment a call.
+ghost use mathlib.Core.Path.{_≡_};
+ghost use Prim.Native.Nat.{_+_, _*_, _<_, _≤_};
+ghost use lib.ListN.{length};
+ghost use Rattle.endpoint.specs.Wrap.{segmentsOf, exceeds, wrapOf};
+ghost use Rattle.endpoint.specs.WrapExits.{packetOn, Put, pieceOf, sendOf};
+use crate::answer::Packet;
+use crate::answer::WrapRefusal;
+use crate::answer::Wrapped;
+use crate::config::Endpoint;
+use crate::search::least;
+use wire::frame::FrameRead;
+use wire::write;
+
+// The way out on a binding: its kind and network, from whom and to whom, the STT port, and the MTU.
+pub(crate) struct Route {
+    pub network: u64,
+    pub own: u32,
+    pub peer: u32,
+    pub port: u16,
+    pub mtu: u16,
+    pub kind: u8,
+}
+
+// Check 22: would a VXLAN or NVGRE packet with a frame of n bytes exceed the MTU? A packet of just the MTU does not, and an STT frame is cut to it.
+fn exceeds(kind: u8, n: usize, mtu: u16) -> bool
+    requires { ⌜ n ≤ 1514 ⌝ }
+    ensures { λ r. ⌜ r ≡ exceeds kind n mtu ⌝ }
+{
+    let most = mtu as usize;
+    if kind == 1 {
+        return most < 36 + n;
+    }
+    if kind == 2 {
+        return most < 28 + n;
+    }
+    false
+}
+
+// How many packets carry a frame of n bytes. Only an STT frame is cut, into pieces of what the MTU leaves behind two headers of 20 bytes.
+fn segments_of(kind: u8, n: usize, mtu: u16) -> usize
+    requires { ⌜ n ≤ 1514 ⌝ }
+    ensures { λ r. ⌜ r ≡ segmentsOf kind n mtu ⌝ }
+{
+    if kind == 1 {
+        return 1;
+    }
+    if kind == 2 {
+        return 1;
+    }
+    let most = mtu as usize;
+    if most <= 40 {
+        return 0;
+    }
+    let capacity = most - 40;
+    (18 + n + capacity - 1) / capacity
+}
+
+// Segment number `segment` of the frame's STT frame, which is cut at every `capacity` bytes. That it begins within the frame keeps the product small.
+fn put_segment(
+    out: &mut [u8],
+    own: u32,
+    peer: u32,
+    port: u16,
+    context: u64,
+    identifier: u32,
+    capacity: usize,
+    segment: usize,
+    last: bool,
+    frame: &[u8],
+) -> usize
+    requires { ⌜ (14 ≤ length (now frame)) × (length (now frame) ≤ 1514) × (capacity ≤ 65535) × (segment * capacity < 18 + length (now frame)) ⌝ }
+    ensures { λ r. ⌜ Put (pieceOf own peer port context identifier capacity segment last (now (frame .entry))) (now (out .entry)) (now (out .exit)) r ⌝ }
+{
+    let size = 18 + frame.len();
+    let start = segment * capacity;
+    let end = least(size, start + capacity);
+    write::segment(
+        out,
+        own,
+        peer,
+        port,
+        context,
+        identifier,
+        start,
+        end - start,
+        last,
+        frame,
+    )
+}
+
+// The packet, by kind. A listed VNI or VSID has 24 bits; of any other number the lowest 32 are taken.
+fn put_packet(
+    out: &mut [u8],
+    route: Route,
+    segment: usize,
+    segments: usize,
+    identifier: u32,
+    frame: &[u8],
+) -> usize
+    requires { ⌜ (14 ≤ length (now frame)) × (length (now frame) ≤ 1514) × (segments ≡ segmentsOf (route .kind) (length (now frame)) (route .mtu)) × (segment < segments) ⌝ }
+    ensures { λ r. ⌜ Put (packetOn route (now (frame .entry)) segment identifier) (now (out .entry)) (now (out .exit)) r ⌝ }
+{
+    let kind = route.kind;
+    let low = (route.network % 4294967296) as u32;
+    if kind == 1 {
+        return write::vxlan(out, route.own, route.peer, low, frame);
+    }
+    if kind == 2 {
+        return write::nvgre(out, route.own, route.peer, low, frame);
+    }
+    put_segment(
+        out,
+        route.own,
+        route.peer,
+        route.port,
+        route.network,
+        identifier,
+        route.mtu as usize - 40,
+        segment,
+        segment + 1 == segments,
+        frame,
+    )
+}
+
+// The call behind the binding: checks 13, 22, 23 (segment) and 21, in this order. A writer that has no room writes nothing, and answers 0.
+fn send(route: Route, frame: &[u8], segment: usize, identifier: u32, output: &mut [u8]) -> Wrapped
+    ensures { λ r. ⌜ r ≡ sendOf route (now (frame .entry)) segment identifier (now (output .entry)) .answer ⌝ }
+    ensures { λ _. ⌜ now (output .exit) ≡ sendOf route (now (frame .entry)) segment identifier (now (output .entry)) .output ⌝ }
+{
+    let read = wire::frame::read(frame);
+    let FrameRead::Good = read else {
+        return Wrapped::Refused(WrapRefusal::Frame);
+    };
+    let n = frame.len();
+    if exceeds(route.kind, n, route.mtu) {
+        return Wrapped::Refused(WrapRefusal::Mtu);
+    }
+    let segments = segments_of(route.kind, n, route.mtu);
+    if segments <= segment {
+        return Wrapped::Refused(WrapRefusal::Segment);
+    }
+    let length = put_packet(output, route, segment, segments, identifier, frame);
+    if length == 0 {
+        return Wrapped::Refused(WrapRefusal::Output);
+    }
+    Wrapped::Written(Packet {
+        length: length,
+        segments: segments,
+    })
+}
+
+// Writes the packet that carries the frame out on the binding, or that carries its segment of this number, at the front of the output. The identifier is
+// the STT frame's: the segments of a frame are asked for one a call, all under the same one. The endpoint is only read.
+pub fn wrap(
+    e: Endpoint,
+    binding: u16,
+    frame: &[u8],
+    segment: u32,
+    identifier: u32,
+    output: &mut [u8],
+) -> Wrapped
+    ensures { λ r. ⌜ r ≡ wrapOf e binding (now (frame .entry)) segment identifier (now (output .entry)) .answer ⌝ }
+    ensures { λ _. ⌜ now (output .exit) ≡ wrapOf e binding (now (frame .entry)) segment identifier (now (output .entry)) .output ⌝ }
+{
+    let b = binding as usize;
+    if least(e.binding_count as usize, 64) <= b {
+        return Wrapped::Refused(WrapRefusal::Binding);
+    }
+    let owner = e.owners[b];
+    if 8 <= owner {
+        return Wrapped::Refused(WrapRefusal::Binding);
+    }
+    let p = owner as usize;
+    let peer = e.peers[p];
+    let network = e.networks[b];
+    let kind = e.kinds[b];
+    let route = Route {
+        network: network,
+        own: e.own,
+        peer: peer.address,
+        port: e.port,
+        mtu: e.mtu,
+        kind: kind,
+    };
+    send(route, frame, segment as usize, identifier, output)
+}

@@ -1,0 +1,72 @@
+// Numbers of the run: a remainder before each step keeps it below 2^64.
+
+pub(crate) fn low8(n: u64) -> u8 {
+    (n % 256) as u8
+}
+
+fn drawn(x: u64) -> u64 {
+    (x % 4294967296 * 1103515245 + 12345) % 4294967296
+}
+
+// One more, of a count that stays small.
+pub(crate) fn more(n: u64) -> u64 {
+    n % 4294967296 + 1
+}
+
+fn mixed(h: u64, byte: u8) -> u64 {
+    (h % 4294967296 * 31 + byte as u64 + 1) % 4294967296
+}
+
+// h, then for each byte h := 31 h + byte + 1 modulo 2^32.
+pub(crate) fn hash(first: u64, s: &[u8]) -> u64 {
+    let mut h = first;
+    let mut i = 0;
+    while i < s.len() {
+        h = mixed(h, s[i]);
+        i += 1;
+    }
+    h
+}
+
+// Byte i of the frame, but for the type, which is 0x88B5.
+fn content(i: usize, x: u64) -> u8 {
+    if i == 12 {
+        return 136;
+    }
+    if i == 13 {
+        return 181;
+    }
+    low8(x / 65536)
+}
+
+// x := 16 size + binding, then for each byte x := 1,103,515,245 x + 12,345 modulo 2^32; the byte is x div 65,536 modulo 256.
+pub(crate) fn fill(s: &mut [u8], size: usize, binding: u16) {
+    let mut x = (size % 65536) as u64 * 16 + binding as u64;
+    let mut i = 0;
+    while i < s.len() {
+        x = drawn(x);
+        s[i] = content(i, x);
+        i += 1;
+    }
+}
+
+// i + size, modulo how many segments the frame has: one to three.
+fn around(i: usize, size: usize, count: usize) -> usize {
+    match count {
+        2 => (i % 2 + size % 2) % 2,
+        3 => (i % 3 + size % 3) % 3,
+        _ => i,
+    }
+}
+
+// Segment i of the order: from `size` on, around, forwards for an even size and backwards for an odd one.
+pub(crate) fn turned(i: usize, size: usize, count: usize) -> u32 {
+    let k = around(i, size, count);
+    if size % 2 == 0 {
+        return (k % 65536) as u32;
+    }
+    if k < count {
+        return ((count - 1 - k) % 65536) as u32;
+    }
+    0
+}

@@ -1,0 +1,94 @@
+// The receiving endpoint, and what was seen so far.
+use crate::number;
+use endpoint::answer::Received;
+use endpoint::answer::Wrapped;
+use endpoint::config::Endpoint;
+
+pub(crate) struct Tally {
+    pub receiver: Endpoint,
+    pub packets: u64,
+    pub sum: u64,
+    pub equal: u64,
+    pub refused: u64,
+}
+
+pub(crate) fn begin(receiver: Endpoint) -> Tally {
+    Tally {
+        receiver,
+        packets: 0,
+        sum: 0,
+        equal: 0,
+        refused: 0,
+    }
+}
+
+// How many segments the frame has; one attempt where it is refused.
+pub(crate) fn segments(sender: Endpoint, binding: u16, frame: &[u8], out: &mut [u8]) -> usize {
+    let answer = endpoint::wrap::wrap(sender, binding, frame, 0, 0, out);
+    match answer {
+        Wrapped::Refused(_) => 1,
+        Wrapped::Written(p) => p.segments,
+    }
+}
+
+// The second endpoint receives the packet. A frame that it delivers is held to the one that was wrapped.
+fn arrive(t: Tally, packet: &[u8], frame: &[u8], memory: &mut [u8]) -> Tally {
+    let receipt = endpoint::receive::receive(t.receiver, packet, memory);
+    let answer = receipt.answer;
+    let e = receipt.endpoint;
+    let mut next = t;
+    next.receiver = e;
+    next.packets = number::more(t.packets);
+    next.sum = number::hash(t.sum, packet);
+    let Received::Delivered(_, place) = answer else {
+        return next;
+    };
+    let got = endpoint::view::view(packet, &*memory, place);
+    if check::same(got, frame) {
+        next.equal = number::more(t.equal);
+    }
+    next
+}
+
+// Segment k is wrapped, under an identifier of its frame's size, and received.
+pub(crate) fn step(
+    t: Tally,
+    sender: Endpoint,
+    binding: u16,
+    k: u32,
+    frame: &[u8],
+    out: &mut [u8],
+    memory: &mut [u8],
+) -> Tally {
+    let identifier = (frame.len() % 65536) as u32;
+    let answer = endpoint::wrap::wrap(sender, binding, frame, k, identifier, out);
+    match answer {
+        Wrapped::Refused(_) => {
+            let mut next = t;
+            next.refused = number::more(t.refused);
+            next
+        }
+        Wrapped::Written(p) => {
+            let n = p.length;
+            if out.len() < n {
+                return t;
+            }
+            arrive(t, &out[..n], frame, memory)
+        }
+    }
+}
+
+fn item(name: &[u8], n: u64) {
+    io::write_all(1, name);
+    io::print_decimal(1, n);
+}
+
+pub(crate) fn write(t: Tally, mtu: u16, binding: u16) {
+    item(b"mtu ", mtu as u64);
+    item(b" kind ", number::more(binding as u64));
+    item(b" packets ", t.packets);
+    item(b" sum ", t.sum);
+    item(b" equal ", t.equal);
+    item(b" refused ", t.refused);
+    io::write_all(1, b"\n");
+}
