@@ -3,8 +3,8 @@
 use crate::answer::{Added, Answer, Code, Place, Refusal, Wrapped, DONE, HELD};
 use crate::headers::{self, Carriage, Ipv4, Segment};
 use crate::headers::{GRE_HEADER, STT_HEADER, UDP_HEADER, VXLAN_HEADER};
-use crate::listing::{Binding, Config, Kind, Listing};
-use crate::reassembly::{Reassembly, Taken, MEMORY_NEEDED};
+use crate::listing::{Binding, Config, Kind, Listing, MAX_PEERS};
+use crate::reassembly::{Reassembly, Row, Taken, MEMORY_NEEDED};
 use crate::wrap;
 
 /// One tunnel endpoint. Two endpoints are equal when no call can tell them
@@ -45,6 +45,11 @@ impl Endpoint {
     /// The bindings, in the order of their numbers.
     pub fn bindings(&self) -> &[Binding] {
         self.listing.bindings()
+    }
+
+    /// The frames under way, by peer and slot.
+    pub fn pending(&self) -> &[Row; MAX_PEERS] {
+        self.reassembly.rows()
     }
 
     /// Lists a peer: 18, 19, 20, or 0 with its number.

@@ -24,4 +24,4 @@ mod wrap;
 pub use answer::{view, Added, Answer, Code, Place, Refusal, Wrapped, DONE, HELD};
 pub use endpoint::Endpoint;
 pub use listing::{Binding, Config, Kind, MAX_BINDINGS, MAX_PEERS};
-pub use reassembly::{MEMORY_NEEDED, SLOTS_PER_PEER, SLOT_SIZE};
+pub use reassembly::{Pending, Row, MEMORY_NEEDED, SLOTS_PER_PEER, SLOT_SIZE};

@@ -25,14 +25,19 @@ const MAX_FRAME: usize = STT_HEADER + MAX_INNER;
 /// A frame is given up with the tick that brings it to this age.
 const AGE_LIMIT: u8 = 4;
 
+/// A frame under way.
 #[derive(Clone, Copy, Debug, PartialEq, Eq)]
-struct Pending {
-    identifier: u32,
-    length: u16,
-    age: u8,
+pub struct Pending {
+    /// The identifier of its segments.
+    pub identifier: u32,
+    /// The STT frame's length.
+    pub length: u16,
+    /// Ticks since its first segment.
+    pub age: u8,
 }
 
-type Row = [Option<Pending>; SLOTS_PER_PEER];
+/// The slots of one peer; `None` is free.
+pub type Row = [Option<Pending>; SLOTS_PER_PEER];
 
 /// What taking a segment led to.
 pub enum Taken {
@@ -58,6 +63,11 @@ impl Reassembly {
         Reassembly {
             rows: [[None; SLOTS_PER_PEER]; MAX_PEERS],
         }
+    }
+
+    /// The slots of each peer.
+    pub fn rows(&self) -> &[Row; MAX_PEERS] {
+        &self.rows
     }
 
     /// Checks 14, then 15 and 16 or 17; then takes the segment. The memory is

@@ -13,6 +13,8 @@ pub struct Driver {
     pub endpoint: Endpoint,
     pub memory: Vec<u8>,
     pub last_packet: Vec<u8>,
+    /// Whether lines have their text; its hashes take far longer than the calls.
+    told: bool,
     output: Vec<u8>,
     written: usize,
     last_place: Place,
@@ -22,15 +24,6 @@ pub struct Driver {
 pub struct Line {
     pub code: Option<u8>,
     pub text: String,
-}
-
-impl Line {
-    fn coded(code: u8, text: String) -> Line {
-        Line {
-            code: Some(code),
-            text,
-        }
-    }
 }
 
 /// h := 31 h + byte + 1 modulo 2^32, from 0.
@@ -67,36 +60,49 @@ impl Driver {
             endpoint: Endpoint::start(0, 0, 0).0,
             memory: Vec::new(),
             last_packet: Vec::new(),
+            told: true,
             output: Vec::new(),
             written: 0,
             last_place: Place::EMPTY,
         }
     }
 
+    /// A driver whose lines have codes and no text.
+    pub fn untold() -> Driver {
+        Driver {
+            told: false,
+            ..Driver::new()
+        }
+    }
+
+    fn line(&self, code: Option<u8>, text: impl FnOnce() -> String) -> Line {
+        let text = if self.told { text() } else { String::new() };
+        Line { code, text }
+    }
+
     pub fn start(&mut self, own: u32, port: u16, mtu: u16) -> Line {
         let (endpoint, code) = Endpoint::start(own, port, mtu);
         self.endpoint = endpoint;
-        Line::coded(code, format!("start {code}"))
+        self.line(Some(code), || format!("start {code}"))
     }
 
     pub fn peer(&mut self, address: u32) -> Line {
         let added = self.endpoint.add_peer(address);
-        let text = format!("peer {} {}", added.code, or_dash(added.number));
-        Line::coded(added.code, text)
+        self.line(Some(added.code), || {
+            format!("peer {} {}", added.code, or_dash(added.number))
+        })
     }
 
     pub fn binding(&mut self, peer: u16, kind: u8, id: u64, tenant: u16) -> Line {
         let added = self.endpoint.add_binding(peer, kind, id, tenant);
-        let text = format!("binding {} {}", added.code, or_dash(added.number));
-        Line::coded(added.code, text)
+        self.line(Some(added.code), || {
+            format!("binding {} {}", added.code, or_dash(added.number))
+        })
     }
 
     pub fn lend(&mut self, length: usize, seed: u32) -> Line {
         self.memory = memory_contents(length, seed);
-        Line {
-            code: None,
-            text: format!("memory {length} {}", hash(&self.memory)),
-        }
+        self.line(None, || format!("memory {length} {}", hash(&self.memory)))
     }
 
     pub fn receive(&mut self, packet: &[u8]) -> Line {
@@ -104,23 +110,24 @@ impl Driver {
         let answer = self.endpoint.receive(packet, &mut self.memory);
         let place = answer.place;
         self.last_place = place;
-        let text = format!(
-            "receive {} {} {} {} {} {} {} {}",
-            answer.code,
-            or_dash(answer.tenant),
-            or_dash(answer.binding),
-            if place.in_memory { "memory" } else { "packet" },
-            place.start,
-            place.length,
-            hash(view(packet, &self.memory, place)),
-            hash(&self.memory),
-        );
-        Line::coded(answer.code, text)
+        self.line(Some(answer.code), || {
+            format!(
+                "receive {} {} {} {} {} {} {} {}",
+                answer.code,
+                or_dash(answer.tenant),
+                or_dash(answer.binding),
+                if place.in_memory { "memory" } else { "packet" },
+                place.start,
+                place.length,
+                hash(view(packet, &self.memory, place)),
+                hash(&self.memory),
+            )
+        })
     }
 
     pub fn tick(&mut self) -> Line {
         let code = self.endpoint.tick();
-        Line::coded(code, format!("tick {code}"))
+        self.line(Some(code), || format!("tick {code}"))
     }
 
     /// A place whose numbers exceed the machine's word fits nothing.
@@ -160,14 +167,15 @@ impl Driver {
             .endpoint
             .wrap(binding, frame, segment, identifier, &mut self.output);
         self.written = wrapped.length;
-        let text = format!(
-            "wrap {} {} {} {}",
-            wrapped.code,
-            wrapped.length,
-            wrapped.segments,
-            hash(&self.output)
-        );
-        Line::coded(wrapped.code, text)
+        self.line(Some(wrapped.code), || {
+            format!(
+                "wrap {} {} {} {}",
+                wrapped.code,
+                wrapped.length,
+                wrapped.segments,
+                hash(&self.output)
+            )
+        })
     }
 
     /// The packet that the last wrap wrote; empty after a refusal.

@@ -14,6 +14,8 @@ pub struct Recorder {
     pub answers: String,
     pub histogram: Histogram,
     pub records: usize,
+    /// The records themselves, for a caller that wants no files.
+    kept: Option<Vec<Record>>,
     /// Whether wraps are written down. They are made in any case: directed
     /// cases receive what a wrap wrote.
     wraps: bool,
@@ -35,6 +37,7 @@ impl Recorder {
             answers: String::new(),
             histogram: [0; 24],
             records: 0,
+            kept: None,
             wraps: true,
             case: "",
         }
@@ -48,13 +51,31 @@ impl Recorder {
         }
     }
 
+    /// A recorder that keeps the records and writes neither file.
+    pub fn keeping() -> Recorder {
+        Recorder {
+            driver: Driver::untold(),
+            kept: Some(Vec::new()),
+            ..Recorder::new()
+        }
+    }
+
+    /// What a keeping recorder kept.
+    pub fn into_records(self) -> Vec<Record> {
+        self.kept.unwrap_or_default()
+    }
+
     fn note(&mut self, record: Record, line: Line) -> Option<u8> {
         if !self.wraps && matches!(record, Record::Wrap { .. }) {
             return line.code;
         }
-        record.encode(&mut self.runs);
-        self.answers.push_str(&line.text);
-        self.answers.push('\n');
+        if let Some(kept) = &mut self.kept {
+            kept.push(record);
+        } else {
+            record.encode(&mut self.runs);
+            self.answers.push_str(&line.text);
+            self.answers.push('\n');
+        }
         self.records += 1;
         if let Some(code) = line.code {
             self.histogram[usize::from(code)] += 1;

@@ -1,0 +1,30 @@
+-- `export::wrap::wrapped` meets its contract.
+-- Assumes nothing.
+use mathlib.Core.Path.{_∙_, ap}
+use Rattle.endpoint.specs.Answer.{wrapValuesOf}
+use Rattle.endpoint.specs.declared.answer.Wrapped.{Wrapped}
+use Rattle.export.specs.Answer.{writingOf}
+use borrow.Author.Needs.{needs}
+use Rattle.export.proofs.wrap.wrapped.Statement.{statement}
+use Rattle.export.proofs.wrap.wrapped.Tie as tie
+use Rattle.export.proofs.wrap.wrapped.Reads as reads
+use Rattle.export.proofs.wrap.wrapped.Lts as lts
+use Rattle.endpoint.proofs.wrap.wrap.Reads as wrap-reads
+use Rattle.export.proofs.answer.flat_wrapped.Reads as flat-wrapped-reads
+
+wrap-requires : tie.Need-wrap-requires
+wrap-requires c κs = search needs
+
+flat-wrapped-requires : tie.Need-flat-wrapped-requires
+flat-wrapped-requires c κs = search needs
+
+same-length : tie.Need-same-length
+same-length c = search needs
+
+returns : tie.Need-returns
+returns c =
+    let d = c .before .before .before in
+    (c .flat-wrapped .ensures ∙ ap (λ (a : Wrapped). writingOf (wrapValuesOf a)) (d .wrap .ensures .0), d .wrap .ensures .1)
+
+pub wrapped-spec : {M : Type 1} → statement M
+wrapped-spec = tie.close (tie.spec wrap-requires flat-wrapped-requires same-length returns)

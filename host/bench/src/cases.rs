@@ -1,0 +1,253 @@
+//! What is measured.
+
+use crate::sides::Side;
+use vectors::directed::{NVGRE, OWN, PEER_A, PORT, STT, VXLAN};
+use vectors::packet::{self, Label, Path};
+use vectors::prng::Prng;
+
+/// The network that the packets are on.
+const NETWORK: u64 = 0x00C0_FFEE;
+
+const FROM_PEER: Path = Path {
+    from: PEER_A,
+    to: OWN,
+};
+
+/// The call that is measured.
+pub enum Call {
+    Receive(Vec<u8>),
+    Tick,
+    Wrap(Vec<u8>),
+}
+
+/// What is listed. The sender and its binding come last, so that they are found
+/// last.
+#[derive(Clone, Copy)]
+pub enum Listing {
+    /// One peer with one binding.
+    Small,
+    /// Eight peers and 64 bindings.
+    Full,
+}
+
+impl Listing {
+    pub fn name(self) -> &'static str {
+        match self {
+            Listing::Small => "1 binding",
+            Listing::Full => "64 bindings",
+        }
+    }
+
+    fn size(self) -> (u16, u16) {
+        match self {
+            Listing::Small => (1, 1),
+            Listing::Full => (8, 64),
+        }
+    }
+
+    /// The number of the binding that the packets are on.
+    pub fn binding(self) -> u16 {
+        self.size().1 - 1
+    }
+}
+
+/// A measured call with what must be done around it.
+pub struct Case {
+    pub name: String,
+    pub call: Call,
+    /// The code that every measured call must give; nothing for a tick.
+    pub code: u8,
+    /// How the network of the packets is carried.
+    pub kind: u8,
+    pub listing: Listing,
+    /// Packets received before each measured call, not measured.
+    pub before: Vec<Vec<u8>>,
+    /// Packets received after each, not measured, so that it can come again.
+    pub after: Vec<Vec<u8>>,
+    /// Bytes that the transport sum goes over; 0 if there is none.
+    pub summed: usize,
+}
+
+impl Case {
+    fn receive(name: String, kind: u8, listing: Listing, code: u8, packet: Vec<u8>) -> Case {
+        Case {
+            name,
+            call: Call::Receive(packet),
+            code,
+            kind,
+            listing,
+            before: Vec::new(),
+            after: Vec::new(),
+            summed: 0,
+        }
+    }
+
+    fn summing(self, summed: usize) -> Case {
+        Case { summed, ..self }
+    }
+
+    /// Whether the measured call can be repeated with nothing around it, so
+    /// that its time can be told too.
+    pub fn stands_alone(&self) -> bool {
+        self.before.is_empty() && self.after.is_empty()
+    }
+
+    /// An endpoint with the case's listing.
+    pub fn endpoint<S: Side>(&self) -> S {
+        let (peers, bindings) = self.listing.size();
+        let mut endpoint = S::start(OWN, PORT, 1600);
+        for number in 1..peers {
+            endpoint.add_peer(OWN + 100 + u32::from(number));
+        }
+        endpoint.add_peer(PEER_A);
+        for number in 1..bindings {
+            let (peer, kind) = (number % peers, (number % 3) as u8 + 1);
+            endpoint.add_binding(peer, kind, 4096 + u64::from(number), number);
+        }
+        endpoint.add_binding(peers - 1, self.kind, NETWORK, bindings);
+        endpoint
+    }
+}
+
+/// An inner frame whose type is no tag.
+fn inner(length: usize) -> Vec<u8> {
+    let mut frame = Prng::new(length as u64).bytes(length);
+    frame[12] = 0x08;
+    frame
+}
+
+fn segment(length: usize, from: usize, to: usize) -> Vec<u8> {
+    let frame = packet::stt_frame(NETWORK, &inner(length));
+    let label = Label::new(PORT, 5, frame.len(), from);
+    packet::segment(FROM_PEER, label, &frame[from..to])
+}
+
+fn vxlan(length: usize) -> Vec<u8> {
+    packet::vxlan(FROM_PEER, NETWORK as u32, &inner(length))
+}
+
+fn vxlan_summed(length: usize) -> Vec<u8> {
+    packet::vxlan_summed(FROM_PEER, NETWORK as u32, &inner(length))
+}
+
+/// Every case but those of the sum alone.
+pub fn all() -> Vec<Case> {
+    let mut cases = Vec::new();
+    deliveries(&mut cases);
+    held(&mut cases);
+    refusals(&mut cases);
+    ticks(&mut cases);
+    wraps(&mut cases);
+    cases
+}
+
+fn deliveries(cases: &mut Vec<Case>) {
+    for listing in [Listing::Small, Listing::Full] {
+        for length in [64, 1514] {
+            let delivery = |name: &str, kind, packet| {
+                let name = format!("{name}, inner {length}, {}", listing.name());
+                Case::receive(name, kind, listing, 0, packet)
+            };
+            let plain = vxlan(length);
+            cases.push(delivery("VXLAN, UDP checksum 0", VXLAN, plain));
+            let summed = delivery("VXLAN, UDP checksum set", VXLAN, vxlan_summed(length));
+            cases.push(summed.summing(16 + length));
+            let packet = packet::nvgre(FROM_PEER, NETWORK as u32, &inner(length));
+            cases.push(delivery("NVGRE", NVGRE, packet));
+            let whole = segment(length, 0, 18 + length);
+            let whole = delivery("STT in one segment", STT, whole);
+            cases.push(whole.summing(38 + length));
+        }
+    }
+}
+
+/// A frame of 1,532 bytes in two segments: the first is held, the second
+/// completes it.
+fn held(cases: &mut Vec<Case>) {
+    let (first, second) = (segment(1514, 0, 766), segment(1514, 766, 1532));
+    let case = |name: &str, code, packet| {
+        let name = format!("STT segment of 766 bytes, {name}");
+        Case::receive(name, STT, Listing::Small, code, packet).summing(20 + 766)
+    };
+    cases.push(Case {
+        after: vec![second.clone()],
+        ..case("held", 1, first.clone())
+    });
+    cases.push(Case {
+        before: vec![first],
+        ..case("completes its frame", 0, second)
+    });
+}
+
+fn refusals(cases: &mut Vec<Case>) {
+    let good = vxlan(64);
+    let refused: [(u8, &str, Vec<u8>); 10] = [
+        (3, "version 6", packet::with_byte(&good, 0, 0x65)),
+        (4, "header checksum", packet::raw_byte(&good, 10, 0)),
+        (5, "fragment", packet::with_word(&good, 6, 0x2000)),
+        (6, "not for us", packet::with_byte(&good, 19, 99)),
+        (7, "unknown peer", packet::with_byte(&good, 15, 99)),
+        (8, "port", packet::with_word(&good, 22, 53)),
+        (9, "UDP length", packet::with_word(&good, 24, 79)),
+        (
+            10,
+            "UDP checksum",
+            packet::raw_byte(&vxlan_summed(64), 26, 1),
+        ),
+        (11, "VXLAN flag", packet::with_byte(&good, 28, 0)),
+        (12, "no binding", packet::with_byte(&good, 34, 0)),
+    ];
+    for (code, why, packet) in refused {
+        let name = format!("refusal {code}: {why}, 64 bindings");
+        let summed = if code == 10 { 80 } else { 0 };
+        let case = Case::receive(name, VXLAN, Listing::Full, code, packet);
+        cases.push(case.summing(summed));
+    }
+}
+
+fn ticks(cases: &mut Vec<Case>) {
+    let tick = |name: &str| Case {
+        call: Call::Tick,
+        ..Case::receive(name.to_string(), STT, Listing::Full, 0, Vec::new())
+    };
+    cases.push(tick("tick, nothing under way"));
+    let frame = packet::stt_frame(NETWORK, &inner(64));
+    // These are refused as repeats until the frames are given up.
+    let before = (0..4).map(|identifier| {
+        let label = Label::new(PORT, identifier, frame.len(), 0);
+        packet::segment(FROM_PEER, label, &frame[..40])
+    });
+    cases.push(Case {
+        before: before.collect(),
+        ..tick("tick, four frames under way")
+    });
+}
+
+fn wraps(cases: &mut Vec<Case>) {
+    for (kind, name) in [(VXLAN, "VXLAN"), (NVGRE, "NVGRE"), (STT, "STT")] {
+        for length in [64, 1514] {
+            let name = format!("wrap {name}, inner {length}");
+            let case = Case::receive(name, kind, Listing::Full, 0, Vec::new());
+            cases.push(Case {
+                call: Call::Wrap(inner(length)),
+                summed: if kind == STT { 38 + length } else { 0 },
+                ..case
+            });
+        }
+    }
+}
+
+/// Two receives that differ only in whether `length` bytes are summed: a VXLAN
+/// datagram of so many bytes with and without a checksum. Its frame may be too
+/// long; 13 comes after the sum.
+pub fn sum_of(length: usize) -> [Case; 2] {
+    let code = if length - 16 > 1514 { 13 } else { 0 };
+    let case = |name: &str, packet| {
+        let name = format!("{name} {length}");
+        Case::receive(name, VXLAN, Listing::Small, code, packet)
+    };
+    [
+        case("summed", vxlan_summed(length - 16)),
+        case("not summed", vxlan(length - 16)),
+    ]
+}

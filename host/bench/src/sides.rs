@@ -1,0 +1,85 @@
+//! The two sides of the comparison, behind the same calls.
+
+use niulassenc::numbers;
+use niulassenc_reference as reference;
+
+/// An endpoint, whoever made it. Addresses and answers are numbers.
+pub trait Side {
+    const NAME: &'static str;
+
+    fn start(own: u32, port: u16, mtu: u16) -> Self;
+    fn add_peer(&mut self, address: u32);
+    fn add_binding(&mut self, peer: u16, kind: u8, network: u64, tenant: u16);
+    fn receive(&mut self, packet: &[u8], memory: &mut [u8]) -> u8;
+    fn tick(&mut self);
+    fn wrap(&mut self, binding: u16, frame: &[u8], output: &mut [u8]) -> u8;
+}
+
+/// The library, called as C would call it.
+impl Side for numbers::Endpoint {
+    const NAME: &'static str = "library";
+
+    fn start(own: u32, port: u16, mtu: u16) -> Self {
+        let (endpoint, code) = numbers::Endpoint::start(own, port, mtu);
+        assert_eq!(code, 0);
+        endpoint
+    }
+
+    fn add_peer(&mut self, address: u32) {
+        assert_eq!(numbers::Endpoint::add_peer(self, address).code, 0);
+    }
+
+    fn add_binding(&mut self, peer: u16, kind: u8, network: u64, tenant: u16) {
+        let added = numbers::Endpoint::add_binding(self, peer, kind, network, tenant);
+        assert_eq!(added.code, 0);
+    }
+
+    #[inline(always)]
+    fn receive(&mut self, packet: &[u8], memory: &mut [u8]) -> u8 {
+        numbers::Endpoint::receive(self, packet, memory).code
+    }
+
+    #[inline(always)]
+    fn tick(&mut self) {
+        numbers::Endpoint::tick(self);
+    }
+
+    #[inline(always)]
+    fn wrap(&mut self, binding: u16, frame: &[u8], output: &mut [u8]) -> u8 {
+        numbers::Endpoint::wrap(self, binding, frame, 0, 7, output).code
+    }
+}
+
+impl Side for reference::Endpoint {
+    const NAME: &'static str = "reference";
+
+    fn start(own: u32, port: u16, mtu: u16) -> Self {
+        let (endpoint, code) = reference::Endpoint::start(own, port, mtu);
+        assert_eq!(code, 0);
+        endpoint
+    }
+
+    fn add_peer(&mut self, address: u32) {
+        assert_eq!(reference::Endpoint::add_peer(self, address).code, 0);
+    }
+
+    fn add_binding(&mut self, peer: u16, kind: u8, network: u64, tenant: u16) {
+        let added = reference::Endpoint::add_binding(self, peer, kind, network, tenant);
+        assert_eq!(added.code, 0);
+    }
+
+    #[inline(always)]
+    fn receive(&mut self, packet: &[u8], memory: &mut [u8]) -> u8 {
+        reference::Endpoint::receive(self, packet, memory).code
+    }
+
+    #[inline(always)]
+    fn tick(&mut self) {
+        reference::Endpoint::tick(self);
+    }
+
+    #[inline(always)]
+    fn wrap(&mut self, binding: u16, frame: &[u8], output: &mut [u8]) -> u8 {
+        reference::Endpoint::wrap(self, binding, frame, 0, 7, output).code
+    }
+}

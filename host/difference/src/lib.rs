@@ -1,0 +1,65 @@
+//! Compares the library with the reference: every call of a run is made on
+//! both, and answers, places, delivered bytes, endpoints and every byte of the
+//! memory and the output must agree after each. A run that shows a difference
+//! is shrunk before it is told.
+
+#![forbid(unsafe_code)]
+
+pub mod lent;
+pub mod pair;
+pub mod report;
+pub mod runs;
+pub mod shrink;
+pub mod sweeps;
+
+use pair::Pair;
+use std::panic::{catch_unwind, AssertUnwindSafe};
+use vectors::record::Record;
+
+/// How often each code 0 to 23 was answered to a receive.
+pub type Histogram = [u64; 24];
+
+/// What was compared.
+#[derive(Clone, Copy, Debug, Default, PartialEq, Eq)]
+pub struct Counts {
+    pub calls: u64,
+    pub receives: u64,
+    pub codes: Histogram,
+}
+
+impl Counts {
+    pub fn add(&mut self, other: &Counts) {
+        self.calls += other.calls;
+        self.receives += other.receives;
+        for (sum, count) in self.codes.iter_mut().zip(other.codes) {
+            *sum += count;
+        }
+    }
+}
+
+/// The first call on which the two disagree.
+#[derive(Clone, Debug, PartialEq, Eq)]
+pub struct Difference {
+    /// The number of the call in its run, from 0.
+    pub at: usize,
+    /// What differs.
+    pub what: String,
+}
+
+/// Makes every call of the run on both.
+pub fn compare(run: &[Record]) -> Result<Counts, Difference> {
+    let mut pair = Pair::new();
+    let mut counts = Counts::default();
+    for (at, record) in run.iter().enumerate() {
+        // A pair that panicked is not called again.
+        let code = catch_unwind(AssertUnwindSafe(|| pair.call(record)))
+            .unwrap_or_else(|_| Err("the reference panicked".to_string()))
+            .map_err(|what| Difference { at, what })?;
+        counts.calls += 1;
+        if let Record::Receive { .. } = record {
+            counts.receives += 1;
+            counts.codes[usize::from(code)] += 1;
+        }
+    }
+    Ok(counts)
+}

@@ -1,0 +1,236 @@
+//! The endpoint in the crate's own types.
+
+use crate::ffi;
+use crate::kind::Kind;
+use crate::numbers;
+use crate::place::Place;
+use crate::refusal::Refusal;
+use core::net::Ipv4Addr;
+
+/// One tunnel endpoint: settings, peers, bindings, and what it knows of the
+/// frames under way. It is a plain value of 1,072 bytes that refers to nothing.
+#[derive(Clone, Debug, PartialEq, Eq)]
+pub struct Endpoint {
+    numbers: numbers::Endpoint,
+}
+
+/// What a receive gave, if it was not refused.
+#[derive(Clone, Copy, Debug, PartialEq, Eq)]
+pub enum Received<'a> {
+    /// Answer 0: a frame for a tenant.
+    Delivered(Frame<'a>),
+    /// Answer 1: the segment is held, its frame is not yet whole.
+    Pending,
+}
+
+/// A delivered inner frame.
+#[derive(Clone, Copy, Debug, PartialEq, Eq)]
+pub struct Frame<'a> {
+    /// The tenant (document 01: bench) whose frame it is.
+    pub tenant: u16,
+    /// The number of the binding that says so.
+    pub binding: u16,
+    /// Where it lies.
+    pub place: Place,
+    /// The frame: a part of the packet or of the reassembly memory.
+    pub bytes: &'a [u8],
+}
+
+/// A network of a peer, and the tenant whose it is.
+#[derive(Clone, Copy, Debug, PartialEq, Eq)]
+pub struct Binding {
+    /// The peer's number.
+    pub peer: u16,
+    /// How the network is carried.
+    pub kind: Kind,
+    /// VNI, VSID or Context ID.
+    pub network: u64,
+    /// The tenant (document 01: bench).
+    pub tenant: u16,
+}
+
+/// An STT frame under way.
+#[derive(Clone, Copy, Debug, PartialEq, Eq)]
+pub struct Pending {
+    /// The identifier of its segments.
+    pub identifier: u32,
+    /// The STT frame's length, its 18-byte header included.
+    pub length: u16,
+    /// Ticks since its first segment: 0 to 3.
+    pub age: u8,
+}
+
+/// What a wrap wrote.
+#[derive(Clone, Copy, Debug, PartialEq, Eq)]
+pub struct Wrapped {
+    /// Bytes of the packet, at the start of the output.
+    pub length: usize,
+    /// How many segments the frame has: 1 but for STT.
+    pub segments: usize,
+}
+
+impl Endpoint {
+    /// Starts an endpoint with our own address, the TCP port on which STT is
+    /// expected, and the largest outer packet that is written (576 to 1,600).
+    /// Refused with 18 where one of them is out of its range.
+    pub fn start(own: Ipv4Addr, stt_port: u16, mtu: u16) -> Result<Endpoint, Refusal> {
+        let (numbers, code) = numbers::Endpoint::start(own.into(), stt_port, mtu);
+        Refusal::check(code)?;
+        Ok(Endpoint { numbers })
+    }
+
+    /// Lists a peer and gives its number. Refused with 18, 19 or 20.
+    pub fn add_peer(&mut self, address: Ipv4Addr) -> Result<u16, Refusal> {
+        let added = self.numbers.add_peer(address.into());
+        Refusal::check(added.code)?;
+        Ok(added.number)
+    }
+
+    /// Binds a network of a listed peer to a tenant and gives the binding's
+    /// number. Refused with 18, 19 or 20.
+    pub fn add_binding(
+        &mut self,
+        peer: u16,
+        kind: Kind,
+        network: u64,
+        tenant: u16,
+    ) -> Result<u16, Refusal> {
+        let added = self.numbers.add_binding(peer, kind.into(), network, tenant);
+        Refusal::check(added.code)?;
+        Ok(added.number)
+    }
+
+    /// Takes one outer packet, first byte of the IP header. Refused with 2 to 17;
+    /// a refused packet is dropped and needs no more handling.
+    ///
+    /// Every receive of an endpoint is lent the same memory, of at least
+    /// [`MEMORY_NEEDED`](crate::MEMORY_NEEDED) bytes and of any contents at
+    /// first; nobody else writes it. A delivered STT frame lies there until the
+    /// next receive, which the borrow checker sees to:
+    ///
+    /// ```compile_fail,E0499
+    /// # fn f(mut endpoint: niulassenc::Endpoint, packet: &[u8], memory: &mut [u8]) {
+    /// let first = endpoint.receive(packet, memory);
+    /// let second = endpoint.receive(packet, memory);
+    /// drop(first);
+    /// # }
+    /// ```
+    pub fn receive<'a>(
+        &mut self,
+        packet: &'a [u8],
+        memory: &'a mut [u8],
+    ) -> Result<Received<'a>, Refusal> {
+        self.numbers.receive(packet, memory).read(packet, memory)
+    }
+
+    /// One tick of the clock: each frame under way grows older by 1, and those
+    /// that reach 4 are given up.
+    pub fn tick(&mut self) {
+        self.numbers.tick();
+    }
+
+    /// Writes segment number `segment` of an inner frame to the start of
+    /// `output`; VXLAN and NVGRE have segment 0 only. The identifier, any number
+    /// that no other frame under way to this peer has, is used by STT alone.
+    /// Refused with 13 or 21 to 23.
+    pub fn wrap(
+        &self,
+        binding: u16,
+        frame: &[u8],
+        segment: u32,
+        identifier: u32,
+        output: &mut [u8],
+    ) -> Result<Wrapped, Refusal> {
+        let wrapped = self
+            .numbers
+            .wrap(binding, frame, segment, identifier, output);
+        Refusal::check(wrapped.code)?;
+        Ok(Wrapped {
+            length: wrapped.length,
+            segments: wrapped.segments,
+        })
+    }
+
+    /// Our own address.
+    pub fn own_address(&self) -> Ipv4Addr {
+        self.raw().own.into()
+    }
+
+    /// The TCP port on which STT is expected.
+    pub fn stt_port(&self) -> u16 {
+        self.raw().port
+    }
+
+    /// The largest outer packet that is written.
+    pub fn mtu(&self) -> u16 {
+        self.raw().mtu
+    }
+
+    /// The addresses of the listed peers, in the order of their numbers.
+    pub fn peers(&self) -> impl ExactSizeIterator<Item = Ipv4Addr> + '_ {
+        let count = usize::from(self.raw().peer_count);
+        let listed = self.raw().peers.iter().take(count);
+        listed.map(|peer| peer.address.into())
+    }
+
+    /// The bindings, in the order of their numbers.
+    pub fn bindings(&self) -> impl Iterator<Item = Binding> + '_ {
+        let raw = self.raw();
+        (0..usize::from(raw.binding_count)).filter_map(|number| {
+            Some(Binding {
+                peer: u16::from(*raw.owners.get(number)?),
+                kind: Kind::try_from(*raw.kinds.get(number)?).ok()?,
+                network: *raw.networks.get(number)?,
+                tenant: *raw.tenants.get(number)?,
+            })
+        })
+    }
+
+    /// The frames under way from a peer, by slot; none for a number that no
+    /// peer can have.
+    pub fn pending(&self, peer: u16) -> [Option<Pending>; 4] {
+        let peer = self.raw().peers.get(usize::from(peer));
+        peer.map_or([None; 4], |peer| peer.row.slots.map(pending))
+    }
+
+    /// The endpoint for the calls with plain numbers.
+    pub fn as_numbers(&mut self) -> &mut numbers::Endpoint {
+        &mut self.numbers
+    }
+
+    fn raw(&self) -> &ffi::Endpoint {
+        &self.numbers.raw
+    }
+}
+
+fn pending(slot: ffi::Slot) -> Option<Pending> {
+    slot.pending.then_some(Pending {
+        identifier: slot.identifier,
+        length: slot.frame_length,
+        age: slot.age,
+    })
+}
+
+/// An endpoint from a start with plain numbers, a refused one too.
+impl From<numbers::Endpoint> for Endpoint {
+    fn from(numbers: numbers::Endpoint) -> Endpoint {
+        Endpoint { numbers }
+    }
+}
+
+impl numbers::Receipt {
+    /// The answer in the crate's own types, the frame cut out of the packet or
+    /// the memory that the receive had.
+    pub fn read<'a>(self, packet: &'a [u8], memory: &'a [u8]) -> Result<Received<'a>, Refusal> {
+        if self.code == 1 {
+            return Ok(Received::Pending);
+        }
+        Refusal::check(self.code)?;
+        Ok(Received::Delivered(Frame {
+            tenant: self.tenant,
+            binding: self.binding,
+            place: self.place,
+            bytes: self.place.view(packet, memory),
+        }))
+    }
+}

@@ -1,0 +1,130 @@
+//! The archive's structs and functions, as `crates/export/src` declares them. A
+//! slice crosses as a pointer and a length, a lent endpoint as a pointer.
+
+use core::mem::{align_of, offset_of, size_of};
+
+pub const PEERS: usize = 8;
+pub const BINDINGS: usize = 64;
+pub const SLOTS: usize = 4;
+
+#[repr(C)]
+#[derive(Clone, Copy, Debug, PartialEq, Eq)]
+pub struct Slot {
+    pub identifier: u32,
+    pub frame_length: u16,
+    pub age: u8,
+    pub pending: bool,
+}
+
+#[repr(C)]
+#[derive(Clone, Copy, Debug, PartialEq, Eq)]
+pub struct Row {
+    pub slots: [Slot; SLOTS],
+}
+
+#[repr(C)]
+#[derive(Clone, Copy, Debug, PartialEq, Eq)]
+pub struct Peer {
+    pub row: Row,
+    pub address: u32,
+}
+
+#[repr(C)]
+#[derive(Clone, Copy, Debug, PartialEq, Eq)]
+pub struct Endpoint {
+    pub networks: [u64; BINDINGS],
+    pub peers: [Peer; PEERS],
+    pub own: u32,
+    pub tenants: [u16; BINDINGS],
+    pub port: u16,
+    pub mtu: u16,
+    pub peer_count: u16,
+    pub binding_count: u16,
+    pub kinds: [u8; BINDINGS],
+    pub owners: [u8; BINDINGS],
+}
+
+#[repr(C)]
+pub struct Started {
+    pub endpoint: Endpoint,
+    pub code: u8,
+}
+
+#[repr(C)]
+pub struct Addition {
+    pub number: u16,
+    pub code: u8,
+}
+
+#[repr(C)]
+pub struct Receipt {
+    pub start: usize,
+    pub length: usize,
+    pub tenant: u16,
+    pub binding: u16,
+    pub code: u8,
+    pub in_memory: bool,
+}
+
+#[repr(C)]
+pub struct Wrapped {
+    pub length: usize,
+    pub segments: usize,
+    pub code: u8,
+}
+
+extern "C" {
+    pub fn niulassenc_start(own: u32, port: u16, mtu: u16) -> Started;
+
+    pub fn niulassenc_add_peer(endpoint: *mut Endpoint, address: u32) -> Addition;
+
+    pub fn niulassenc_add_binding(
+        endpoint: *mut Endpoint,
+        peer: u16,
+        kind: u8,
+        network: u64,
+        tenant: u16,
+    ) -> Addition;
+
+    pub fn niulassenc_receive(
+        endpoint: *mut Endpoint,
+        packet: *const u8,
+        packet_length: usize,
+        memory: *mut u8,
+        memory_length: usize,
+    ) -> Receipt;
+
+    pub fn niulassenc_tick(endpoint: *mut Endpoint);
+
+    pub fn niulassenc_wrap(
+        endpoint: *const Endpoint,
+        binding: u16,
+        frame: *const u8,
+        frame_length: usize,
+        segment: u32,
+        identifier: u32,
+        output: *mut u8,
+        output_length: usize,
+    ) -> Wrapped;
+}
+
+/// Stops the build where a size or an offset is not the archive's.
+macro_rules! layout {
+    ($name:ident: $size:literal, $align:literal; $($field:ident $at:literal),*) => {
+        const _: () = {
+            assert!(size_of::<$name>() == $size);
+            assert!(align_of::<$name>() == $align);
+            $(assert!(offset_of!($name, $field) == $at);)*
+        };
+    };
+}
+
+layout!(Slot: 8, 4; identifier 0, frame_length 4, age 6, pending 7);
+layout!(Row: 32, 4; slots 0);
+layout!(Peer: 36, 4; row 0, address 32);
+layout!(Endpoint: 1072, 8; networks 0, peers 512, own 800, tenants 804, port 932, mtu 934,
+    peer_count 936, binding_count 938, kinds 940, owners 1004);
+layout!(Started: 1080, 8; endpoint 0, code 1072);
+layout!(Addition: 4, 2; number 0, code 2);
+layout!(Receipt: 24, 8; start 0, length 8, tenant 16, binding 18, code 20, in_memory 21);
+layout!(Wrapped: 24, 8; length 0, segments 8, code 16);

@@ -1,0 +1,65 @@
+//! A tunnel endpoint for VXLAN, NVGRE and STT whose every call is proved.
+//!
+//! Outer IPv4 packets go in; inner Ethernet frames come out, each with the
+//! tenant whose it is. STT is reassembled in memory that the caller lends. This
+//! crate is a thin, safe cover over the archive that `rt staticlib export`
+//! writes: it allocates nothing, keeps no global state, and needs no `std`.
+//!
+//! ```
+//! use niulassenc::{Endpoint, Kind, Received, Refusal, MEMORY_NEEDED};
+//! use std::net::Ipv4Addr;
+//!
+//! # fn main() -> Result<(), Refusal> {
+//! let mut endpoint = Endpoint::start(Ipv4Addr::new(10, 0, 0, 1), 7471, 1500)?;
+//! let peer = endpoint.add_peer(Ipv4Addr::new(10, 0, 0, 2))?;
+//! endpoint.add_binding(peer, Kind::Vxlan, 22, 7)?;
+//! let mut memory = vec![0; MEMORY_NEEDED];
+//!
+//! let packet = [
+//!     0x45, 0, 0, 0x32, 0, 0, 0x40, 0, 0x40, 0x11, 0x26, 0xb9, 10, 0, 0, 2, 10, 0, 0, 1, // IPv4
+//!     0xcc, 0xb8, 0x12, 0xb5, 0, 0x1e, 0, 0, // UDP, port 4789
+//!     0x08, 0, 0, 0, 0, 0, 22, 0, // VXLAN, network 22
+//!     2, 0, 0, 0, 0, 2, 2, 0, 0, 0, 0, 1, 0x88, 0xb5, // the inner frame
+//! ];
+//! match endpoint.receive(&packet, &mut memory) {
+//!     Ok(Received::Delivered(frame)) => {
+//!         assert_eq!(frame.tenant, 7);
+//!         assert_eq!(frame.bytes, &packet[36..]);
+//!     }
+//!     Ok(Received::Pending) => unreachable!("a VXLAN packet holds a whole frame"),
+//!     Err(refusal) => panic!("dropped: {refusal}"),
+//! }
+//!
+//! // The same packet for somebody else is dropped, and the reason is told.
+//! let mut stray = packet;
+//! stray[19] = 9;
+//! stray[11] = 0xb1;
+//! let refused = endpoint.receive(&stray, &mut memory);
+//! assert_eq!(refused, Err(Refusal::NotForUs));
+//! assert_eq!(Refusal::NotForUs.number(), 6);
+//!
+//! // Once in a while: frames that stay incomplete for four ticks are given up.
+//! endpoint.tick();
+//! # Ok(())
+//! # }
+//! ```
+
+#![no_std]
+#![warn(missing_docs)]
+#![deny(unsafe_op_in_unsafe_fn, clippy::undocumented_unsafe_blocks)]
+
+mod endpoint;
+mod ffi;
+mod kind;
+pub mod numbers;
+mod place;
+mod refusal;
+
+pub use endpoint::Wrapped;
+pub use endpoint::{Binding, Endpoint, Frame, Pending, Received};
+pub use kind::Kind;
+pub use place::Place;
+pub use refusal::Refusal;
+
+/// Least length of the reassembly memory.
+pub const MEMORY_NEEDED: usize = 55_296;

@@ -1,0 +1,155 @@
+//! The calls with plain numbers in and out, as C has them: an answer is document
+//! 01's number, an address or a kind is a number that may be out of its range.
+//! The crate's own types stand on these; they serve who has numbers anyway.
+
+use crate::ffi;
+use crate::place::Place;
+
+/// What stands for a tenant, a binding or a new number where there is none.
+pub const NONE: u16 = 0xFFFF;
+
+/// An endpoint. It refers to nothing: it may be moved and copied.
+#[derive(Clone, Debug, PartialEq, Eq)]
+pub struct Endpoint {
+    pub(crate) raw: ffi::Endpoint,
+}
+
+/// The answer of an adding call.
+#[derive(Clone, Copy, Debug, PartialEq, Eq)]
+pub struct Addition {
+    /// The new peer's or binding's number; [`NONE`] in a refusal.
+    pub number: u16,
+    /// 0, 18, 19 or 20.
+    pub code: u8,
+}
+
+/// The answer of a receive.
+#[derive(Clone, Copy, Debug, PartialEq, Eq)]
+pub struct Receipt {
+    /// Where the frame lies; the empty place unless the code is 0.
+    pub place: Place,
+    /// The tenant whose frame it is; [`NONE`] unless the code is 0.
+    pub tenant: u16,
+    /// The number of the binding; [`NONE`] unless the code is 0.
+    pub binding: u16,
+    /// 0, 1, or 2 to 17.
+    pub code: u8,
+}
+
+/// The answer of a wrap.
+#[derive(Clone, Copy, Debug, PartialEq, Eq)]
+pub struct Wrapped {
+    /// Bytes of the packet; 0 in a refusal.
+    pub length: usize,
+    /// How many segments the frame has; 0 in a refusal.
+    pub segments: usize,
+    /// 0, 13, 21, 22 or 23.
+    pub code: u8,
+}
+
+impl Endpoint {
+    /// A fresh endpoint and 0; or 18 and an endpoint with every number 0, to
+    /// which nothing can be added.
+    pub fn start(own: u32, stt_port: u16, mtu: u16) -> (Endpoint, u8) {
+        // SAFETY: three numbers go in and a struct comes back by value, whose
+        // layout `ffi` asserts. Every contract of the archive is proved for
+        // every input, so it has no precondition beyond its types.
+        let started = unsafe { ffi::niulassenc_start(own, stt_port, mtu) };
+        let endpoint = Endpoint {
+            raw: started.endpoint,
+        };
+        (endpoint, started.code)
+    }
+
+    /// Lists a peer.
+    #[inline]
+    pub fn add_peer(&mut self, address: u32) -> Addition {
+        // SAFETY: the pointer is that of an endpoint borrowed alone for the
+        // whole call; the archive keeps no pointer beyond it.
+        let added = unsafe { ffi::niulassenc_add_peer(&mut self.raw, address) };
+        Addition {
+            number: added.number,
+            code: added.code,
+        }
+    }
+
+    /// Binds a network of a listed peer to a tenant. Kinds are 1 (VXLAN), 2
+    /// (NVGRE) and 3 (STT).
+    #[inline]
+    pub fn add_binding(&mut self, peer: u16, kind: u8, network: u64, tenant: u16) -> Addition {
+        // SAFETY: as in `add_peer`.
+        let added =
+            unsafe { ffi::niulassenc_add_binding(&mut self.raw, peer, kind, network, tenant) };
+        Addition {
+            number: added.number,
+            code: added.code,
+        }
+    }
+
+    /// Takes one outer packet, first byte of the IP header.
+    #[inline]
+    pub fn receive(&mut self, packet: &[u8], memory: &mut [u8]) -> Receipt {
+        // SAFETY: both pointers come with the lengths of slices that are
+        // borrowed for the whole call, the memory and the endpoint alone, so
+        // the three do not overlap. The archive writes within the memory only
+        // and keeps no pointer.
+        let receipt = unsafe {
+            ffi::niulassenc_receive(
+                &mut self.raw,
+                packet.as_ptr(),
+                packet.len(),
+                memory.as_mut_ptr(),
+                memory.len(),
+            )
+        };
+        Receipt {
+            place: Place {
+                in_memory: receipt.in_memory,
+                start: receipt.start,
+                length: receipt.length,
+            },
+            tenant: receipt.tenant,
+            binding: receipt.binding,
+            code: receipt.code,
+        }
+    }
+
+    /// One tick of the clock.
+    #[inline]
+    pub fn tick(&mut self) {
+        // SAFETY: as in `add_peer`.
+        unsafe { ffi::niulassenc_tick(&mut self.raw) }
+    }
+
+    /// Writes segment number `segment` of a frame to the start of `output`.
+    #[inline]
+    pub fn wrap(
+        &self,
+        binding: u16,
+        frame: &[u8],
+        segment: u32,
+        identifier: u32,
+        output: &mut [u8],
+    ) -> Wrapped {
+        // SAFETY: as in `receive`: two slices with their lengths and the
+        // endpoint, borrowed for the whole call, the output alone. The archive
+        // writes within the output only.
+        let wrapped = unsafe {
+            ffi::niulassenc_wrap(
+                &self.raw,
+                binding,
+                frame.as_ptr(),
+                frame.len(),
+                segment,
+                identifier,
+                output.as_mut_ptr(),
+                output.len(),
+            )
+        };
+        Wrapped {
+            length: wrapped.length,
+            segments: wrapped.segments,
+            code: wrapped.code,
+        }
+    }
+}
