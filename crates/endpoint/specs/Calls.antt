@@ -1,14 +1,14 @@
 -- The calls, as their contracts give them, are the steps of the theory of runs: a receive is `receives`, a tick is `next .. tick`, a set-up has every slot free.
 -- So what is proved of `runs` is proved of every list of these calls, each given the endpoint and the memory that the last one left.
 -- Assumes nothing.
-use Prim.Native.Nat.{ℕ, zero, suc, _+_, _<_, _≤_, min}
+use Prim.Native.Nat.{ℕ, _+_, _<_, _≤_, min}
 use mathlib.Core.Path.{_≡_, refl, sym, ap, ap₂, _∙_}
 use mathlib.Core.Bool.{Bool, true, false, cond}
 use mathlib.Core.List.{List, [], _∷_, map}
 use lib.ListN.{length, getD, set}
 use lib.Seq.{map-set-same, set-getD}
 use lib.Dec.{ltb}
-use Rattle.reassembly.specs.Base.{caseB}
+use Rattle.reassembly.specs.Base.{caseB, map-set}
 use Rattle.reassembly.specs.Slots.{noRow}
 use Rattle.reassembly.specs.Receive.{Seen, stranger, plain, segment, Event, receive, tick}
 use Rattle.reassembly.specs.SetUp.{World, Endpoint as Ends, Said, receives, saidOf, next, runs, Promised}
@@ -19,7 +19,6 @@ use Rattle.endpoint.specs.Receive.{answers, layers, headerOf, Step, rowA
 use Rattle.endpoint.specs.ReceiveLaws.{header-kept, header-whose, config-few}
 use Rattle.endpoint.specs.declared.answer.Drop.the-variants as D
 use Rattle.endpoint.specs.declared.answer.Received.the-variants as R
-use Rattle.endpoint.specs.declared.config.Peer.{Peer}
 use Rattle.endpoint.specs.declared.config.Endpoint.{Endpoint}
 
 -- ---- a row put back
@@ -29,14 +28,9 @@ unfolding configOf withRow
 config-row e p row =
     rw (map-set-same addressOf (e .peers) p (record { row = row; address = getD (e .peers) p noPeer .address }) noPeer refl)
 
-map-set : (l : List Peer) (p : ℕ) (x : Peer) → map rowOf (set l p x) ≡ set (map rowOf l) p (x .row)
-map-set [] p x = refl
-map-set (y ∷ l) zero x = refl
-map-set (y ∷ l) (suc p) x = ap (λ (r : List Row). y .row ∷ r) (map-set l p x)
-
 pub rows-row : (e : Endpoint) (p : ℕ) (row : Row) → rowsOf (withRow e p row) ≡ set (rowsOf e) p row
 unfolding rowsOf withRow
-rows-row e p row = map-set (e .peers) p (record { row = row; address = getD (e .peers) p noPeer .address })
+rows-row e p row = map-set rowOf (e .peers) p (record { row = row; address = getD (e .peers) p noPeer .address })
 
 pub world-row : (e : Endpoint) (p : ℕ) (row : Row) (m : List ℕ)
     → worldOf (withRow e p row) m ≡ record { ends = record { config = configOf e; rows = set (rowsOf e) p row }; mem = m }

@@ -196,10 +196,11 @@ addBindingOf e peer kind network tenant =
 abbrev pub olderPeer : Peer → Peer
 olderPeer p = record { row = olderRow (p .row); address = p .address }
 
-unfoldable pub tickOf : Endpoint → Endpoint
-tickOf e = record {
+-- the endpoint with these peers, and all else as it is
+abbrev pub withPeers : Endpoint → List Peer → Endpoint
+withPeers e l = record {
   networks = e .networks;
-  peers = map olderPeer (e .peers);
+  peers = l;
   own = e .own;
   tenants = e .tenants;
   port = e .port;
@@ -209,6 +210,9 @@ tickOf e = record {
   kinds = e .kinds;
   owners = e .owners;
 }
+
+unfoldable pub tickOf : Endpoint → Endpoint
+tickOf e = withPeers e (map olderPeer (e .peers))
 
 -- ---- a set-up is what a start and any adding calls leave, refused ones too (document 01, "Whose packet it is")
 

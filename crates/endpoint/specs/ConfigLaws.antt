@@ -13,7 +13,7 @@ use lib.Seq.{getD-set-same, getD-set-other}
 use lib.Dec.{eqb}
 use borrow.Author.Tests.{eq-eqb, ne-eqb, le-leb, leb-false, eqb-true, eqb-false, not-false}
 use Rattle.wire.specs.Checks.{Check, _⇒_, first, Passed}
-use Rattle.reassembly.specs.Base.{caseB, either, clash}
+use Rattle.reassembly.specs.Base.{caseB, either, clash, map-set}
 use Rattle.reassembly.specs.declared.slot.Row.{Row}
 use Rattle.reassembly.specs.Slots.{olderRow}
 use Rattle.endpoint.specs.declared.answer.ConfigRefusal.the-variants as C
@@ -34,16 +34,16 @@ cases P refused [] accepted f g = g tt
 cases P refused ((true ⇒ r) ∷ checks) accepted f g = f r
 cases P refused ((false ⇒ r) ∷ checks) accepted f g = cases P refused checks accepted f (λ p. g (refl, p))
 
-start-cases : (P : Endpoint → Type 0) (own port mtu : ℕ) → P (fresh 0 0 0) → (Passed (startChecks own port mtu) → P (fresh own port mtu)) → P (startOf own port mtu .endpoint)
+pub start-cases : (P : Endpoint → Type 0) (own port mtu : ℕ) → P (fresh 0 0 0) → (Passed (startChecks own port mtu) → P (fresh own port mtu)) → P (startOf own port mtu .endpoint)
 unfolding startOf
 start-cases P own port mtu f g =
     cases (λ (x : Started). P (x .endpoint)) refusedStart (startChecks own port mtu) (record { endpoint = fresh own port mtu; answer = S.Done }) (λ r. f) g
 
-add-peer-cases : (P : Endpoint → Type 0) (e : Endpoint) (address : ℕ) → P e → (Passed (addPeerChecks e address) → P (withAddress e (e .«peer_count») address)) → P (addPeerOf e address .endpoint)
+pub add-peer-cases : (P : Endpoint → Type 0) (e : Endpoint) (address : ℕ) → P e → (Passed (addPeerChecks e address) → P (withAddress e (e .«peer_count») address)) → P (addPeerOf e address .endpoint)
 unfolding addPeerOf
 add-peer-cases P e address f g = cases (λ (x : Configured). P (x .endpoint)) (refusedAdd e) (addPeerChecks e address) (peerAdded e address) (λ r. f) g
 
-add-binding-cases : (P : Endpoint → Type 0) (e : Endpoint) (peer kind network tenant : ℕ) → P e
+pub add-binding-cases : (P : Endpoint → Type 0) (e : Endpoint) (peer kind network tenant : ℕ) → P e
     → (Passed (addBindingChecks e peer kind network) → P (withBinding e (e .«binding_count») peer kind network tenant)) → P (addBindingOf e peer kind network tenant .endpoint)
 unfolding addBindingOf
 add-binding-cases P e peer kind network tenant f g =
@@ -146,12 +146,6 @@ find-binding-some c peer kind network b e =
     let all = binds-all (c .networks) (c .kinds) (c .owners) peer kind network b (w .passes) in
     record { below = w .below; network-is = all .0; kind-is = all .1; owner-is = all .2 }
 
-pub peer-below : (e : Endpoint) (address p : ℕ) → findPeer (configOf e) address ≡ some p → p < 8
-unfolding configOf
-peer-below e address p h =
-    let b : p < min (e .«peer_count») 8 = find-peer-some (configOf e) address p h .below in
-    omega arith
-
 pub binding-below : (e : Endpoint) (peer kind network b : ℕ) → findBinding (configOf e) peer kind network ≡ some b → b < 64
 unfolding configOf
 binding-below e peer kind network b h =
@@ -217,23 +211,18 @@ none-of : (o : Option ℕ) → isSome o ≡ false → o ≡ none
 none-of none e = refl
 none-of (some i) e = clash (cc)
 
-addresses-set : (l : List Peer) (n address : ℕ) (r : Row) → map addressOf (set l n (record { row = r; address = address })) ≡ set (map addressOf l) n address
-addresses-set [] n address r = refl
-addresses-set (p ∷ l) zero address r = refl
-addresses-set (p ∷ l) (suc n) address r = ap (λ (t : List ℕ). p .address ∷ t) (addresses-set l n address r)
-
 module _ (e : Endpoint) (address : ℕ) where
   new-address : e .«peer_count» < length (e .peers) → addressAt (withAddress e (e .«peer_count») address) (e .«peer_count») ≡ address
   unfolding addressAt withAddress
   new-address h =
-      ap (λ (l : List ℕ). getD l (e .«peer_count») 0) (addresses-set (e .peers) (e .«peer_count») address (getD (e .peers) (e .«peer_count») noPeer .row))
+      ap (λ (l : List ℕ). getD l (e .«peer_count») 0) (map-set addressOf (e .peers) (e .«peer_count») (record { row = getD (e .peers) (e .«peer_count») noPeer .row; address = address }))
       ∙ getD-set-same (map addressOf (e .peers)) (e .«peer_count») address 0 (omega (arith, length-map (e .peers) addressOf))
 
   old-address : (i : ℕ) → i < e .«peer_count» → addressAt (withAddress e (e .«peer_count») address) i ≡ addressAt e i
   unfolding addressAt withAddress
   old-address i h =
       let d : i ≢ e .«peer_count» = λ q. absurd (omega (arith, q)) in
-      ap (λ (l : List ℕ). getD l i 0) (addresses-set (e .peers) (e .«peer_count») address (getD (e .peers) (e .«peer_count») noPeer .row))
+      ap (λ (l : List ℕ). getD l i 0) (map-set addressOf (e .peers) (e .«peer_count») (record { row = getD (e .peers) (e .«peer_count») noPeer .row; address = address }))
       ∙ getD-set-other (map addressOf (e .peers)) (e .«peer_count») i address 0 d
 
   -- no listed peer has it

@@ -2,9 +2,10 @@
 -- with ticks and other senders' packets between; and by the claim each is delivered once in that run, to the tenant of its Context ID.
 use mathlib.Core.Path.{_≡_, refl, sym, ap, subst, _∙_}
 use mathlib.Core.List.{List, [], map}
-use Prim.Native.Nat.{ℕ, zero, suc, _≤_, _<_}
+use Prim.Native.Nat.{ℕ, _≤_, _<_}
 use native.Mathlib.Omega.{arith}
 use lib.ListN.{length, take, drop}
+use Rattle.reassembly.specs.Base.{below-two}
 use Rattle.reassembly.specs.declared.slot.Row.{Row}
 use Rattle.reassembly.specs.Receive.{Answer, bare, Seen, segment}
 use Rattle.reassembly.specs.Runs.{strike}
@@ -31,12 +32,6 @@ pub record Hypotheses (c : Config) (p : ℕ) (frames : List Frame) (items less t
   pub alike : strike (from answers Config layers c p) (map (event frames) items) ≡ strike (from answers Config layers c p) (map (event frames) less)
 
 -- ---- the cuts
-
--- what is to be shown of each number below two
-abbrev below-two : (P : ℕ → Type 0) → P 0 → P 1 → (j : ℕ) → j < 2 → P j
-below-two P a b zero l = a
-below-two P a b (suc zero) l = b
-below-two P a b (suc (suc j)) l = absurd (omega arith)
 
 abbrev cut-a : Cut answers (headerOf listed) (judgeOf listed) 0 frame-a
 cut-a = record {

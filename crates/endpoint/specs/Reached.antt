@@ -4,22 +4,20 @@
 use Prim.Native.Nat.{ℕ, zero, suc, _+_, _^_, _<_, min}
 use mathlib.Core.Path.{_≡_, refl, sym, ap, ap₂, subst, _∙_}
 use mathlib.Core.Bool.{true, false}
-use mathlib.Core.List.{List, [], _∷_, _++_, map}
+use mathlib.Core.List.{List, [], _∷_, _++_}
 use native.Mathlib.Omega.{arith}
 use lib.ListN.{getD, set, replicate}
 use Rattle.wire.specs.Checks.{Check, _⇒_, first}
-use Rattle.endpoint.specs.Config.{Config, configOf, addressOf, noPeer, findPeer, isSome, fresh, startChecks, refusedStart, startOf, refusedAdd, addPeerChecks, withAddress, addPeerOf, addBindingChecks, withBinding, addBindingOf, tickOf, Adding, addPeer, addBinding, added, addedAll, setUp}
-use Rattle.endpoint.specs.ConfigLaws.{Valid, set-up-valid, config-tick}
+use Rattle.reassembly.specs.Base.{map-set}
+use Rattle.endpoint.specs.Config.{Config, configOf, addressOf, noPeer, findPeer, isSome, fresh, startOf, refusedAdd, addPeerChecks, withAddress, addPeerOf, addBindingChecks, withBinding, addBindingOf, tickOf, Adding, addPeer, addBinding, added, addedAll, setUp}
+use Rattle.endpoint.specs.ConfigLaws.{start-cases, add-peer-cases, add-binding-cases, Valid, set-up-valid, config-tick}
 use Rattle.endpoint.specs.ConfigExits.{peerAdded, bindingAdded}
 use Rattle.endpoint.specs.Receive.{stepOf, withRow}
 use Rattle.endpoint.specs.Calls.{config-row}
 use Rattle.endpoint.specs.WrapLaws.{Alike, Ready}
 use Rattle.endpoint.specs.declared.answer.ConfigRefusal.{ConfigRefusal}
-use Rattle.endpoint.specs.declared.answer.Start.the-variants as S
-use Rattle.endpoint.specs.declared.config.Peer.{Peer}
 use Rattle.endpoint.specs.declared.config.Endpoint.{Endpoint}
 use Rattle.endpoint.specs.declared.config.Configured.{Configured}
-use Rattle.endpoint.specs.declared.config.Started.{Started}
 
 -- ---- the calls
 
@@ -58,12 +56,7 @@ pub record Reached (e : Endpoint) : Type 0 where
   pub typed : AllTyped calls
   pub is : leftBy (startOf own port mtu .endpoint) calls ≡ e
 
--- ---- ordered checks, of one answer and of two
-
-keeps : {R A : Type 0} (P : A → Type 0) (f : R → A) (checks : List (Check R)) (x : A) → ((r : R) → P (f r)) → P x → P (first f checks x)
-keeps P f [] x h k = k
-keeps P f ((true ⇒ r) ∷ checks) x h k = h r
-keeps P f ((false ⇒ r) ∷ checks) x h k = keeps P f checks x h k
+-- ---- ordered checks of two endpoints
 
 relates : {R A : Type 0} (P : A → A → Type 0) (f g : R → A) (checks : List (Check R)) (x y : A) → ((r : R) → P (f r) (g r)) → P x y → P (first f checks x) (first g checks y)
 relates P f g [] x y h k = k
@@ -119,14 +112,9 @@ withBindingIn c n peer kind network tenant = record {
   bindings = min (n + 1) 64;
 }
 
-addresses-set : (l : List Peer) (n : ℕ) (x : Peer) → map addressOf (set l n x) ≡ set (map addressOf l) n (x .address)
-addresses-set [] n x = refl
-addresses-set (y ∷ l) zero x = refl
-addresses-set (y ∷ l) (suc n) x = ap (λ (r : List ℕ). y .address ∷ r) (addresses-set l n x)
-
 config-peer : (e : Endpoint) (n address : ℕ) → configOf (withAddress e n address) ≡ withPeerIn (configOf e) n address
 unfolding configOf withAddress
-config-peer e n address = rw (addresses-set (e .peers) n (record { row = getD (e .peers) n noPeer .row; address = address }))
+config-peer e n address = rw (map-set addressOf (e .peers) n (record { row = getD (e .peers) n noPeer .row; address = address }))
 
 config-binding : (e : Endpoint) (n peer kind network tenant : ℕ) → configOf (withBinding e n peer kind network tenant) ≡ withBindingIn (configOf e) n peer kind network tenant
 unfolding configOf withBinding
@@ -190,10 +178,7 @@ unfolding fresh
 fresh-fit own port mtu h = record { port = h; networks = zeros 64 }
 
 start-fit : (own port mtu : ℕ) → port < 256 ^ 2 → Fit (startOf own port mtu .endpoint)
-unfolding startOf
-start-fit own port mtu h =
-    keeps (λ (x : Started). Fit (x .endpoint)) refusedStart (startChecks own port mtu) (record { endpoint = fresh own port mtu; answer = S.Done })
-    (λ r. fresh-fit 0 0 0 (omega arith)) (fresh-fit own port mtu h)
+start-fit own port mtu h = start-cases Fit own port mtu (fresh-fit 0 0 0 (omega arith)) (λ p. fresh-fit own port mtu h)
 
 peer-fit : (e : Endpoint) (n address : ℕ) → Fit e → Fit (withAddress e n address)
 unfolding withAddress
@@ -204,12 +189,10 @@ unfolding withBinding
 binding-fit e n peer kind network tenant h f = record { port = f .port; networks = set-fits (e .networks) n network h (f .networks) }
 
 left-fit : (e : Endpoint) (c : Call) → Typed c → Fit e → Fit (left e c)
-unfolding added addPeerOf addBindingOf tickOf withRow
-left-fit e (add (addPeer address)) h f =
-    keeps (λ (x : Configured). Fit (x .endpoint)) (refusedAdd e) (addPeerChecks e address) (peerAdded e address) (λ r. f) (peer-fit e (e .«peer_count») address f)
+unfolding added tickOf withRow
+left-fit e (add (addPeer address)) h f = add-peer-cases Fit e address f (λ p. peer-fit e (e .«peer_count») address f)
 left-fit e (add (addBinding peer kind network tenant)) h f =
-    keeps (λ (x : Configured). Fit (x .endpoint)) (refusedAdd e) (addBindingChecks e peer kind network) (bindingAdded e peer kind network tenant) (λ r. f)
-    (binding-fit e (e .«binding_count») peer kind network tenant h f)
+    add-binding-cases Fit e peer kind network tenant f (λ p. binding-fit e (e .«binding_count») peer kind network tenant h f)
 left-fit e (got m k) h f = record { port = f .port; networks = f .networks }
 left-fit e ticked h f = record { port = f .port; networks = f .networks }
 

@@ -9,7 +9,7 @@ use native.Mathlib.Omega.{arith}
 use native.Mathlib.Nat.{suc-mul, zero-mul, add-suc, zero-add, mul-le-mul-right}
 use lib.ListN.{length, getD, take}
 use Rattle.wire.specs.Bytes.{Bytes, part}
-use Rattle.wire.specs.BytesLaws.{part-length}
+use Rattle.wire.specs.BytesLaws.{part-length, part-empty}
 use Rattle.wire.specs.Ipv4.{IsIpv4}
 use Rattle.wire.specs.Carriage.{Tunnels}
 use Rattle.wire.specs.Segment.{IsSegment}
@@ -17,7 +17,7 @@ use Rattle.wire.specs.Frame.{IsFrame}
 use Rattle.wire.specs.Stt.{IsStt}
 use Rattle.wire.specs.Write.{sttFrame}
 use Rattle.wire.specs.WriteLaws.{stt-is, stt-length}
-use Rattle.wire.specs.WriteIs.{part-short, part-join, part-empty, part-all, wrote-front, vxlan-bytes, nvgre-bytes}
+use Rattle.wire.specs.WriteIs.{part-short, part-join, part-all, wrote-front, vxlan-bytes, nvgre-bytes}
 use Rattle.reassembly.specs.Slots.{noMark}
 use Rattle.reassembly.specs.Receive.{segment, good}
 use Rattle.reassembly.specs.Mix as M
@@ -255,33 +255,29 @@ module _ (own peer port network mtu : ℕ) (frame : List ℕ) (identifier : ℕ)
   abbrev Trip : ℕ → Type 0
   Trip kind = Meets own peer port kind network e′ b′ p → Given kind → RoundTrip frame (segmentsOf kind (length frame) mtu) packets e′ b′
 
-  trip-vxlan : network < 256 ^ 3 → Bytes frame → Trip 1
-  trip-vxlan h bytes w given =
-      let one : segmentsOf 1 (length frame) mtu ≡ 1 = one-vxlan (length frame) mtu in
+  -- a kind that takes one packet
+  trip-whole : (kind : ℕ) → segmentsOf kind (length frame) mtu ≡ 1 → Bytes (packetOf kind own peer port network mtu frame 0 identifier)
+      → (IsFrame frame → CarriesWhole own peer kind network frame (packetOf kind own peer port network mtu frame 0 identifier)) → Trip kind
+  trip-whole kind one bytes carries w given =
       let g = given 0 (omega arith) in
-      let is : packets 0 ≡ packetOf 1 own peer port network mtu frame 0 identifier = g .1 in
+      let is : packets 0 ≡ packetOf kind own peer port network mtu frame 0 identifier = g .1 in
       rw one
       (record {
         some-segment = omega arith;
-        answered =
-            whole-answered own peer port 1 network e′ b′ p w frame (g .0) packets
-            (rw (is, packet-vxlan own peer port network mtu frame 0 identifier h) (vxlan-bytes own peer network frame bytes))
-            (rw is (sent-vxlan own peer port network mtu frame 0 identifier own-fits peer-fits h (g .0)));
+        answered = whole-answered own peer port kind network e′ b′ p w frame (g .0) packets (rw is bytes) (rw is (carries (g .0)));
       })
 
+  trip-vxlan : network < 256 ^ 3 → Bytes frame → Trip 1
+  trip-vxlan h bytes =
+      trip-whole 1 (one-vxlan (length frame) mtu)
+      (rw (packet-vxlan own peer port network mtu frame 0 identifier h) (vxlan-bytes own peer network frame bytes))
+      (sent-vxlan own peer port network mtu frame 0 identifier own-fits peer-fits h)
+
   trip-nvgre : network < 256 ^ 3 → Bytes frame → Trip 2
-  trip-nvgre h bytes w given =
-      let one : segmentsOf 2 (length frame) mtu ≡ 1 = one-nvgre (length frame) mtu in
-      let g = given 0 (omega arith) in
-      let is : packets 0 ≡ packetOf 2 own peer port network mtu frame 0 identifier = g .1 in
-      rw one
-      (record {
-        some-segment = omega arith;
-        answered =
-            whole-answered own peer port 2 network e′ b′ p w frame (g .0) packets
-            (rw (is, packet-nvgre own peer port network mtu frame 0 identifier h) (nvgre-bytes own peer network frame bytes))
-            (rw is (sent-nvgre own peer port network mtu frame 0 identifier own-fits peer-fits h (g .0)));
-      })
+  trip-nvgre h bytes =
+      trip-whole 2 (one-nvgre (length frame) mtu)
+      (rw (packet-nvgre own peer port network mtu frame 0 identifier h) (nvgre-bytes own peer network frame bytes))
+      (sent-nvgre own peer port network mtu frame 0 identifier own-fits peer-fits h)
 
   trip-stt : port < 256 ^ 2 → network < 256 ^ 8 → identifier < 256 ^ 4 → 576 ≤ mtu → Trip 3
   trip-stt port-fits network-fits id-fits least w given =

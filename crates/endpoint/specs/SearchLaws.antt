@@ -95,9 +95,6 @@ module _ (test : ℕ → Bool) where
 
   -- ---- the code's loop: nothing below i passes
 
-  pub more-not : (i : ℕ) → ((j : ℕ) → j < i → test j ≡ false) → test i ≡ false → (j : ℕ) → j < i + 1 → test j ≡ false
-  more-not i h e j l = caseB (eqb j i) (λ q. ap test (eqb-true j i q) ∙ e) (λ q. let d : j ≢ i = eqb-false j i q in h j (omega arith))
-
   pub found-at : (n i : ℕ) → i < n → ((j : ℕ) → j < i → test j ≡ false) → test i ≡ true → F.At i ≡ foundOf (lowest test n)
   found-at n i l h e = sym (ap foundOf (lowest-is n i (record { below = l; passes = e; least = h })))
 

@@ -11,7 +11,7 @@ use Rattle.reassembly.specs.declared.slot.Row.{Row}
 use Rattle.reassembly.specs.Slots.{olderRow}
 use Rattle.endpoint.specs.declared.config.Peer.{Peer}
 use Rattle.endpoint.specs.declared.config.Endpoint.{Endpoint}
-use Rattle.endpoint.specs.Config.{noPeer, olderPeer, tickOf}
+use Rattle.endpoint.specs.Config.{noPeer, olderPeer, withPeers, tickOf}
 
 -- the peers once those before p are older
 unfoldable pub olderBefore : List Peer → ℕ → List Peer
@@ -36,21 +36,6 @@ before-all l =
     ap (λ (t : List Peer). map olderPeer t ++ drop (length l) l) (take-length l)
     ∙ ap (λ (t : List Peer). map olderPeer l ++ t) (drop-length l)
     ∙ append-nil (map olderPeer l)
-
--- an endpoint with these peers
-abbrev pub withPeers : Endpoint → List Peer → Endpoint
-withPeers e l = record {
-  networks = e .networks;
-  peers = l;
-  own = e .own;
-  tenants = e .tenants;
-  port = e .port;
-  mtu = e .mtu;
-  «peer_count» = e .«peer_count»;
-  «binding_count» = e .«binding_count»;
-  kinds = e .kinds;
-  owners = e .owners;
-}
 
 pub none-older : (e : Endpoint) → e ≡ withPeers e (olderBefore (e .peers) 0)
 unfolding olderBefore

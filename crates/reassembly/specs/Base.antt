@@ -1,9 +1,9 @@
--- Small tools that every layer uses: bounded tests over the numbers below n, a table of values, and case analysis that keeps the equation.
+-- Small tools that every layer uses: bounded tests over the numbers below n, a table of values, and case analysis that keeps the equation (of a Bool: wire's).
 -- Assumes nothing.
 use mathlib.Core.Path.{_≡_, refl, sym, ap, subst, _∙_}
 use mathlib.Core.Logic.{_⊎_, inl, inr, _≢_}
 use mathlib.Core.Bool.{Bool, true, false, cond, not, _&&_, _||_}
-use mathlib.Core.List.{List, [], _∷_, _++_}
+use mathlib.Core.List.{List, [], _∷_, _++_, map}
 use mathlib.Core.Option.{Option, none, some}
 use Prim.Native.Nat.{ℕ, zero, suc, _+_, _-_, _*_, _≤_, _<_}
 use native.Mathlib.Omega.{arith}
@@ -12,6 +12,7 @@ use lib.Seq.{ext-getD, getD-at}
 use lib.ListN.{List·getD-append}
 use lib.Dec.{ltb, leb, eqb}
 use borrow.Author.Tests.{ltb-true, ltb-false, eqb-true, eqb-false, lt-ltb, le-ltb, eq-eqb, ne-eqb}
+pub use Rattle.wire.specs.BytesLaws.{caseB}
 
 -- does the test pass at some number below n; at every number below n; the list of a function's values below n
 unfoldable pub someBelow : ℕ → (ℕ → Bool) → Bool
@@ -27,10 +28,6 @@ table zero f = []
 table (suc n) f = table n f ++ (f n ∷ [])
 
 -- case analysis that keeps the equation: a value is handed over with what each case knows. The goal needs no motive.
-pub caseB {ℓ} : {C : Type ℓ} (b : Bool) → (b ≡ true → C) → (b ≡ false → C) → C
-caseB true f g = f refl
-caseB false f g = g refl
-
 pub caseO {ℓ} : {A : Type 0} {C : Type ℓ} (o : Option A) → (o ≡ none → C) → ((a : A) → o ≡ some a → C) → C
 caseO none f g = f refl
 caseO (some a) f g = g a refl
@@ -43,9 +40,28 @@ either (inr b) f g = g b
 pub clash {ℓ} : {C : Type ℓ} → _≡_ {A = ℕ} 0 1 → C
 clash e = absurd (omega arith)
 
+-- what is to be shown of each number below two
+abbrev pub below-two : (P : ℕ → Type 0) → P 0 → P 1 → (j : ℕ) → j < 2 → P j
+below-two P a b zero l = a
+below-two P a b (suc zero) l = b
+below-two P a b (suc (suc j)) l = absurd (omega arith)
+
 -- lt is lt or equal
 pub below-suc : {i n : ℕ} → i < suc n → (i < n) ⊎ (i ≡ n)
 below-suc {i} {n} h = caseB (ltb i n) (λ e. inl (ltb-true i n e)) (λ e. inr (omega (arith, ltb-false i n e)))
+
+-- a search's loop: one number more was looked at
+pub more-not : (f : ℕ → Bool) (i : ℕ) → ((t : ℕ) → t < i → f t ≡ false) → f i ≡ false → (t : ℕ) → t < i + 1 → f t ≡ false
+more-not f i h e t l =
+    caseB (eqb t i)
+    (λ q. ap f (eqb-true t i q) ∙ e)
+    (λ q. let d : t ≢ i = eqb-false t i q in h t (omega arith))
+
+-- a set element of a mapped list
+pub map-set : {A B : Type 0} (f : A → B) (l : List A) (i : ℕ) (x : A) → map f (set l i x) ≡ set (map f l) i (f x)
+map-set f [] i x = refl
+map-set f (y ∷ l) zero x = refl
+map-set {B = B} f (y ∷ l) (suc i) x = ap (λ (t : List B). f y ∷ t) (map-set f l i x)
 
 pub someBelow-ext : (n : ℕ) (f g : ℕ → Bool) → ((i : ℕ) → i < n → f i ≡ g i) → someBelow n f ≡ someBelow n g
 unfolding someBelow

@@ -13,7 +13,7 @@ use borrow.Author.Tests.{eqb-true, eqb-false}
 use Rattle.reassembly.specs.Base.{someBelow, allBelow, table, caseB, either, clash, someBelow-ext, allBelow-ext, table-ext, allBelow-at}
 use Rattle.reassembly.specs.Slots.{Slot, Row, Note, noNote, noteOf, free}
 use Rattle.reassembly.specs.Take.{slotNo, Seg, Ops, Outcome, Rejected, Pending, Complete, NoMemory, AlreadyReceived, Choice, reject, old, fresh, chosen, testedBytes, storedBytes, stored-length, noteAfter, openedSlot, furtherSlot, Effect, rejects, complete, overlaps, frameIn, finish, placed, takeSegment}
-use Rattle.reassembly.specs.TakeFacts.{Fits, Old, Fresh, Tells, chosen-tells, isComplete, not-complete, complete-slot}
+use Rattle.reassembly.specs.TakeFacts.{Fits, Old, Fresh, Tells, chosen-tells, isComplete, not-complete, complete-slot, finish-mem}
 use Rattle.reassembly.specs.Laws.{within, Laws}
 
 -- slot k has received the same below n in both
@@ -201,9 +201,6 @@ module _ (A : Ops) (LA : Laws A) (q : ℕ) (q< : q < 8) where
     pub received : (j i : ℕ) → ((s : ℕ) → s < 4 → j ≢ slotNo q s) → i < 1532 → A .received a′ j i ≡ A .received a j i
     pub byte : (j i : ℕ) → ((s : ℕ) → s < 4 → j ≢ slotNo q s) → i < 1532 → A .byte a′ j i ≡ A .byte a j i
 
-  finish-mem : (s : ℕ) (row : List Slot) (a : A .S) (g : Seg) (note : Note) → finish A q s row a g note .mem ≡ a
-  finish-mem s row a g note = caseB (complete A a (slotNo q s) (g .frame-length)) (λ e. rw e) (λ e. rw e)
-
   finish-row : (s : ℕ) (row : List Slot) (a : A .S) (g : Seg) (note : Note) → s < 4 → RowOk row → RowOk (finish A q s row a g note .row .slots)
   finish-row s row a g note l r = caseB (complete A a (slotNo q s) (g .frame-length)) (λ e. rw e (row-set row s free l r (λ t. clash (cc)))) (λ e. rw e r)
 
@@ -217,7 +214,7 @@ module _ (A : Ops) (LA : Laws A) (q : ℕ) (q< : q < 8) where
       let f′ : g .offset + length (storedBytes g) ≤ g .frame-length = omega (arith, stored-length g) in
       caseB (overlaps A a (slotNo q s) g)
       (λ t. rw t (record { ok = o; received = λ j i n k. refl; byte = λ j i n k. refl }, r))
-      (λ t. rw (t, finish-mem) (
+      (λ t. rw (t, finish-mem A q) (
         record {
           ok = LA .ok-put a _ _ _ o (omega arith) (omega arith);
           received = λ j i n k. LA .received-put-other a _ _ _ o (omega arith) (omega arith) j i (n s l) k;
@@ -230,7 +227,7 @@ module _ (A : Ops) (LA : Laws A) (q : ℕ) (q< : q < 8) where
       let z : g .frame-length ≤ 1532 = e .fits .most in
       let f : g .offset + length (g .bytes) ≤ g .frame-length = e .fits .inside in
       let o₁ : A .Ok (A .clear a (slotNo q s)) = LA .ok-clear a _ o (omega arith) in
-      rw finish-mem (
+      rw (finish-mem A q) (
         record {
           ok = LA .ok-put _ _ _ _ o₁ (omega arith) (omega arith);
           received = λ j i n k. LA .received-put-other _ _ _ _ o₁ (omega arith) (omega arith) j i (n s l) k ∙ LA .received-clear-other a _ o (omega arith) j i (n s l) k;

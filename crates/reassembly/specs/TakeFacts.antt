@@ -138,8 +138,12 @@ pub length-frame : (O : Ops) (m : O .S) (k n : ℕ) → length (frameIn O m k n)
 unfolding frameIn
 length-frame O m k n = length-table n (λ i. O .byte m k i)
 
--- a segment that completes a frame fits, and the slot is one of the four
 module _ (O : Ops) where
+  -- nothing more happens to the memory once the segment has been put
+  pub finish-mem : (p s : ℕ) (row : List Slot) (m : O .S) (g : Seg) (note : Note) → finish O p s row m g note .mem ≡ m
+  finish-mem p s row m g note = caseB (complete O m (slotNo p s) (g .frame-length)) (λ e. rw e) (λ e. rw e)
+
+  -- a segment that completes a frame fits, and the slot is one of the four
   finish-tells : (p s t : ℕ) (row : List Slot) (m : O .S) (g : Seg) (note : Note) → finish O p s row m g note .outcome ≡ Complete t → s ≡ t
   finish-tells p s t row m g note e =
       caseB (complete O m (slotNo p s) (g .frame-length))

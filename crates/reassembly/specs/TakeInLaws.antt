@@ -27,9 +27,6 @@ length-clear : (m : List ℕ) (k : ℕ) → length (clearAt m k) ≡ length m
 unfolding clearAt
 length-clear m k = length-sets m (mapStart k) (replicate 192 0)
 
-finish-mem : (p s : ℕ) (row : List Slot) (m : List ℕ) (g : Seg) → finish bytesOf p s row m g noNote .mem ≡ m
-finish-mem p s row m g = caseB (complete bytesOf m (4 * p + s) (g .frame-length)) (λ e. rw e) (λ e. rw e)
-
 placed-length : (p : ℕ) (row : List Slot) (m : List ℕ) (g : Seg) (c : Choice) → length (placed bytesOf p row m g c .mem) ≡ length m
 placed-length p row m g (reject r) = refl
 placed-length p row m g (old s) =

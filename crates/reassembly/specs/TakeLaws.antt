@@ -8,8 +8,7 @@ use mathlib.Core.Option.{Option, none, some}
 use Prim.Native.Nat.{ℕ, _+_, _*_, _≤_, _<_}
 use native.Mathlib.Omega.{arith}
 use lib.ListN.{length, getD, set}
-use lib.Dec.{eqb}
-use borrow.Author.Tests.{eqb-true, eqb-false, lt-ltb, le-ltb, lt-leb, eq-eqb, ne-eqb}
+use borrow.Author.Tests.{lt-ltb, le-ltb, lt-leb, eq-eqb, ne-eqb}
 use Rattle.reassembly.specs.declared.slot.Found.{Found}
 use Rattle.reassembly.specs.declared.slot.Found.the-variants.{At, Nothing}
 use Rattle.reassembly.specs.declared.take.Decision.{Decision}
@@ -18,7 +17,7 @@ use Rattle.reassembly.specs.declared.take.Taken.{Taken}
 use Rattle.reassembly.specs.Base.{someBelow, allBelow, caseB, clash}
 use Rattle.reassembly.specs.Slots.{Slot, Row, free, first, bears, isFree, Note, noNote, noteOf, first-some, first-is, first-not}
 use Rattle.reassembly.specs.Take.{Seg, Choice, reject, old, fresh, chosen, Effect, finish, placed, rejects, takeSegment, complete, overlaps, furtherSlot, openedSlot, noteAfter, further-row, Rejection, Empty, FrameLength, PastEnd, OtherLength, AlreadyReceived, NoSlot, Rejected, Pending, Complete, NoMemory}
-use Rattle.reassembly.specs.TakeFacts.{Fits, Old, Fresh, chosen-tells, chosen-fits}
+use Rattle.reassembly.specs.TakeFacts.{Fits, Old, Fresh, chosen-tells, chosen-fits, finish-mem}
 use Rattle.reassembly.specs.Store.{bytesOf, takeIn, hasSlots, take-in, receivedAt, clearAt, putAt}
 
 -- ---- the answers of the code
@@ -42,13 +41,6 @@ finished p s row m n =
     (record { row = row; outcome = Pending })
 
 -- ---- the search of a row
-
--- one slot more was looked at
-pub more-not : (f : ℕ → Bool) (i : ℕ) → ((t : ℕ) → t < i → f t ≡ false) → f i ≡ false → (t : ℕ) → t < i + 1 → f t ≡ false
-more-not f i h e t l =
-    caseB (eqb t i)
-    (λ q. ap f (eqb-true t i q) ∙ e)
-    (λ q. let d : t ≢ i = eqb-false t i q in h t (omega arith))
 
 pub found-at : (f : Slot → Bool) (row : List Slot) (s : ℕ) → s < 4 → ((t : ℕ) → t < s → f (getD row t free) ≡ false) → f (getD row s free) ≡ true → At s ≡ foundOf (first f row)
 unfolding foundOf
@@ -110,9 +102,6 @@ finish-taken : (p s : ℕ) (row : List Slot) (m : List ℕ) (g : Seg) (note : No
 unfolding takenOf finished
 finish-taken p s row m g note = caseB (complete bytesOf m (4 * p + s) (g .frame-length)) (λ e. rw e) (λ e. rw e)
 
-finish-mem : (p s : ℕ) (row : List Slot) (m : List ℕ) (g : Seg) (note : Note) → finish bytesOf p s row m g note .mem ≡ m
-finish-mem p s row m g note = caseB (complete bytesOf m (4 * p + s) (g .frame-length)) (λ e. rw e) (λ e. rw e)
-
 module _ (p s : ℕ) (row : Row) (m : List ℕ) where
   pub finish-complete : (n : ℕ) (x : Slot) (b : Bool) → b ≡ allBelow n (λ i. receivedAt m (4 * p + s) i) → b ≡ true → x ≡ free
       → _≡_ {A = Taken} (record { row = record { slots = set (row .slots) s x }; outcome = Complete s }) (finished p s row m n)
@@ -138,7 +127,7 @@ module _ (p s : ℕ) (row : Row) (m : List ℕ) where
       let none-yet : overlaps bytesOf m (4 * p + s) g ≡ false = sym e ∙ t in
       let kept : set (row .slots) s (furtherSlot (getD (row .slots) s free) g) ≡ row .slots = further-row (row .slots) s g (w .pending) in (
         er ∙ rw (none-yet, kept, ← em) (sym (finish-taken p s (row .slots) m₁ g (noteAfter (noteOf (getD (row .slots) s free)) g))),
-        rw (none-yet, kept, ← em) (sym (finish-mem p s (row .slots) m₁ g (noteAfter (noteOf (getD (row .slots) s free)) g))),
+        rw (none-yet, kept, ← em) (sym (finish-mem bytesOf p s (row .slots) m₁ g (noteAfter (noteOf (getD (row .slots) s free)) g))),
       )
 
   pub open-stored : (g : Seg) (m₁ m₂ : List ℕ) (r : Taken)
@@ -148,7 +137,7 @@ module _ (p s : ℕ) (row : Row) (m : List ℕ) where
   open-stored g m₁ m₂ r e₁ e₂ er =
       let at : putAt (clearAt m (4 * p + s)) (4 * p + s) (g .offset) (g .bytes) ≡ m₂ = ap (λ (t : List ℕ). putAt t (4 * p + s) (g .offset) (g .bytes)) (sym e₁) ∙ sym e₂ in (
         er ∙ rw at (sym (finish-taken p s (set (row .slots) s (openedSlot g)) m₂ g (noteAfter noNote g))),
-        rw at (sym (finish-mem p s (set (row .slots) s (openedSlot g)) m₂ g (noteAfter noNote g))),
+        rw at (sym (finish-mem bytesOf p s (set (row .slots) s (openedSlot g)) m₂ g (noteAfter noNote g))),
       )
 
 -- ---- taking

@@ -9,7 +9,7 @@ use native.Mathlib.Omega.{arith}
 use lib.ListN.{length, getD, drop, replicate}
 use lib.Dec.{ltb, eqb}
 use borrow.Author.Tests.{ltb-true}
-use Rattle.reassembly.specs.Base.{caseB, clash, someBelow, allBelow, table}
+use Rattle.reassembly.specs.Base.{caseB, clash, below-two, someBelow, allBelow, table}
 use Rattle.reassembly.specs.Slots.{Note, noMark, noNote, noted, noteOf, older, olderRow, first, bears, isFree}
 use Rattle.reassembly.specs.Take.{Seg, Rejection, Empty, FrameLength, PastEnd, OtherLength, AlreadyReceived, NoSlot, rejectionCode, chosen, complete, overlaps, frameIn, takeSegment}
 use Rattle.reassembly.specs.Laws.{within}
@@ -150,11 +150,6 @@ mixture = given 0 1 ∷ given 1 0 ∷ other tick ∷ other (receive (3 ∷ 7 ∷
 is-mixing : Mixing toyAnswers toy 2 two mixture
 unfolding allBelow
 is-mixing = mixing two toyAnswers toy 2 mixture refl (tt, (tt, (tt, ((λ e. absurd (omega arith)), (tt, (tt, (tt, (tt, (tt, (tt, tt))))))))))
-
-below-two : (P : ℕ → Type 0) → P 0 → P 1 → (j : ℕ) → j < 2 → P j
-below-two P a b zero l = a
-below-two P a b (suc zero) l = b
-below-two P a b (suc (suc j)) l = absurd (omega arith)
 
 cut-a : Cut toyAnswers toy toyJudge 2 frame-a
 cut-a =

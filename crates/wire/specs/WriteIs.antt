@@ -38,10 +38,6 @@ part-join s a e g h k =
     let all : e - a + (g - e) ≡ g - a = omega arith in
     ap (λ (l : List ℕ). take (e - a) (drop a s) ++ take (g - e) l) back ∙ sym (take-add (e - a) (g - e) (drop a s)) ∙ ap (λ (n : ℕ). take n (drop a s)) all
 
-pub part-empty : (s : List ℕ) (a : ℕ) → part s a a ≡ []
-unfolding part
-part-empty s a = let z : a - a ≡ 0 = omega arith in rw z
-
 pub part-all : (s : List ℕ) (e : ℕ) → length s ≤ e → part s 0 e ≡ s
 unfolding part
 part-all s e h = rw sub-zero (take-all e s h)

@@ -6,7 +6,8 @@ use mathlib.Core.Logic.{⊎-elim}
 use Prim.Native.Nat.{ℕ, _≤_, _<_, _-_}
 use native.Mathlib.Omega.{arith}
 use Rattle.endpoint.specs.Config.{binds}
-use Rattle.endpoint.specs.SearchLaws.{more-not, found-at, found-nothing, binds-hit, other-network, other-kind, other-peer}
+use Rattle.reassembly.specs.Base.{more-not}
+use Rattle.endpoint.specs.SearchLaws.{found-at, found-nothing, binds-hit, other-network, other-kind, other-peer}
 use Rattle.endpoint.proofs.search.find_binding.Statement.{statement}
 use Rattle.endpoint.proofs.search.find_binding.Tie as tie
 

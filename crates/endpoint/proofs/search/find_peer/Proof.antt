@@ -6,7 +6,8 @@ use mathlib.Core.List.{map}
 use Prim.Native.Nat.{ℕ, _≤_, _<_, _-_}
 use native.Mathlib.Omega.{arith}
 use Rattle.endpoint.specs.Config.{addressOf, hasAddress}
-use Rattle.endpoint.specs.SearchLaws.{more-not, found-at, found-nothing, has-address, other-address}
+use Rattle.reassembly.specs.Base.{more-not}
+use Rattle.endpoint.specs.SearchLaws.{found-at, found-nothing, has-address, other-address}
 use Rattle.endpoint.proofs.search.find_peer.Statement.{statement}
 use Rattle.endpoint.proofs.search.find_peer.Tie as tie
 

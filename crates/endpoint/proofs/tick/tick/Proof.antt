@@ -4,7 +4,8 @@ use mathlib.Core.Path.{_≡_, _∙_}
 use Prim.Native.Nat.{_≤_, _<_, _-_}
 use native.Mathlib.Omega.{arith}
 use lib.ListN.{length}
-use Rattle.endpoint.specs.TickLaws.{olderBefore, withPeers, none-older, one-older, all-older}
+use Rattle.endpoint.specs.Config.{withPeers}
+use Rattle.endpoint.specs.TickLaws.{olderBefore, none-older, one-older, all-older}
 use Rattle.endpoint.proofs.Sizes.{eight-peers}
 use Rattle.endpoint.proofs.tick.tick.Statement.{statement}
 use Rattle.endpoint.proofs.tick.tick.Tie as tie
