@@ -9,6 +9,7 @@
 #include <string.h>
 
 #include "niulassenc.h"
+#include "packets.h"
 
 /* The boundary is not checked by anything else: the layout of each struct that crosses it. */
 static_assert(sizeof(struct niulassenc_slot) == 8, "slot");
@@ -24,68 +25,7 @@ static_assert(offsetof(struct niulassenc_writing, code) == 16, "writing");
 /* An endpoint's bytes without the 4 of padding at its end, which no promise speaks of. */
 enum { ENDPOINT_BYTES = 1068 };
 
-enum { OWN = 0x0a000002, PEER = 0x0a000001, STT_PORT = 7471 };
-
-/* The frame T, and T on VNI 22 from 10.0.0.1 to 10.0.0.2, whole: cases 2 and 3 of document 01's bench sheet. */
-static const uint8_t frame[14] = {0x02, 0, 0, 0, 0, 0x02, 0x02, 0, 0, 0, 0, 0x01, 0x88, 0xb5};
-static const uint8_t vxlan[50] = {0x45, 0x00, 0x00, 0x32, 0x00, 0x00, 0x40, 0x00, 0x40, 0x11, 0x26, 0xb9, 0x0a,
-                                  0x00, 0x00, 0x01, 0x0a, 0x00, 0x00, 0x02, 0xcc, 0xb8, 0x12, 0xb5, 0x00, 0x1e,
-                                  0x00, 0x00, 0x08, 0x00, 0x00, 0x00, 0x00, 0x00, 0x16, 0x00, 0x02, 0x00, 0x00,
-                                  0x00, 0x00, 0x02, 0x02, 0x00, 0x00, 0x00, 0x00, 0x01, 0x88, 0xb5};
-
 static uint8_t memory[NIULASSENC_MEMORY_BYTES];
-
-static void put16(uint8_t *at, uint32_t value)
-{
-    at[0] = (uint8_t)(value >> 8);
-    at[1] = (uint8_t)value;
-}
-
-static void put32(uint8_t *at, uint32_t value)
-{
-    put16(at, value >> 16);
-    put16(at + 2, value & 0xffff);
-}
-
-/* The checksum of RFC 1071 over `length` bytes, an even number here, on top of `sum`. */
-static uint16_t checksum(uint32_t sum, const uint8_t *bytes, size_t length)
-{
-    for (size_t i = 0; i < length; i += 2)
-        sum += (uint32_t)bytes[i] << 8 | bytes[i + 1];
-    while (sum >> 16)
-        sum = (sum & 0xffff) + (sum >> 16);
-    return (uint16_t)~sum;
-}
-
-/* Writes the segment of an STT frame that carries `length` bytes from `offset` on (draft-davie-stt-06, 3.1 and 3.2). */
-static size_t segment(uint8_t *out, const uint8_t *stt, size_t frame_length, size_t offset, size_t length, uint32_t id)
-{
-    size_t total = 40 + length;
-    uint8_t *tcp = out + 20;
-
-    memset(out, 0, 40);
-    out[0] = 0x45;
-    put16(out + 2, (uint32_t)total);
-    put16(out + 6, 0x4000);
-    out[8] = 64;
-    out[9] = 6;
-    put32(out + 12, PEER);
-    put32(out + 16, OWN);
-    put16(out + 10, checksum(0, out, 20));
-    put16(tcp, 49152);
-    put16(tcp + 2, STT_PORT);
-    put16(tcp + 4, (uint32_t)frame_length);
-    put16(tcp + 6, (uint32_t)offset);
-    put32(tcp + 8, id);
-    tcp[12] = 0x50;
-    tcp[13] = 0x10;
-    put16(tcp + 14, 65535);
-    memcpy(tcp + 20, stt + offset, length);
-    /* RFC 793's pseudo-header: both addresses, the protocol and the length */
-    uint32_t pseudo = (PEER >> 16) + (PEER & 0xffff) + (OWN >> 16) + (OWN & 0xffff) + 6 + 20 + (uint32_t)length;
-    put16(tcp + 16, checksum(pseudo, tcp, 20 + length));
-    return total;
-}
 
 /* Receives, prints the answer, and shows that what is delivered is T. */
 static struct niulassenc_receipt receive(struct niulassenc_endpoint *endpoint, const char *what, const uint8_t *packet,
@@ -113,8 +53,7 @@ static void refusals(struct niulassenc_endpoint *endpoint)
     memcpy(memory_before, memory, sizeof memory);
     memcpy(packet, vxlan, sizeof packet);
     put32(packet + 16, OWN + 1);
-    put16(packet + 10, 0);
-    put16(packet + 10, checksum(0, packet, 20));
+    sum_header(packet);
     receive(endpoint, "not for us", packet, sizeof packet);
     packet[10] ^= 1;
     receive(endpoint, "damaged", packet, sizeof packet);
@@ -191,7 +130,7 @@ int main(void)
 {
     struct niulassenc_started started = niulassenc_start(OWN, STT_PORT, 1500);
     struct niulassenc_endpoint endpoint = started.endpoint;
-    uint8_t stt[32] = {0};
+    uint8_t stt[STT_HEADER + sizeof frame];
     uint8_t first[64], second[64];
 
     printf("start: code %d; at port 0: code %d\n", started.code, niulassenc_start(OWN, 0, 1500).code);
@@ -207,9 +146,7 @@ int main(void)
     memset(memory, 0xa5, sizeof memory);
     receive(&endpoint, "VXLAN", vxlan, sizeof vxlan);
 
-    put32(stt + 8, 0x01020304);
-    put32(stt + 12, 0x05060708);
-    memcpy(stt + 18, frame, sizeof frame);
+    stt_frame(stt, 0x0102030405060708, frame, sizeof frame);
     size_t first_length = segment(first, stt, sizeof stt, 0, 20, 77);
     size_t second_length = segment(second, stt, sizeof stt, 20, 12, 77);
     receive(&endpoint, "STT, second segment", second, second_length);

@@ -63,3 +63,8 @@ pub use refusal::Refusal;
 
 /// Least length of the reassembly memory.
 pub const MEMORY_NEEDED: usize = 55_296;
+
+/// README's Rust program is run with this crate's tests.
+#[cfg(doctest)]
+#[doc = include_str!("../../../README.md")]
+struct Readme;

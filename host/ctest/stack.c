@@ -1,0 +1,341 @@
+/*
+ * stack BOUND: how much stack each call uses. Every case runs on a painted stack of its own; the deepest byte that lost its paint
+ * tells the use. Counted with it are the few bytes of the frame that makes the call, the struct that the call gives back where
+ * the compiler keeps it there, and what the C library's memcpy and memset take. Fails where a case uses more than BOUND bytes.
+ */
+#define _XOPEN_SOURCE 700
+#undef NDEBUG
+#include <assert.h>
+#include <stdbool.h>
+#include <stdio.h>
+#include <stdlib.h>
+#include <string.h>
+#include <ucontext.h>
+
+#include "niulassenc.h"
+#include "packets.h"
+
+enum { PAINT = 0xa5, STACK_BYTES = 65536, LARGEST_FRAME = 1514, VSID = 4096, IDENTIFIER = 77 };
+
+/* Makes the type 0x88b5 of the frames here the tag 0x88a8: a change of its second byte. */
+enum { TO_TAG = 0xb5 ^ 0xa8 };
+
+/* The last three of 64 bindings, all of the last of eight peers: whatever is searched for stands at the end. */
+enum { ON_VXLAN = 61, ON_NVGRE = 62, ON_STT = 63 };
+
+/* One of the six calls, its cases, and the most that they have used. */
+struct subject {
+    const char *name;
+    void (*call)(void);
+    void (*cases)(struct subject *self);
+    size_t most;
+    unsigned measured;
+};
+
+static uint8_t stack[STACK_BYTES];
+static uint8_t memory[NIULASSENC_MEMORY_BYTES];
+static uint8_t output[2000];
+static struct niulassenc_endpoint full, endpoint;
+static uint8_t inner[LARGEST_FRAME];
+static uint8_t stt[STT_HEADER + LARGEST_FRAME];
+
+/* What the next call is given, and the code that it gave. */
+static struct {
+    uint64_t network;
+    uint32_t address, segment;
+    uint16_t port, binding;
+    uint8_t kind;
+    uint8_t packet[2000];
+    size_t packet_length, memory_length, frame_length, output_length;
+} given;
+static uint8_t code;
+
+static void start(void)
+{
+    code = niulassenc_start(OWN, given.port, 1500).code;
+}
+
+static void add_peer(void)
+{
+    code = niulassenc_add_peer(&endpoint, given.address).code;
+}
+
+static void add_binding(void)
+{
+    code = niulassenc_add_binding(&endpoint, 7, given.kind, given.network, 1).code;
+}
+
+static void receive(void)
+{
+    code = niulassenc_receive(&endpoint, given.packet, given.packet_length, memory, given.memory_length).code;
+}
+
+static void tick(void)
+{
+    niulassenc_tick(&endpoint);
+    code = NIULASSENC_DONE;
+}
+
+static void wrap(void)
+{
+    code = niulassenc_wrap(&endpoint, given.binding, inner, given.frame_length, given.segment, IDENTIFIER, output,
+                           given.output_length)
+               .code;
+}
+
+/* Makes the call on a fresh stack. That it gives the expected code shows that the case is the one meant. */
+static void measure(struct subject *subject, uint8_t expected)
+{
+    static ucontext_t inside, outside;
+    size_t untouched = 0;
+
+    memset(stack, PAINT, sizeof stack);
+    assert(getcontext(&inside) == 0);
+    inside.uc_stack.ss_sp = stack;
+    inside.uc_stack.ss_size = sizeof stack;
+    inside.uc_link = &outside;
+    makecontext(&inside, subject->call, 0);
+    assert(swapcontext(&outside, &inside) == 0);
+    if (code != expected) {
+        fprintf(stderr, "stack: %s gave %d where %d was expected\n", subject->name, code, expected);
+        exit(1);
+    }
+    while (untouched < sizeof stack && stack[untouched] == PAINT)
+        untouched++;
+    size_t used = sizeof stack - untouched;
+    if (used > subject->most)
+        subject->most = used;
+    subject->measured++;
+}
+
+/* Lists peers, PEER as the eighth, and bindings, the last three those of PEER that the packets are for. */
+static void list(unsigned peers, unsigned bindings)
+{
+    endpoint = niulassenc_start(OWN, STT_PORT, 1500).endpoint;
+    for (unsigned i = 0; i < peers; i++)
+        assert(niulassenc_add_peer(&endpoint, i == 7 ? PEER : 0x0a000100 + i).code == NIULASSENC_DONE);
+    for (unsigned i = 0; i < bindings && i < ON_VXLAN; i++)
+        assert(niulassenc_add_binding(&endpoint, (uint16_t)(i % 8), NIULASSENC_STT, 1000 + i, 1).code == NIULASSENC_DONE);
+    if (bindings > ON_VXLAN)
+        assert(niulassenc_add_binding(&endpoint, 7, NIULASSENC_VXLAN, 22, 1).code == NIULASSENC_DONE);
+    if (bindings > ON_NVGRE)
+        assert(niulassenc_add_binding(&endpoint, 7, NIULASSENC_NVGRE, VSID, 1).code == NIULASSENC_DONE);
+    if (bindings > ON_STT)
+        assert(niulassenc_add_binding(&endpoint, 7, NIULASSENC_STT, 22, 1).code == NIULASSENC_DONE);
+}
+
+static void starts(struct subject *subject)
+{
+    given.port = STT_PORT;
+    measure(subject, NIULASSENC_DONE);
+    given.port = 0;
+    measure(subject, NIULASSENC_OUT_OF_RANGE);
+}
+
+static void peers(struct subject *subject)
+{
+    list(7, 0);
+    given.address = OWN;
+    measure(subject, NIULASSENC_OUT_OF_RANGE);
+    given.address = PEER;
+    measure(subject, NIULASSENC_DONE);
+    measure(subject, NIULASSENC_ALREADY_LISTED);
+    given.address = PEER + 5;
+    measure(subject, NIULASSENC_FULL);
+}
+
+static void bindings(struct subject *subject)
+{
+    list(8, 63);
+    given.kind = 4;
+    given.network = 22;
+    measure(subject, NIULASSENC_OUT_OF_RANGE);
+    given.kind = NIULASSENC_STT;
+    measure(subject, NIULASSENC_DONE);
+    measure(subject, NIULASSENC_ALREADY_LISTED);
+    given.network = 23;
+    measure(subject, NIULASSENC_FULL);
+}
+
+/* The next packet is the largest frame on VXLAN or NVGRE, as the peer wraps it. */
+static void wrapped(uint8_t kind, uint32_t network)
+{
+    struct niulassenc_endpoint sender = niulassenc_start(PEER, STT_PORT, 1600).endpoint;
+
+    assert(niulassenc_add_peer(&sender, OWN).code == NIULASSENC_DONE);
+    assert(niulassenc_add_binding(&sender, 0, kind, network, 1).code == NIULASSENC_DONE);
+    struct niulassenc_writing wrote =
+        niulassenc_wrap(&sender, 0, inner, sizeof inner, 0, 0, given.packet, sizeof given.packet);
+    assert(wrote.code == NIULASSENC_DONE);
+    given.packet_length = wrote.length;
+}
+
+/* The next packet is a segment of the largest STT frame. */
+static void piece(size_t frame_length, size_t offset, size_t length, uint32_t identifier)
+{
+    given.packet_length = segment(given.packet, stt, frame_length, offset, length, identifier);
+}
+
+static void deliveries(struct subject *subject)
+{
+    endpoint = full;
+    given.memory_length = sizeof memory;
+    wrapped(NIULASSENC_VXLAN, 22);
+    measure(subject, NIULASSENC_DONE);
+    size_t udp_length = given.packet_length - 20;
+    put16(given.packet + 26, checksum(pseudo_header(17, udp_length), given.packet + 20, udp_length));
+    measure(subject, NIULASSENC_DONE);
+    wrapped(NIULASSENC_NVGRE, VSID);
+    measure(subject, NIULASSENC_DONE);
+    piece(sizeof stt, 0, sizeof stt, IDENTIFIER);
+    measure(subject, NIULASSENC_DONE);
+    piece(sizeof stt, 1000, sizeof stt - 1000, IDENTIFIER);
+    measure(subject, NIULASSENC_PENDING);
+    piece(sizeof stt, 500, 500, IDENTIFIER);
+    measure(subject, NIULASSENC_PENDING);
+    piece(sizeof stt, 0, 500, IDENTIFIER);
+    measure(subject, NIULASSENC_DONE);
+}
+
+/* Receives T on VXLAN with one byte changed; the header's checksum stays right where `right` says so. */
+static void damaged(struct subject *subject, size_t at, uint8_t change, bool right, uint8_t expected)
+{
+    endpoint = full;
+    given.packet_length = sizeof vxlan;
+    memcpy(given.packet, vxlan, sizeof vxlan);
+    given.packet[at] ^= change;
+    if (right)
+        sum_header(given.packet);
+    measure(subject, expected);
+}
+
+static void tunnel_refusals(struct subject *subject)
+{
+    given.memory_length = sizeof memory - 1;
+    measure(subject, NIULASSENC_MEMORY);
+    given.memory_length = sizeof memory;
+    given.packet_length = 0;
+    measure(subject, NIULASSENC_IPV4);
+    damaged(subject, 0, 0x20, true, NIULASSENC_IPV4);
+    damaged(subject, 10, 1, false, NIULASSENC_IPV4_CHECKSUM);
+    damaged(subject, 6, 0x20, true, NIULASSENC_FRAGMENT);
+    damaged(subject, 19, 0x80, true, NIULASSENC_DESTINATION);
+    damaged(subject, 15, 0x80, true, NIULASSENC_PEER);
+    damaged(subject, 9, 0x80, true, NIULASSENC_PROTOCOL);
+    damaged(subject, 25, 1, true, NIULASSENC_CARRIAGE);
+    damaged(subject, 27, 1, true, NIULASSENC_CHECKSUM);
+    damaged(subject, 28, 0x08, true, NIULASSENC_TUNNEL);
+    damaged(subject, 34, 1, true, NIULASSENC_BINDING);
+    damaged(subject, 49, TO_TAG, true, NIULASSENC_FRAME);
+}
+
+/* Receives the whole STT frame in one segment with one byte changed. */
+static void whole(struct subject *subject, size_t at, uint8_t change, uint8_t expected)
+{
+    endpoint = full;
+    stt[at] ^= change;
+    piece(sizeof stt, 0, sizeof stt, IDENTIFIER);
+    stt[at] ^= change;
+    measure(subject, expected);
+}
+
+static void stt_refusals(struct subject *subject)
+{
+    whole(subject, 0, 1, NIULASSENC_TUNNEL);
+    whole(subject, 8, 1, NIULASSENC_BINDING);
+    whole(subject, STT_HEADER + 13, TO_TAG, NIULASSENC_FRAME);
+    piece(sizeof stt, 0, 500, IDENTIFIER);
+    given.packet[36] ^= 1;
+    measure(subject, NIULASSENC_CHECKSUM);
+    piece(30, 0, 30, IDENTIFIER);
+    measure(subject, NIULASSENC_SEGMENT);
+    for (uint32_t i = 0; i < 4; i++) {
+        piece(sizeof stt, 0, 500, IDENTIFIER - i);
+        measure(subject, NIULASSENC_PENDING);
+    }
+    piece(sizeof stt - 2, 500, 500, IDENTIFIER);
+    measure(subject, NIULASSENC_OTHER_LENGTH);
+    piece(sizeof stt, 498, 500, IDENTIFIER);
+    measure(subject, NIULASSENC_ALREADY_HELD);
+    piece(sizeof stt, 0, sizeof stt, IDENTIFIER + 1);
+    measure(subject, NIULASSENC_NO_SLOT);
+}
+
+static void receives(struct subject *subject)
+{
+    deliveries(subject);
+    tunnel_refusals(subject);
+    stt_refusals(subject);
+}
+
+/* The last receives have left four frames under way: the fourth tick frees them. */
+static void ticks(struct subject *subject)
+{
+    for (unsigned i = 0; i < 4; i++) {
+        assert(endpoint.peers[7].row.slots[3].pending);
+        measure(subject, NIULASSENC_DONE);
+    }
+    assert(!endpoint.peers[7].row.slots[3].pending);
+}
+
+/* Wraps a frame, or its segment, into an output of this length. */
+static void wrap_on(struct subject *subject, uint16_t binding, size_t frame_length, uint32_t number, size_t output_length,
+                    uint8_t expected)
+{
+    given.binding = binding;
+    given.frame_length = frame_length;
+    given.segment = number;
+    given.output_length = output_length;
+    measure(subject, expected);
+}
+
+static void wraps(struct subject *subject)
+{
+    wrap_on(subject, ON_VXLAN, 1464, 0, 1500, NIULASSENC_DONE);
+    wrap_on(subject, ON_NVGRE, 1472, 0, 1500, NIULASSENC_DONE);
+    wrap_on(subject, ON_STT, sizeof inner, 0, 1500, NIULASSENC_DONE);
+    wrap_on(subject, ON_STT, sizeof inner, 1, 1500, NIULASSENC_DONE);
+    wrap_on(subject, ON_STT, 13, 0, 1500, NIULASSENC_FRAME);
+    wrap_on(subject, ON_VXLAN, 1464, 0, 1499, NIULASSENC_OUTPUT);
+    wrap_on(subject, ON_NVGRE, 1472, 0, 1499, NIULASSENC_OUTPUT);
+    wrap_on(subject, ON_STT, sizeof inner, 0, 1499, NIULASSENC_OUTPUT);
+    wrap_on(subject, ON_VXLAN, 1465, 0, 1500, NIULASSENC_MTU);
+    wrap_on(subject, 64, sizeof inner, 0, 1500, NIULASSENC_NO_SUCH);
+    wrap_on(subject, ON_STT, sizeof inner, 2, 1500, NIULASSENC_NO_SUCH);
+}
+
+/* Prints a call's most, and says whether it keeps to the bound. */
+static bool within(const struct subject *subject, size_t bound)
+{
+    printf("stack: niulassenc_%s uses at most %zu bytes in %u cases\n", subject->name, subject->most, subject->measured);
+    if (subject->most <= bound)
+        return true;
+    fprintf(stderr, "stack: niulassenc_%s uses more than the %zu bytes that are stated\n", subject->name, bound);
+    return false;
+}
+
+int main(int count, char **arguments)
+{
+    static struct subject subjects[] = {
+        {"start", start, starts, 0, 0},
+        {"add_peer", add_peer, peers, 0, 0},
+        {"add_binding", add_binding, bindings, 0, 0},
+        {"receive", receive, receives, 0, 0},
+        {"tick", tick, ticks, 0, 0},
+        {"wrap", wrap, wraps, 0, 0},
+    };
+    size_t bound = count == 2 ? strtoul(arguments[1], NULL, 10) : 0;
+    bool kept = true;
+
+    for (size_t i = 0; i < sizeof inner; i++)
+        inner[i] = (uint8_t)i;
+    put16(inner + 12, 0x88b5);
+    stt_frame(stt, 22, inner, sizeof inner);
+    list(8, 64);
+    full = endpoint;
+    for (size_t i = 0; i < sizeof subjects / sizeof *subjects; i++) {
+        subjects[i].cases(&subjects[i]);
+        kept = within(&subjects[i], bound) && kept;
+    }
+    return kept ? 0 : 1;
+}
