@@ -13,7 +13,7 @@
 
 /* The boundary is not checked by anything else: the layout of each struct that crosses it. */
 static_assert(sizeof(struct niulassenc_slot) == 8, "slot");
-static_assert(sizeof(struct niulassenc_peer) == 36, "peer");
+static_assert(offsetof(struct niulassenc_endpoint, addresses) == 768, "addresses");
 static_assert(offsetof(struct niulassenc_endpoint, own) == 800, "own");
 static_assert(offsetof(struct niulassenc_endpoint, owners) == 1004, "owners");
 static_assert(sizeof(struct niulassenc_endpoint) == 1072, "endpoint");
@@ -140,7 +140,7 @@ int main(void)
     printf("VXLAN binding: code %d, number %d\n", binding.code, binding.number);
     binding = niulassenc_add_binding(&endpoint, peer.number, NIULASSENC_STT, 0x0102030405060708, 9);
     printf("STT binding: code %d, number %d\n", binding.code, binding.number);
-    assert(endpoint.own == OWN && endpoint.peer_count == 1 && endpoint.peers[0].address == PEER);
+    assert(endpoint.own == OWN && endpoint.peer_count == 1 && endpoint.addresses[0] == PEER);
     assert(endpoint.binding_count == 2 && endpoint.tenants[1] == 9 && endpoint.networks[0] == 22);
 
     memset(memory, 0xa5, sizeof memory);
@@ -151,9 +151,9 @@ int main(void)
     size_t second_length = segment(second, stt, sizeof stt, 20, 12, 77);
     receive(&endpoint, "STT, second segment", second, second_length);
     niulassenc_tick(&endpoint);
-    assert(endpoint.peers[0].row.slots[0].pending && endpoint.peers[0].row.slots[0].age == 1);
+    assert(endpoint.rows[0].slots[0].pending && endpoint.rows[0].slots[0].age == 1);
     receive(&endpoint, "STT, first segment", first, first_length);
-    assert(!endpoint.peers[0].row.slots[0].pending && memory[1728] == 0xa5);
+    assert(!endpoint.rows[0].slots[0].pending && memory[1728] == 0xa5);
 
     refusals(&endpoint);
     wraps(&endpoint);

@@ -81,15 +81,12 @@ struct niulassenc_row {
     struct niulassenc_slot slots[4];
 };
 
-struct niulassenc_peer {
-    struct niulassenc_row row;
-    uint32_t address;
-};
-
-/* An endpoint. Binding i is networks[i], tenants[i], kinds[i] and owners[i], the number of its peer. */
+/* An endpoint. Peer i is rows[i] and addresses[i]. Binding i is networks[i], tenants[i], kinds[i] and owners[i], the number of
+ * its peer. */
 struct niulassenc_endpoint {
     uint64_t networks[64];
-    struct niulassenc_peer peers[8];
+    struct niulassenc_row rows[8];
+    uint32_t addresses[8];
     uint32_t own;
     uint16_t tenants[64];
     uint16_t port;

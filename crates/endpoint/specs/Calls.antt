@@ -4,16 +4,16 @@
 use Prim.Native.Nat.{ℕ, _+_, _<_, _≤_, min}
 use mathlib.Core.Path.{_≡_, refl, sym, ap, ap₂, _∙_}
 use mathlib.Core.Bool.{Bool, true, false, cond}
-use mathlib.Core.List.{List, [], _∷_, map}
+use mathlib.Core.List.{List, [], _∷_}
 use lib.ListN.{length, getD, set}
-use lib.Seq.{map-set-same, set-getD}
+use lib.Seq.{set-getD}
 use lib.Dec.{ltb}
-use Rattle.reassembly.specs.Base.{caseB, map-set}
+use Rattle.reassembly.specs.Base.{caseB}
 use Rattle.reassembly.specs.Slots.{noRow}
 use Rattle.reassembly.specs.Receive.{Seen, stranger, plain, segment, Event, receive, tick}
 use Rattle.reassembly.specs.SetUp.{World, Endpoint as Ends, Said, receives, saidOf, next, runs, Promised}
 use Rattle.reassembly.specs.declared.slot.Row.{Row}
-use Rattle.endpoint.specs.Config.{Config, configOf, rowsOf, addressOf, rowOf, noPeer, tickOf}
+use Rattle.endpoint.specs.Config.{Config, configOf, tickOf}
 use Rattle.endpoint.specs.ConfigLaws.{rows-tick, config-tick}
 use Rattle.endpoint.specs.Receive.{answers, layers, headerOf, Step, rowAt, unchanged, stepped, stepOf, withRow, worldOf}
 use Rattle.endpoint.specs.ReceiveLaws.{header-kept, header-whose, config-few}
@@ -25,20 +25,19 @@ use Rattle.endpoint.specs.declared.config.Endpoint.{Endpoint}
 
 pub config-row : (e : Endpoint) (p : ℕ) (row : Row) → configOf (withRow e p row) ≡ configOf e
 unfolding configOf withRow
-config-row e p row =
-    rw (map-set-same addressOf (e .peers) p (record { row = row; address = getD (e .peers) p noPeer .address }) noPeer refl)
+config-row e p row = refl
 
-pub rows-row : (e : Endpoint) (p : ℕ) (row : Row) → rowsOf (withRow e p row) ≡ set (rowsOf e) p row
-unfolding rowsOf withRow
-rows-row e p row = map-set rowOf (e .peers) p (record { row = row; address = getD (e .peers) p noPeer .address })
+pub rows-row : (e : Endpoint) (p : ℕ) (row : Row) → withRow e p row .rows ≡ set (e .rows) p row
+unfolding withRow
+rows-row e p row = refl
 
 pub world-row : (e : Endpoint) (p : ℕ) (row : Row) (m : List ℕ)
-    → worldOf (withRow e p row) m ≡ record { ends = record { config = configOf e; rows = set (rowsOf e) p row }; mem = m }
+    → worldOf (withRow e p row) m ≡ record { ends = record { config = configOf e; rows = set (e .rows) p row }; mem = m }
 world-row e p row m = rw (config-row e p row, rows-row e p row)
 
 same-world : (e : Endpoint) (p : ℕ) (m : List ℕ) → worldOf (withRow e p (rowAt e p)) m ≡ worldOf e m
 unfolding rowAt
-same-world e p m = world-row e p (getD (rowsOf e) p noRow) m ∙ rw (set-getD (rowsOf e) p noRow)
+same-world e p m = world-row e p (getD (e .rows) p noRow) m ∙ rw (set-getD (e .rows) p noRow)
 
 -- ---- a receive
 

@@ -7,14 +7,13 @@ use mathlib.Core.Option.{Option, none, some}
 use lib.ListN.{getD, set, replicate}
 use lib.Dec.{ltb, leb, eqb}
 use Rattle.wire.specs.Checks.{Check, _⇒_, first}
-use Rattle.reassembly.specs.Slots.{free, noRow, olderRow}
+use Rattle.reassembly.specs.Slots.{free, olderRow}
 use Rattle.reassembly.specs.declared.slot.Row.{Row}
 use Rattle.endpoint.specs.Search.{lowest}
 use Rattle.endpoint.specs.declared.answer.ConfigRefusal.{ConfigRefusal}
 use Rattle.endpoint.specs.declared.answer.ConfigRefusal.the-variants as C
 use Rattle.endpoint.specs.declared.answer.Added.the-variants as A
 use Rattle.endpoint.specs.declared.answer.Start.the-variants as S
-use Rattle.endpoint.specs.declared.config.Peer.{Peer}
 use Rattle.endpoint.specs.declared.config.Endpoint.{Endpoint}
 use Rattle.endpoint.specs.declared.config.Configured.{Configured}
 use Rattle.endpoint.specs.declared.config.Started.{Started}
@@ -33,22 +32,12 @@ pub record Config : Type 0 where
   pub tenants : List ℕ
   pub bindings : ℕ  -- how many are listed
 
-abbrev pub addressOf : Peer → ℕ
-addressOf p = p .address
-
-abbrev pub rowOf : Peer → Row
-rowOf p = p .row
-
--- no peer: what a list of peers has past its end
-abbrev pub noPeer : Peer
-noPeer = record { row = noRow; address = 0 }
-
 unfoldable pub configOf : Endpoint → Config
 configOf e = record {
   own = e .own;
   port = e .port;
   mtu = e .mtu;
-  addresses = map addressOf (e .peers);
+  addresses = e .addresses;
   peers = min (e .«peer_count») 8;
   owners = e .owners;
   kinds = e .kinds;
@@ -57,9 +46,37 @@ configOf e = record {
   bindings = min (e .«binding_count») 64;
 }
 
--- the rows of slots, one a peer
-unfoldable pub rowsOf : Endpoint → List Row
-rowsOf e = map rowOf (e .peers)
+-- the endpoint with these rows, and all else as it is
+abbrev pub withRows : Endpoint → List Row → Endpoint
+withRows e l = record {
+  networks = e .networks;
+  rows = l;
+  addresses = e .addresses;
+  own = e .own;
+  tenants = e .tenants;
+  port = e .port;
+  mtu = e .mtu;
+  «peer_count» = e .«peer_count»;
+  «binding_count» = e .«binding_count»;
+  kinds = e .kinds;
+  owners = e .owners;
+}
+
+-- an endpoint with these columns and settings, and no rows: what a function that is lent them knows of one
+abbrev pub lent : (networks kinds owners tenants addresses : List ℕ) (own port mtu peers bindings : ℕ) → Endpoint
+lent networks kinds owners tenants addresses own port mtu peers bindings = record {
+  networks = networks;
+  rows = [];
+  addresses = addresses;
+  own = own;
+  tenants = tenants;
+  port = port;
+  mtu = mtu;
+  «peer_count» = peers;
+  «binding_count» = bindings;
+  kinds = kinds;
+  owners = owners;
+}
 
 -- ---- lookups: the lowest-numbered one that matches
 
@@ -90,7 +107,8 @@ freeRow = record { slots = replicate 4 free }
 unfoldable pub fresh : (own port mtu : ℕ) → Endpoint
 fresh own port mtu = record {
   networks = replicate 64 0;
-  peers = replicate 8 (record { row = freeRow; address = 0 });
+  rows = replicate 8 freeRow;
+  addresses = replicate 8 0;
   own = own;
   tenants = replicate 64 0;
   port = port;
@@ -141,7 +159,8 @@ addPeerChecks e address =
 unfoldable pub withAddress : Endpoint → ℕ → ℕ → Endpoint
 withAddress e n address = record {
   networks = e .networks;
-  peers = set (e .peers) n (record { row = getD (e .peers) n noPeer .row; address = address });
+  rows = e .rows;
+  addresses = set (e .addresses) n address;
   own = e .own;
   tenants = e .tenants;
   port = e .port;
@@ -175,7 +194,8 @@ addBindingChecks e peer kind network =
 unfoldable pub withBinding : Endpoint → (n peer kind network tenant : ℕ) → Endpoint
 withBinding e n peer kind network tenant = record {
   networks = set (e .networks) n network;
-  peers = e .peers;
+  rows = e .rows;
+  addresses = e .addresses;
   own = e .own;
   tenants = set (e .tenants) n tenant;
   port = e .port;
@@ -193,26 +213,8 @@ addBindingOf e peer kind network tenant =
 
 -- ---- a tick (document 01, "Reassembly memory"): every pending frame grows older by 1, and those that reach 4 are freed. It changes nothing else
 
-abbrev pub olderPeer : Peer → Peer
-olderPeer p = record { row = olderRow (p .row); address = p .address }
-
--- the endpoint with these peers, and all else as it is
-abbrev pub withPeers : Endpoint → List Peer → Endpoint
-withPeers e l = record {
-  networks = e .networks;
-  peers = l;
-  own = e .own;
-  tenants = e .tenants;
-  port = e .port;
-  mtu = e .mtu;
-  «peer_count» = e .«peer_count»;
-  «binding_count» = e .«binding_count»;
-  kinds = e .kinds;
-  owners = e .owners;
-}
-
 unfoldable pub tickOf : Endpoint → Endpoint
-tickOf e = withPeers e (map olderPeer (e .peers))
+tickOf e = withRows e (map olderRow (e .rows))
 
 -- ---- a set-up is what a start and any adding calls leave, refused ones too (document 01, "Whose packet it is")
 

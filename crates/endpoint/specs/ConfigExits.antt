@@ -2,7 +2,7 @@
 -- Assumes nothing.
 use mathlib.Core.Path.{_≡_, refl, sym, ap, subst⁻¹, _∙_}
 use mathlib.Core.Bool.{Bool, true, false, _||_}
-use mathlib.Core.List.{List, [], _∷_, map}
+use mathlib.Core.List.{List, [], _∷_}
 use mathlib.Core.Option.{Option, none, some}
 use Prim.Native.Nat.{ℕ, zero, suc, _+_, _<_, _≤_, min}
 use native.Mathlib.Nat.{zero-add, suc-add}
@@ -17,7 +17,7 @@ use Rattle.endpoint.specs.declared.search.Found.the-variants as F
 use Rattle.endpoint.specs.declared.config.Endpoint.{Endpoint}
 use Rattle.endpoint.specs.declared.config.Configured.{Configured}
 use Rattle.endpoint.specs.Search.{lowest, foundOf}
-use Rattle.endpoint.specs.Config.{addressOf, configOf, hasAddress, findPeer, binds, findBinding, isSome, fresh, startChecks, refusedStart, startOf, refusedAdd, addPeerChecks, withAddress, addPeerOf, isNetwork, addBindingChecks, withBinding, addBindingOf}
+use Rattle.endpoint.specs.Config.{configOf, hasAddress, findPeer, binds, findBinding, isSome, fresh, startChecks, refusedStart, startOf, refusedAdd, addPeerChecks, withAddress, addPeerOf, isNetwork, addBindingChecks, withBinding, addBindingOf}
 
 -- ---- ordered checks: behind k that are passed
 
@@ -62,11 +62,11 @@ is-found none = refl
 is-found (some i) = refl
 
 pub peer-found : (e : Endpoint) (address n : ℕ) (f : Found) → n ≡ min (e .«peer_count») 8
-    → f ≡ foundOf (lowest (hasAddress (map addressOf (e .peers)) address) n) → isSome (findPeer (configOf e) address) ≡ isFound f
+    → f ≡ foundOf (lowest (hasAddress (e .addresses) address) n) → isSome (findPeer (configOf e) address) ≡ isFound f
 unfolding findPeer configOf
 peer-found e address n f k r =
-    sym (is-found (lowest (hasAddress (map addressOf (e .peers)) address) (min (e .«peer_count») 8)))
-    ∙ ap (λ (k : ℕ). isFound (foundOf (lowest (hasAddress (map addressOf (e .peers)) address) k))) (sym k)
+    sym (is-found (lowest (hasAddress (e .addresses) address) (min (e .«peer_count») 8)))
+    ∙ ap (λ (k : ℕ). isFound (foundOf (lowest (hasAddress (e .addresses) address) k))) (sym k)
     ∙ ap isFound (sym r)
 
 pub binding-found : (e : Endpoint) (peer kind network n : ℕ) (f : Found) → n ≡ min (e .«binding_count») 64

@@ -5,25 +5,23 @@ use mathlib.Core.Bool.{true, false}
 use mathlib.Core.List.{List, [], _∷_, map}
 use mathlib.Core.Logic.{_⊎_, inl, inr, _≢_}
 use mathlib.Core.Option.{Option, none, some}
-use Prim.Native.Nat.{ℕ, zero, suc, _+_, _<_, _≤_, min}
+use Prim.Native.Nat.{ℕ, _+_, _<_, _≤_, min}
 use native.Mathlib.Nat.{not-suc-le-zero}
 use native.Mathlib.Omega.{arith}
-use lib.ListN.{length, getD, set, replicate, length-map, length-set}
+use lib.ListN.{length, getD, set, replicate, length-set}
 use lib.Seq.{getD-set-same, getD-set-other}
 use lib.Dec.{eqb}
 use borrow.Author.Tests.{eq-eqb, ne-eqb, le-leb, leb-false, eqb-true, eqb-false, not-false}
 use Rattle.wire.specs.Checks.{Check, _⇒_, first, Passed}
-use Rattle.reassembly.specs.Base.{caseB, either, clash, map-set}
-use Rattle.reassembly.specs.declared.slot.Row.{Row}
+use Rattle.reassembly.specs.Base.{caseB, either, clash}
 use Rattle.reassembly.specs.Slots.{olderRow}
 use Rattle.endpoint.specs.declared.answer.ConfigRefusal.the-variants as C
 use Rattle.endpoint.specs.declared.answer.Start.the-variants as S
-use Rattle.endpoint.specs.declared.config.Peer.{Peer}
 use Rattle.endpoint.specs.declared.config.Endpoint.{Endpoint}
 use Rattle.endpoint.specs.declared.config.Started.{Started}
 use Rattle.endpoint.specs.declared.config.Configured.{Configured}
 use Rattle.endpoint.specs.SearchLaws.{lowest-some, lowest-none, lowest-is, binds-hit, binds-all}
-use Rattle.endpoint.specs.Config.{Config, addressOf, rowOf, noPeer, freeRow, olderPeer, rowsOf, tickOf, configOf, hasAddress, findPeer, binds, findBinding, isSome, fresh, startChecks, refusedStart, startOf, addressChecks, refusedAdd, addPeerChecks, withAddress, addPeerOf, isNetwork, addBindingChecks, withBinding, addBindingOf, Adding, addPeer, addBinding, added, addedAll, setUp}
+use Rattle.endpoint.specs.Config.{Config, freeRow, tickOf, configOf, hasAddress, findPeer, binds, findBinding, isSome, fresh, startChecks, refusedStart, startOf, addressChecks, refusedAdd, addPeerChecks, withAddress, addPeerOf, isNetwork, addBindingChecks, withBinding, addBindingOf, Adding, addPeer, addBinding, added, addedAll, setUp}
 use Rattle.endpoint.specs.ConfigExits.{peerAdded, bindingAdded, add-binding-exit}
 
 -- ---- what a call leaves: the endpoint as it came, or the one with the addition
@@ -61,65 +59,25 @@ refused-start-binding peer kind network tenant = add-binding-exit (fresh 0 0 0) 
 
 -- ---- the rows of slots
 
-pub rows-fresh : (own port mtu : ℕ) → rowsOf (fresh own port mtu) ≡ replicate 8 freeRow
-unfolding rowsOf fresh
+pub rows-fresh : (own port mtu : ℕ) → fresh own port mtu .rows ≡ replicate 8 freeRow
+unfolding fresh
 rows-fresh own port mtu = refl
 
-rows-set : (l : List Peer) (n address : ℕ) → map rowOf (set l n (record { row = getD l n noPeer .row; address = address })) ≡ map rowOf l
-rows-set [] n address = refl
-rows-set (p ∷ l) zero address = refl
-rows-set (p ∷ l) (suc n) address = ap (λ (t : List Row). rowOf p ∷ t) (rows-set l n address)
+pub rows-add-peer : (e : Endpoint) (address : ℕ) → addPeerOf e address .endpoint .rows ≡ e .rows
+unfolding withAddress
+rows-add-peer e address = add-peer-cases (λ (x : Endpoint). x .rows ≡ e .rows) e address refl (λ _. refl)
 
-rows-with-address : (e : Endpoint) (n address : ℕ) → rowsOf (withAddress e n address) ≡ rowsOf e
-unfolding rowsOf withAddress
-rows-with-address e n address = rows-set (e .peers) n address
+pub rows-add-binding : (e : Endpoint) (peer kind network tenant : ℕ) → addBindingOf e peer kind network tenant .endpoint .rows ≡ e .rows
+unfolding withBinding
+rows-add-binding e peer kind network tenant = add-binding-cases (λ (x : Endpoint). x .rows ≡ e .rows) e peer kind network tenant refl (λ _. refl)
 
-pub rows-add-peer : (e : Endpoint) (address : ℕ) → rowsOf (addPeerOf e address .endpoint) ≡ rowsOf e
-rows-add-peer e address =
-    add-peer-cases (λ (x : Endpoint). rowsOf x ≡ rowsOf e) e address refl (λ _. rows-with-address e (e .«peer_count») address)
-
-rows-with-binding : (e : Endpoint) (n peer kind network tenant : ℕ) → rowsOf (withBinding e n peer kind network tenant) ≡ rowsOf e
-unfolding rowsOf withBinding
-rows-with-binding e n peer kind network tenant = refl
-
-pub rows-add-binding : (e : Endpoint) (peer kind network tenant : ℕ) → rowsOf (addBindingOf e peer kind network tenant .endpoint) ≡ rowsOf e
-rows-add-binding e peer kind network tenant =
-    add-binding-cases (λ (x : Endpoint). rowsOf x ≡ rowsOf e) e peer kind network tenant refl (λ _. rows-with-binding e (e .«binding_count») peer kind network tenant)
-
-rows-older : (l : List Peer) → map rowOf (map olderPeer l) ≡ map olderRow (map rowOf l)
-rows-older [] = refl
-rows-older (p ∷ l) = ap (λ (t : List Row). olderRow (p .row) ∷ t) (rows-older l)
-
-pub rows-tick : (e : Endpoint) → rowsOf (tickOf e) ≡ map olderRow (rowsOf e)
-unfolding rowsOf tickOf
-rows-tick e = rows-older (e .peers)
-
-addresses-older : (l : List Peer) → map addressOf (map olderPeer l) ≡ map addressOf l
-addresses-older [] = refl
-addresses-older (p ∷ l) = ap (λ (t : List ℕ). p .address ∷ t) (addresses-older l)
-
--- an endpoint's configuration, with these addresses
-abbrev withAddresses : Endpoint → List ℕ → Config
-withAddresses e l = record {
-  own = e .own;
-  port = e .port;
-  mtu = e .mtu;
-  addresses = l;
-  peers = min (e .«peer_count») 8;
-  owners = e .owners;
-  kinds = e .kinds;
-  networks = e .networks;
-  tenants = e .tenants;
-  bindings = min (e .«binding_count») 64;
-}
+pub rows-tick : (e : Endpoint) → tickOf e .rows ≡ map olderRow (e .rows)
+unfolding tickOf
+rows-tick e = refl
 
 pub config-tick : (e : Endpoint) → configOf (tickOf e) ≡ configOf e
 unfolding configOf tickOf
-config-tick e = ap (withAddresses e) (addresses-older (e .peers))
-
-pub rows-length : (e : Endpoint) → length (rowsOf e) ≡ length (e .peers)
-unfolding rowsOf
-rows-length e = length-map (e .peers) rowOf
+config-tick e = refl
 
 -- ---- what a lookup finds
 
@@ -156,16 +114,16 @@ binding-below e peer kind network b h =
 
 -- the address of peer number i
 unfoldable pub addressAt : Endpoint → ℕ → ℕ
-addressAt e i = getD (map addressOf (e .peers)) i 0
+addressAt e i = getD (e .addresses) i 0
 
 -- what holds of every set-up
 pub record Valid (e : Endpoint) : Type 0 where
   -- a refused start lists nothing
   pub settings : Passed (startChecks (e .own) (e .port) (e .mtu)) ⊎ (e ≡ fresh 0 0 0)
-  pub rows : rowsOf e ≡ replicate 8 freeRow
+  pub rows : e .rows ≡ replicate 8 freeRow
   pub peer-count : e .«peer_count» ≤ 8
   pub binding-count : e .«binding_count» ≤ 64
-  pub peers-length : length (e .peers) ≡ 8
+  pub addresses-length : length (e .addresses) ≡ 8
   pub networks-length : length (e .networks) ≡ 64
   pub kinds-length : length (e .kinds) ≡ 64
   pub owners-length : length (e .owners) ≡ 64
@@ -187,7 +145,7 @@ fresh-valid own port mtu s = record {
   rows = rows-fresh own port mtu;
   peer-count = omega arith;
   binding-count = omega arith;
-  peers-length = refl;
+  addresses-length = refl;
   networks-length = refl;
   kinds-length = refl;
   owners-length = refl;
@@ -212,41 +170,38 @@ none-of none e = refl
 none-of (some i) e = clash (cc)
 
 module _ (e : Endpoint) (address : ℕ) where
-  new-address : e .«peer_count» < length (e .peers) → addressAt (withAddress e (e .«peer_count») address) (e .«peer_count») ≡ address
+  new-address : e .«peer_count» < length (e .addresses) → addressAt (withAddress e (e .«peer_count») address) (e .«peer_count») ≡ address
   unfolding addressAt withAddress
-  new-address h =
-      ap (λ (l : List ℕ). getD l (e .«peer_count») 0) (map-set addressOf (e .peers) (e .«peer_count») (record { row = getD (e .peers) (e .«peer_count») noPeer .row; address = address }))
-      ∙ getD-set-same (map addressOf (e .peers)) (e .«peer_count») address 0 (omega (arith, length-map (e .peers) addressOf))
+  new-address h = getD-set-same (e .addresses) (e .«peer_count») address 0 h
 
   old-address : (i : ℕ) → i < e .«peer_count» → addressAt (withAddress e (e .«peer_count») address) i ≡ addressAt e i
   unfolding addressAt withAddress
   old-address i h =
       let d : i ≢ e .«peer_count» = λ q. absurd (omega (arith, q)) in
-      ap (λ (l : List ℕ). getD l i 0) (map-set addressOf (e .peers) (e .«peer_count») (record { row = getD (e .peers) (e .«peer_count») noPeer .row; address = address }))
-      ∙ getD-set-other (map addressOf (e .peers)) (e .«peer_count») i address 0 d
+      getD-set-other (e .addresses) (e .«peer_count») i address 0 d
 
   -- no listed peer has it
   unlisted-address : (v : Valid e) → isSome (findPeer (configOf e) address) ≡ false → (i : ℕ) → i < e .«peer_count» → addressAt e i ≢ address
   unfolding findPeer configOf hasAddress addressAt
   unlisted-address v h i l =
       let c : e .«peer_count» ≤ 8 = v .peer-count in
-      eqb-false (getD (map addressOf (e .peers)) i 0) address
-      (lowest-none (hasAddress (map addressOf (e .peers)) address) (min (e .«peer_count») 8) (none-of (findPeer (configOf e) address) h) i (omega arith))
+      eqb-false (getD (e .addresses) i 0) address
+      (lowest-none (hasAddress (e .addresses) address) (min (e .«peer_count») 8) (none-of (findPeer (configOf e) address) h) i (omega arith))
 
   peer-added-valid : Valid e → Passed (addPeerChecks e address) → Valid (withAddress e (e .«peer_count») address)
   unfolding addPeerChecks withAddress fresh
   peer-added-valid v p =
       let n : ℕ = e .«peer_count» in
       let full : e .«peer_count» < 8 = leb-false 8 (e .«peer_count») (p .1 .1 .1 .1 .1 .0) in
-      let size : length (e .peers) ≡ 8 = v .peers-length in
+      let size : length (e .addresses) ≡ 8 = v .addresses-length in
       let here = new-address (omega arith) in
       let other = unlisted-address v (p .1 .1 .1 .1 .0) in
       record {
         settings = either (v .settings) (λ s. inl s) (λ q. differ (sym (ap (λ (x : Endpoint). eqb (x .port) 0) q) ∙ p .0));
-        rows = rows-with-address e (e .«peer_count») address ∙ v .rows;
+        rows = v .rows;
         peer-count = omega arith;
         binding-count = v .binding-count;
-        peers-length = length-set (e .peers) n _ ∙ size;
+        addresses-length = length-set (e .addresses) n address ∙ size;
         networks-length = v .networks-length;
         kinds-length = v .kinds-length;
         owners-length = v .owners-length;
@@ -298,10 +253,10 @@ module _ (e : Endpoint) (peer kind network tenant : ℕ) where
       let other = unlisted-binding v (p .1 .1 .0) in
       record {
         settings = either (v .settings) (λ s. inl s) (λ q. let z : e .«peer_count» ≡ 0 = ap (λ (x : Endpoint). x .«peer_count») q in absurd (omega arith));
-        rows = rows-with-binding e n peer kind network tenant ∙ v .rows;
+        rows = v .rows;
         peer-count = v .peer-count;
         binding-count = omega arith;
-        peers-length = v .peers-length;
+        addresses-length = v .addresses-length;
         networks-length = length-set (e .networks) n network ∙ wn;
         kinds-length = length-set (e .kinds) n kind ∙ wk;
         owners-length = length-set (e .owners) n peer ∙ wo;
@@ -368,7 +323,7 @@ module _ (e : Endpoint) (v : Valid e) (i : ℕ) where
   unfolding findPeer configOf hasAddress addressAt
   listed-peer-found h =
       let c : e .«peer_count» ≤ 8 = v .peer-count in
-      lowest-is (hasAddress (map addressOf (e .peers)) (addressAt e i)) (min (e .«peer_count») 8) i
+      lowest-is (hasAddress (e .addresses) (addressAt e i)) (min (e .«peer_count») 8) i
       (record {
         below = omega arith;
         passes = eq-eqb (addressAt e i) (addressAt e i) refl;

@@ -2,12 +2,12 @@
 -- That processing ends, and that the call's answer, endpoint and memory are these for every input, is what the contract of `receive` says (`stepOf`).
 -- Assumes nothing.
 use Prim.Native.Nat.{ℕ, zero, suc, _+_, _*_, _<_, _≤_}
-use mathlib.Core.Path.{_≡_, refl, sym, ap, _∙_}
+use mathlib.Core.Path.{_≡_, refl, _∙_}
 use mathlib.Core.Logic.{_⊎_, inl, inr}
 use mathlib.Core.Bool.{Bool, true, false, cond}
 use mathlib.Core.List.{List, [], _∷_}
 use native.Mathlib.Omega.{arith}
-use lib.ListN.{length, getD, set}
+use lib.ListN.{length, set}
 use lib.Seq.{set-getD}
 use lib.Dec.{ltb}
 use lib.ListN.{List·getD-map}
@@ -15,7 +15,7 @@ use Rattle.wire.specs.Refusal.{codeOf}
 use Rattle.wire.specs.declared.refusal.Refusal.{Refusal}
 use Rattle.wire.specs.declared.refusal.Refusal.the-variants as F
 use Rattle.reassembly.specs.Base.{caseB}
-use Rattle.reassembly.specs.Slots.{Note}
+use Rattle.reassembly.specs.Slots.{noRow}
 use Rattle.reassembly.specs.Take.{Seg, rejectionCode, slotNo, frameIn}
 use Rattle.reassembly.specs.TakeFacts.{rejection-codes}
 use Rattle.reassembly.specs.Store.{bytesOf, takeIn}
@@ -25,15 +25,13 @@ use Rattle.reassembly.specs.declared.slot.Row.{Row}
 use Rattle.reassembly.specs.declared.take.Outcome.{Outcome}
 use Rattle.reassembly.specs.declared.take.Outcome.the-variants as O
 use Rattle.endpoint.specs.Answer.{dropCode, valuesOf}
-use Rattle.endpoint.specs.Config.{configOf, rowsOf, rowOf, noPeer}
+use Rattle.endpoint.specs.Config.{configOf}
 use Rattle.endpoint.specs.Receive.{answers, headerOf, judgeOf, Step, rowAt, unchanged, stepped, stepOf, withRow}
-use Rattle.endpoint.specs.ReceiveLaws.{row-at}
 use Rattle.endpoint.specs.declared.answer.Target.{Target}
 use Rattle.endpoint.specs.declared.answer.Drop.{Drop}
 use Rattle.endpoint.specs.declared.answer.Drop.the-variants as D
 use Rattle.endpoint.specs.declared.answer.Received.{Received}
 use Rattle.endpoint.specs.declared.answer.Received.the-variants as R
-use Rattle.endpoint.specs.declared.config.Peer.{Peer}
 use Rattle.endpoint.specs.declared.config.Endpoint.{Endpoint}
 
 -- ---- one answer of the table: 0 or 1, or a refusal's, 2 to 17
@@ -91,11 +89,8 @@ pub record FoundBad (e : Endpoint) (m k : List ℕ) (d : Drop) : Type 0 where
   pub bad-frame : judgeOf (configOf e) p (takeIn p (rowAt e p) m g .note) (frameIn bytesOf (takeIn p (rowAt e p) m g .mem) (slotNo p slot) (g .frame-length)) ≡ bad d
 
 pub same-row : (e : Endpoint) (p : ℕ) → withRow e p (rowAt e p) ≡ e
-unfolding withRow
-same-row e p =
-    let q : record { row = rowAt e p; address = getD (e .peers) p noPeer .address } ≡ getD (e .peers) p noPeer =
-    ap (λ (r : Row). record { row = r; address = getD (e .peers) p noPeer .address }) (sym (row-at e p)) in
-    rw (q, set-getD (e .peers) p noPeer)
+unfolding withRow rowAt
+same-row e p = rw (set-getD (e .rows) p noRow)
 
 unchanged-nothing : (e : Endpoint) (p : ℕ) (m : List ℕ) (a : Received) → Nothing e m (unchanged e p m a)
 unchanged-nothing e p m a = record { endpoint = same-row e p; memory = refl }

@@ -34,7 +34,6 @@ use Rattle.reassembly.specs.declared.take.Outcome.the-variants as O
 use Rattle.endpoint.specs.Answer.{placeOf}
 use Rattle.endpoint.specs.Config.{Config, configOf, findPeer}
 use Rattle.endpoint.specs.Receive.{answers, isDelivered, carried?, peer?, ours?, ip?, headerOf, judgeOf, Step, rowAt, stepped, stepOf}
-use Rattle.endpoint.specs.ReceiveLaws.{peer-below}
 use Rattle.endpoint.specs.Formats.{CarriesFrame, CarriesSegment, GoodFrame}
 use Rattle.endpoint.specs.FormatsLaws.{Lies, judge-sound, judge-complete, segment-sound, segment-complete, frame-sound, frame-complete}
 use Rattle.endpoint.specs.declared.answer.Place.{Place}

@@ -27,7 +27,7 @@ use Rattle.reassembly.specs.SetUp as U
 use Rattle.reassembly.specs.ClaimProof.{claim}
 use Rattle.reassembly.specs.Carried.{EveryRun, every-run}
 use Rattle.reassembly.specs.declared.slot.Row.{Row}
-use Rattle.endpoint.specs.Config.{Config, configOf, rowsOf, findPeer, Adding, setUp}
+use Rattle.endpoint.specs.Config.{Config, configOf, findPeer, Adding, setUp}
 use Rattle.endpoint.specs.ConfigLaws.{set-up-valid}
 use Rattle.endpoint.specs.Receive.{answers, layers, headerOf, sender?, sourceOf, judgeOf, Step, stepOf, worldOf}
 use Rattle.endpoint.specs.Calls.{Left, calls, calls-are, receive-is, promised}
@@ -46,7 +46,7 @@ pub record From (c : Config) (packet : List ℕ) (p : ℕ) : Type 0 where
 
 -- an endpoint as the theory of runs has it
 abbrev pub endsOf : Endpoint → U.Endpoint Config
-endsOf e = record { config = configOf e; rows = rowsOf e }
+endsOf e = record { config = configOf e; rows = e .rows }
 
 -- ---- THE STATEMENT, of an endpoint and a peer
 
@@ -98,7 +98,7 @@ noAdding c a = c
 pub demand-three : (own port mtu : ℕ) (adds : List Adding) (p : ℕ) → p < 8 → Demand3 (setUp own port mtu adds) p
 demand-three own port mtu adds p p< = of (setUp own port mtu adds) (set-up-valid own port mtu adds .rows)
   where
-    of : (e : Endpoint) → rowsOf e ≡ U.setUp Config Adding noAdding (configOf e) [] .rows → Demand3 e p
+    of : (e : Endpoint) → e .rows ≡ U.setUp Config Adding noAdding (configOf e) [] .rows → Demand3 e p
     of e rows =
         record {
           claims = subst (λ (r : List Row). Claim answers Config layers (record { config = configOf e; rows = r }) p) (sym rows) (claim answers Config layers Adding noAdding (configOf e) [] (promised e) p p<);

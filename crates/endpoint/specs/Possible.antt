@@ -15,7 +15,7 @@ use Rattle.reassembly.specs.InTurn.{InTurn}
 use Rattle.reassembly.specs.OneByOne.{turns-in-turn}
 use Rattle.reassembly.specs.SetUp.{isPeer, peerOf, Promised, SameFrame, World, from, answersOf, answerIn, deliveries, Cuts, Claim}
 use Rattle.endpoint.specs.Demand3.{demand-three}
-use Rattle.endpoint.specs.Config.{Config, configOf, rowsOf}
+use Rattle.endpoint.specs.Config.{Config, configOf}
 use Rattle.endpoint.specs.ConfigLaws.{set-up-valid}
 use Rattle.endpoint.specs.Receive.{answers, inMemory, headerOf, judgeOf, layers, worldOf}
 use Rattle.endpoint.specs.ReceiveLaws.{header-kept, header-whose, config-few}
@@ -87,7 +87,7 @@ possible = rw ready-config (record { cuts = cuts; mixing = is-mixing; in-turn = 
 
 -- ---- the consequences, over every memory of 55,296 bytes or more
 
-claimed : Claim answers Config layers (record { config = configOf ready; rows = rowsOf ready }) 0
+claimed : Claim answers Config layers (record { config = configOf ready; rows = ready .rows }) 0
 claimed = demand-three 167772161 7471 1500 calls 0 (omega arith) .claims
 
 -- an answer that delivers this inner frame from the memory, to this tenant by this binding
@@ -111,7 +111,7 @@ module _ (m : List ℕ) (enough : 55296 ≤ length m) where
   -- with what its Context ID says
   pub answered : Answered (worldOf ready m)
   answered = rw ready-config (
-      let c : Claim answers Config layers (record { config = listed; rows = rowsOf ready }) 0 = rw ready-config at claimed in
+      let c : Claim answers Config layers (record { config = listed; rows = ready .rows }) 0 = rw ready-config at claimed in
       let right = c .delivers frames cuts mixed is-mixing m enough in
       let last-a = right (take 8 mixed) (drop 9 mixed) 0 0 (omega arith) refl in
       let last-b = right (take 9 mixed) (drop 10 mixed) 1 1 (omega arith) refl in

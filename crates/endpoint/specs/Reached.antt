@@ -8,8 +8,7 @@ use mathlib.Core.List.{List, [], _∷_, _++_}
 use native.Mathlib.Omega.{arith}
 use lib.ListN.{getD, set, replicate}
 use Rattle.wire.specs.Checks.{Check, _⇒_, first}
-use Rattle.reassembly.specs.Base.{map-set}
-use Rattle.endpoint.specs.Config.{Config, configOf, addressOf, noPeer, findPeer, isSome, fresh, startOf, refusedAdd, addPeerChecks, withAddress, addPeerOf, addBindingChecks, withBinding, addBindingOf, tickOf, Adding, addPeer, addBinding, added, addedAll, setUp}
+use Rattle.endpoint.specs.Config.{Config, configOf, findPeer, isSome, fresh, startOf, refusedAdd, addPeerChecks, withAddress, addPeerOf, addBindingChecks, withBinding, addBindingOf, tickOf, Adding, addPeer, addBinding, added, addedAll, setUp}
 use Rattle.endpoint.specs.ConfigLaws.{start-cases, add-peer-cases, add-binding-cases, Valid, set-up-valid, config-tick}
 use Rattle.endpoint.specs.ConfigExits.{peerAdded, bindingAdded}
 use Rattle.endpoint.specs.Receive.{stepOf, withRow}
@@ -114,7 +113,7 @@ withBindingIn c n peer kind network tenant = record {
 
 config-peer : (e : Endpoint) (n address : ℕ) → configOf (withAddress e n address) ≡ withPeerIn (configOf e) n address
 unfolding configOf withAddress
-config-peer e n address = rw (map-set addressOf (e .peers) n (record { row = getD (e .peers) n noPeer .row; address = address }))
+config-peer e n address = refl
 
 config-binding : (e : Endpoint) (n peer kind network tenant : ℕ) → configOf (withBinding e n peer kind network tenant) ≡ withBindingIn (configOf e) n peer kind network tenant
 unfolding configOf withBinding

@@ -1,9 +1,9 @@
 -- Receiving (document 01, "The numbered answers"): what the layers below make of a packet, what a complete STT frame is worth, and one receive, whole.
 -- Assumes nothing.
-use Prim.Native.Nat.{ℕ, zero, suc, _+_, _-_, _*_, _<_, _≤_}
-use mathlib.Core.Path.{_≡_, refl}
+use Prim.Native.Nat.{ℕ, _+_}
+use mathlib.Core.Path.{refl}
 use mathlib.Core.Bool.{Bool, true, false, cond}
-use mathlib.Core.List.{List, [], _∷_, _++_, map}
+use mathlib.Core.List.{List}
 use mathlib.Core.Option.{Option, none, some}
 use lib.ListN.{length, getD, set, drop}
 use lib.Dec.{ltb, eqb}
@@ -23,14 +23,14 @@ use Rattle.wire.specs.declared.stt.SttRead.the-variants as T
 use Rattle.wire.specs.declared.frame.FrameRead.{FrameRead}
 use Rattle.wire.specs.declared.frame.FrameRead.the-variants as F
 use Rattle.reassembly.specs.Slots.{Note, noRow}
-use Rattle.reassembly.specs.Take.{Seg, segOf, Effect}
+use Rattle.reassembly.specs.Take.{segOf, Effect}
 use Rattle.reassembly.specs.Store.{bytesOf, takeIn}
 use Rattle.reassembly.specs.Receive.{Answers, Seen, stranger, plain, segment, Verdict, bad, good, told}
 use Rattle.reassembly.specs.SetUp.{Layers, World}
 use Rattle.reassembly.specs.declared.slot.Row.{Row}
 use Rattle.endpoint.specs.Answer.{valuesOf}
 use Rattle.endpoint.specs.Search.{lowest}
-use Rattle.endpoint.specs.Config.{Config, configOf, rowsOf, findPeer, binds, noPeer}
+use Rattle.endpoint.specs.Config.{Config, configOf, withRows, findPeer, binds}
 use Rattle.endpoint.specs.declared.answer.Place.{Place}
 use Rattle.endpoint.specs.declared.answer.Target.{Target}
 use Rattle.endpoint.specs.declared.answer.Drop.{Drop}
@@ -39,7 +39,6 @@ use Rattle.endpoint.specs.declared.answer.Received.{Received}
 use Rattle.endpoint.specs.declared.answer.Received.the-variants as R
 use Rattle.endpoint.specs.declared.receive.Inner.{Inner}
 use Rattle.endpoint.specs.declared.receive.Inner.the-variants as N
-use Rattle.endpoint.specs.declared.config.Peer.{Peer}
 use Rattle.endpoint.specs.declared.config.Endpoint.{Endpoint}
 use Rattle.endpoint.specs.declared.receive.Changed.{Changed}
 use Rattle.endpoint.specs.declared.receive.Receipt.{Receipt}
@@ -168,7 +167,7 @@ pub record Step : Type 0 where
   pub mem : List ℕ
 
 unfoldable pub rowAt : Endpoint → ℕ → Row
-rowAt e p = getD (rowsOf e) p noRow
+rowAt e p = getD (e .rows) p noRow
 
 -- nothing changes: peer p keeps its row
 abbrev pub unchanged : Endpoint → ℕ → List ℕ → Received → Step
@@ -185,22 +184,11 @@ unfoldable pub stepOf : Endpoint → (memory packet : List ℕ) → Step
 stepOf e m k = cond (ltb (length m) 55296) (unchanged e 0 m (R.Dropped D.Memory)) (stepped e m (headerOf (configOf e) k))
 
 abbrev pub changedOf : Step → Changed
-changedOf s = record { row = s .row; peer = s .peer; answer = s .answer }
+changedOf s = record { row = s .row; answer = s .answer }
 
 -- peer p's row is this one
 unfoldable pub withRow : Endpoint → ℕ → Row → Endpoint
-withRow e p row = record {
-  networks = e .networks;
-  peers = set (e .peers) p (record { row = row; address = getD (e .peers) p noPeer .address });
-  own = e .own;
-  tenants = e .tenants;
-  port = e .port;
-  mtu = e .mtu;
-  «peer_count» = e .«peer_count»;
-  «binding_count» = e .«binding_count»;
-  kinds = e .kinds;
-  owners = e .owners;
-}
+withRow e p row = withRows e (set (e .rows) p row)
 
 -- what the call gives back; the memory is the step's
 abbrev pub receiptOf : Endpoint → Step → Receipt
@@ -208,4 +196,4 @@ receiptOf e s = record { endpoint = withRow e (s .peer) (s .row); answer = s .an
 
 -- an endpoint and its memory, as the theory of runs has them
 abbrev pub worldOf : Endpoint → List ℕ → World Config
-worldOf e m = record { ends = record { config = configOf e; rows = rowsOf e }; mem = m }
+worldOf e m = record { ends = record { config = configOf e; rows = e .rows }; mem = m }

@@ -1,16 +1,18 @@
 -- What the functions of `receive` give, over plain values, and the laws by which they add up to `stepOf`.
 -- Assumes nothing.
-use Prim.Native.Nat.{ℕ, zero, suc, _+_, _-_, _*_, _<_, _≤_, min}
+use Prim.Native.Nat.{ℕ, _+_, _-_, _*_, _<_, _≤_, min}
 use mathlib.Core.Path.{_≡_, refl, sym, ap, _∙_}
 use mathlib.Core.Bool.{Bool, true, false, cond}
-use mathlib.Core.List.{List, [], _∷_, _++_, map}
+use mathlib.Core.List.{List, []}
 use mathlib.Core.Option.{Option, none, some}
 use native.Mathlib.Omega.{arith}
-use lib.ListN.{length, getD, set, take, drop, List·getD-map}
+use lib.ListN.{length, getD, set, take, drop}
 use borrow.Author.Tests.{lt-ltb, le-ltb, eq-eqb, ne-eqb}
 use lib.Dec.{ltb, eqb}
 use Rattle.wire.specs.Bytes.{part}
-use Rattle.wire.specs.BytesLaws.{part-is, part-drop}
+use Rattle.wire.specs.BytesLaws.{part-is, part-drop, part-length}
+use Rattle.wire.specs.Ipv4Laws.{ipv4-bounds}
+use Rattle.wire.specs.CarriageLaws.{segment-within}
 use Rattle.wire.specs.Ipv4.{ipv4Of}
 use Rattle.wire.specs.Carriage.{carriageOf}
 use Rattle.wire.specs.Stt.{sttOf}
@@ -25,14 +27,13 @@ use Rattle.wire.specs.declared.carriage.Carried.{Carried}
 use Rattle.wire.specs.declared.carriage.Carried.the-variants as C
 use Rattle.wire.specs.declared.stt.SttRead.{SttRead}
 use Rattle.wire.specs.declared.stt.SttRead.the-variants as T
-use Rattle.wire.specs.declared.frame.FrameRead.{FrameRead}
 use Rattle.wire.specs.declared.frame.FrameRead.the-variants as F
 use Rattle.reassembly.specs.Slots.{Note, noRow}
 use Rattle.reassembly.specs.TakeFacts.{length-frame}
 use Rattle.reassembly.specs.StoreLaws.{slot-inside}
 use Rattle.reassembly.specs.Take.{Seg, segOf, Effect, frameIn}
 use Rattle.reassembly.specs.Store.{bytesOf, takeIn, slotStart}
-use Rattle.reassembly.specs.Receive.{Seen, stranger, plain, segment, Verdict, bad, good, spoken, told}
+use Rattle.reassembly.specs.Receive.{Seen as Made, stranger, plain, segment, spoken, told}
 use Rattle.reassembly.specs.Base.{caseB}
 use Rattle.reassembly.specs.SetUp.{Kept, peerOf}
 use Rattle.reassembly.specs.TakeLaws.{takenOf}
@@ -47,9 +48,8 @@ use Rattle.endpoint.specs.Search.{lowest, foundOf}
 use Rattle.endpoint.specs.SearchLaws.{lowest-some}
 use Rattle.endpoint.specs.declared.search.Found.{Found}
 use Rattle.endpoint.specs.declared.search.Found.the-variants as L
-use Rattle.endpoint.specs.Config.{Config, configOf, rowsOf, rowOf, addressOf, noPeer, hasAddress, findPeer, binds}
-use Rattle.endpoint.specs.Receive.{answers, frame?, bound?, innerFrom, answerAt, tunnelFrom, carried?, peer?, headerOf, ours?, ip?, sender?, sourceOf, verdictOf, stt?, sttFrom, judgeOf, Step, rowAt, unchanged, stepped, stepOf, changedOf, withRow, receiptOf}
-use Rattle.endpoint.specs.declared.answer.Place.{Place}
+use Rattle.endpoint.specs.Config.{Config, configOf, withRows, lent, hasAddress, findPeer, binds}
+use Rattle.endpoint.specs.Receive.{answers, innerFrom, answerAt, tunnelFrom, carried?, peer?, headerOf, ours?, ip?, sender?, sourceOf, verdictOf, sttFrom, judgeOf, Step, rowAt, stepped, stepOf, changedOf, withRow, receiptOf}
 use Rattle.endpoint.specs.declared.answer.Target.{Target}
 use Rattle.endpoint.specs.declared.answer.Drop.{Drop}
 use Rattle.endpoint.specs.declared.answer.Drop.the-variants as D
@@ -57,8 +57,11 @@ use Rattle.endpoint.specs.declared.answer.Received.{Received}
 use Rattle.endpoint.specs.declared.answer.Received.the-variants as R
 use Rattle.endpoint.specs.declared.receive.Inner.{Inner}
 use Rattle.endpoint.specs.declared.receive.Inner.the-variants as N
+use Rattle.endpoint.specs.declared.receive.Due.{Due}
+use Rattle.endpoint.specs.declared.receive.Verdict.{Verdict}
+use Rattle.endpoint.specs.declared.receive.Verdict.the-variants as W
+use Rattle.endpoint.specs.declared.receive.Seen.{Seen}
 use Rattle.endpoint.specs.declared.receive.Changed.{Changed}
-use Rattle.endpoint.specs.declared.receive.Receipt.{Receipt}
 use Rattle.endpoint.specs.declared.config.Endpoint.{Endpoint}
 
 -- ---- the parts
@@ -70,9 +73,6 @@ ipDrop (I.Refused r) = D.Format r
 abbrev pub sttDrop : SttRead → Drop
 sttDrop (T.Header context) = D.Memory
 sttDrop (T.Refused r) = D.Format r
-
-abbrev pub droppedWith : Row → Drop → Changed
-droppedWith row d = record { row = row; peer = 0; answer = R.Dropped d }
 
 -- the answer on a complete STT frame that lies in the memory from `at` on
 unfoldable pub judgedFrom : (networks kinds owners tenants : List ℕ) (n peer at : ℕ) → List ℕ → Received
@@ -99,17 +99,79 @@ segmentFrom networks kinds owners tenants n peer row header bytes m =
     let o : Effect bytesOf = takeIn peer row m (segOf header bytes) in
     record { peer = peer; row = o .row; answer = settledFrom networks kinds owners tenants n peer (o .outcome) (header .«frame_length») (o .mem); mem = o .mem }
 
-abbrev pub carriedFrom : (networks kinds owners tenants : List ℕ) (n peer : ℕ) → Row → (start : ℕ) (payload memory : List ℕ) → Carried → Step
-carriedFrom networks kinds owners tenants n peer row start payload m (C.Refused r) = record { peer = peer; row = row; answer = R.Dropped (D.Format r); mem = m }
-carriedFrom networks kinds owners tenants n peer row start payload m (C.Tunnel t) =
-    record { peer = peer; row = row; answer = tunnelFrom networks kinds owners tenants n peer (t .kind) (t .network) (start + t .start) (drop (t .start) payload); mem = m }
-carriedFrom networks kinds owners tenants n peer row start payload m (C.Segment g) =
-    segmentFrom networks kinds owners tenants n peer row g (drop (g .start) payload) m
+-- what is made of a listed peer's packet, by what it carries
+abbrev pub carriedFrom : (networks kinds owners tenants : List ℕ) (n peer start end : ℕ) → List ℕ → Carried → Verdict
+carriedFrom networks kinds owners tenants n peer start end k (C.Refused r) = W.Answer (R.Dropped (D.Format r))
+carriedFrom networks kinds owners tenants n peer start end k (C.Tunnel t) =
+    W.Answer (tunnelFrom networks kinds owners tenants n peer (t .kind) (t .network) (start + t .start) (part k (start + t .start) end))
+carriedFrom networks kinds owners tenants n peer start end k (C.Segment g) = W.Take (record { header = g; start = start + g .start; end = end })
 
-unfoldable pub peerFrom : (networks kinds owners tenants : List ℕ) (n port peer : ℕ) → Row → Ipv4 → (packet memory : List ℕ) → Step
-peerFrom networks kinds owners tenants n port peer row h k m =
-    carriedFrom networks kinds owners tenants n peer row (h .start) (part k (h .start) (h .end)) m
-    (carriageOf (h .protocol) (h .source) (h .destination) port (part k (h .start) (h .end)))
+unfoldable pub verdictFrom : (networks kinds owners tenants : List ℕ) (n port peer : ℕ) → Ipv4 → List ℕ → Verdict
+verdictFrom networks kinds owners tenants n port peer h k =
+    carriedFrom networks kinds owners tenants n peer (h .start) (h .end) k (carriageOf (h .protocol) (h .source) (h .destination) port (part k (h .start) (h .end)))
+
+-- ---- a look: check 2, then 3 to 10, and for VXLAN and NVGRE 11 to 13. `room` is the memory's length
+
+-- a packet of no listed peer
+abbrev pub strangerWith : Drop → Seen
+strangerWith d = record { peer = 0; verdict = W.Answer (R.Dropped d) }
+
+abbrev pub seenPeer : Option ℕ → (ℕ → Verdict) → Seen
+seenPeer none next = strangerWith D.Peer
+seenPeer (some p) next = record { peer = p; verdict = next p }
+
+abbrev pub seenIp : Ipv4Read → (Ipv4 → Seen) → Seen
+seenIp (I.Refused r) next = strangerWith (D.Format r)
+seenIp (I.Packet h) next = next h
+
+abbrev pub seenVerdict : Endpoint → List ℕ → Ipv4 → (peer : ℕ) → Verdict
+seenVerdict e k h p = verdictFrom (e .networks) (e .kinds) (e .owners) (e .tenants) (min (e .«binding_count») 64) (e .port) p h k
+
+abbrev pub seenHeader : Endpoint → List ℕ → Ipv4 → Seen
+seenHeader e k h = cond (eqb (h .destination) (e .own)) (seenPeer (findPeer (configOf e) (h .source)) (seenVerdict e k h)) (strangerWith D.Destination)
+
+unfoldable pub seenOf : Endpoint → (packet : List ℕ) → (room : ℕ) → Seen
+seenOf e k room = cond (ltb room 55296) (strangerWith D.Memory) (seenIp (ipv4Of k) (seenHeader e k))
+
+-- ---- settling what was seen, with that peer's row
+
+abbrev pub kept : (peer : ℕ) → Row → (memory : List ℕ) → Received → Step
+kept p row m a = record { peer = p; row = row; answer = a; mem = m }
+
+abbrev pub byVerdict : Verdict → (Received → Step) → (Due → Step) → Step
+byVerdict (W.Answer a) answer take = answer a
+byVerdict (W.Take d) answer take = take d
+
+-- a segment that is due, if it lies in the packet
+abbrev pub takenFrom : Endpoint → (peer : ℕ) → Row → (packet memory : List ℕ) → Due → Step
+takenFrom e p row k m d =
+    cond (ltb (d .end) (d .start)) (kept p row m (R.Dropped D.Memory))
+    (cond (ltb (length k) (d .end)) (kept p row m (R.Dropped D.Memory))
+    (segmentFrom (e .networks) (e .kinds) (e .owners) (e .tenants) (min (e .«binding_count») 64) p row (d .header) (part k (d .start) (d .end)) m))
+
+unfoldable pub settleOf : Endpoint → Seen → Row → (packet memory : List ℕ) → Step
+settleOf e x row k m = byVerdict (x .verdict) (kept (x .peer) row m) (takenFrom e (x .peer) row k m)
+
+-- both know of an endpoint only the columns that they are lent
+pub seen-lent : (e : Endpoint) (k : List ℕ) (room : ℕ)
+    → seenOf (lent (e .networks) (e .kinds) (e .owners) (e .tenants) (e .addresses) (e .own) (e .port) 0 (e .«peer_count») (e .«binding_count»)) k room ≡ seenOf e k room
+unfolding seenOf findPeer configOf
+seen-lent e k room = refl
+
+pub settle-lent : (e : Endpoint) (x : Seen) (row : Row) (k m : List ℕ)
+    → settleOf (lent (e .networks) (e .kinds) (e .owners) (e .tenants) [] 0 0 0 0 (e .«binding_count»)) x row k m ≡ settleOf e x row k m
+unfolding settleOf
+settle-lent e x row k m = refl
+
+-- it settles what was seen of that peer
+verdict-peer : (e : Endpoint) (p : ℕ) (row : Row) (k m : List ℕ) (v : Verdict) → byVerdict v (kept p row m) (takenFrom e p row k m) .peer ≡ p
+unfolding segmentFrom
+verdict-peer e p row k m (W.Answer a) = refl
+verdict-peer e p row k m (W.Take d) = caseB (ltb (d .end) (d .start)) (λ q. rw q) (λ q. caseB (ltb (length k) (d .end)) (λ r. rw (q, r)) (λ r. rw (q, r)))
+
+pub settle-peer : (e : Endpoint) (x : Seen) (row : Row) (k m : List ℕ) → settleOf e x row k m .peer ≡ x .peer
+unfolding settleOf
+settle-peer e x row k m = verdict-peer e (x .peer) row k m (x .verdict)
 
 -- ---- the ways out of the inner frame's checks
 
@@ -217,7 +279,7 @@ module _ (peer : ℕ) (row : Row) (header : Segment) (bytes m : List ℕ) (t : T
 
   module _ (networks kinds owners tenants : List ℕ) (n : ℕ) where
     pub segment-out : (a : Received) → a ≡ settledFrom networks kinds owners tenants n peer (t .outcome) (header .«frame_length») m′
-        → record { row = t .row; peer = peer; answer = a } ≡ changedOf (segmentFrom networks kinds owners tenants n peer row header bytes m)
+        → record { row = t .row; answer = a } ≡ changedOf (segmentFrom networks kinds owners tenants n peer row header bytes m)
     unfolding segmentFrom
     segment-out a e = rw (e, same-row, same-outcome, left)
 
@@ -227,37 +289,24 @@ module _ (peer : ℕ) (row : Row) (header : Segment) (bytes m : List ℕ) (t : T
 
 -- ---- the ways out of a listed peer's packet
 
-module _ (networks kinds owners tenants : List ℕ) (n port peer : ℕ) (row : Row) (h : Ipv4) (k m payload : List ℕ) (is : payload ≡ part k (h .start) (h .end)) where
-  module _ (r : Refusal) (read : carriageOf (h .protocol) (h .source) (h .destination) port payload ≡ C.Refused r) where
-    pub peer-refused : record { row = row; peer = peer; answer = R.Dropped (D.Format r) } ≡ changedOf (peerFrom networks kinds owners tenants n port peer row h k m)
-    unfolding peerFrom
-    peer-refused = rw (← is, read)
+module _ (networks kinds owners tenants : List ℕ) (n port peer : ℕ) (h : Ipv4) (k payload : List ℕ) (is : payload ≡ part k (h .start) (h .end)) where
+  pub verdict-refused : (r : Refusal) → carriageOf (h .protocol) (h .source) (h .destination) port payload ≡ C.Refused r
+      → W.Answer (R.Dropped (D.Format r)) ≡ verdictFrom networks kinds owners tenants n port peer h k
+  unfolding verdictFrom
+  verdict-refused r read = rw (← is, read)
 
-    pub peer-refused-left : m ≡ peerFrom networks kinds owners tenants n port peer row h k m .mem
-    unfolding peerFrom
-    peer-refused-left = rw (← is, read)
+  pub verdict-tunnel : (t : Tunnel) → carriageOf (h .protocol) (h .source) (h .destination) port payload ≡ C.Tunnel t → (frame : List ℕ) → frame ≡ drop (t .start) payload
+      → (a : Received) → a ≡ tunnelFrom networks kinds owners tenants n peer (t .kind) (t .network) (h .start + t .start) frame
+      → W.Answer a ≡ verdictFrom networks kinds owners tenants n port peer h k
+  unfolding verdictFrom
+  verdict-tunnel t read frame f a e =
+      let same : frame ≡ part k (h .start + t .start) (h .end) = f ∙ ap (drop (t .start)) is ∙ part-drop k (h .start) (h .end) (t .start) in
+      rw (← is, read, ← same, e)
 
-  module _ (t : Tunnel) (read : carriageOf (h .protocol) (h .source) (h .destination) port payload ≡ C.Tunnel t) where
-    pub peer-tunnel : (frame : List ℕ) → frame ≡ drop (t .start) payload → (a : Received)
-        → a ≡ tunnelFrom networks kinds owners tenants n peer (t .kind) (t .network) (h .start + t .start) frame
-        → record { row = row; peer = peer; answer = a } ≡ changedOf (peerFrom networks kinds owners tenants n port peer row h k m)
-    unfolding peerFrom
-    peer-tunnel frame f a e = rw (← is, read, ← f, e)
-
-    pub peer-tunnel-left : m ≡ peerFrom networks kinds owners tenants n port peer row h k m .mem
-    unfolding peerFrom
-    peer-tunnel-left = rw (← is, read)
-
-  module _ (g : Segment) (read : carriageOf (h .protocol) (h .source) (h .destination) port payload ≡ C.Segment g) (bytes : List ℕ) (b : bytes ≡ drop (g .start) payload) where
-    pub peer-segment : segmentFrom networks kinds owners tenants n peer row g bytes m ≡ peerFrom networks kinds owners tenants n port peer row h k m
-    unfolding peerFrom
-    peer-segment = rw (← is, read, b)
-
--- ---- a step's parts
-
-own-is : (e : Endpoint) (a : ℕ) → a ≡ e .own → eqb a (configOf e .own) ≡ true
-unfolding configOf
-own-is e a q = eq-eqb a (e .own) q
+  pub verdict-segment : (g : Segment) → carriageOf (h .protocol) (h .source) (h .destination) port payload ≡ C.Segment g
+      → W.Take (record { header = g; start = h .start + g .start; end = h .end }) ≡ verdictFrom networks kinds owners tenants n port peer h k
+  unfolding verdictFrom
+  verdict-segment g read = rw (← is, read)
 
 -- ---- the judgement of a complete frame, as the theory of runs applies it and as the code does
 
@@ -292,70 +341,119 @@ module _ (c : Config) (p : ℕ) (row : Row) (m : List ℕ) (g : Seg) where
       let inside : slotStart (4 * p + s) + n ≤ length after = slot-inside after p s n (omega (arith, w .memory, take-length p row m g)) (w .is-peer) (w .is-slot) (omega (arith, w .fits .most)) in
       judged-out c p after (4 * p + s) n inside (takeIn p row m g .note)
 
--- what a listed peer's packet carries, as the theory of runs takes it and as the code does
-carried-out : (e : Endpoint) (m k : List ℕ) (p : ℕ) (h : Ipv4) (x : Carried)
-    → stepped e m (carried? (configOf e) p (h .start) (h .end) k x)
-    ≡ carriedFrom (e .networks) (e .kinds) (e .owners) (e .tenants) (min (e .«binding_count») 64) p (rowAt e p) (h .start) (part k (h .start) (h .end)) m x
-unfolding configOf segmentFrom
-carried-out e m k p h (C.Refused r) = refl
-carried-out e m k p h (C.Tunnel t) = rw (part-drop k (h .start) (h .end) (t .start))
-carried-out e m k p h (C.Segment g) =
-    let bytes : List ℕ = part k (h .start + g .start) (h .end) in
-    rw (part-drop k (h .start) (h .end) (g .start), told-out (configOf e) p (rowAt e p) m (segOf g bytes) (takeIn p (rowAt e p) m (segOf g bytes) .outcome) refl)
+-- ---- the ways out of a look
 
--- ---- the ways out of a receive
+module _ (e : Endpoint) (k : List ℕ) (room : ℕ) where
+  pub seen-memory : room < 55296 → strangerWith D.Memory ≡ seenOf e k room
+  unfolding seenOf
+  seen-memory l = rw (lt-ltb room 55296 l)
 
-pub row-at : (e : Endpoint) (p : ℕ) → getD (e .peers) p noPeer .row ≡ rowAt e p
-unfolding rowAt rowsOf
-row-at e p = sym (List·getD-map rowOf (e .peers) p noPeer)
-
-module _ (e : Endpoint) (m k : List ℕ) where
-  pub dropped-out : (row : Row) (d : Drop) → row ≡ rowAt e 0 → stepOf e m k ≡ unchanged e 0 m (R.Dropped d) → droppedWith row d ≡ changedOf (stepOf e m k)
-  dropped-out row d r q = rw (r, q)
-
-  pub dropped-left : (d : Drop) → stepOf e m k ≡ unchanged e 0 m (R.Dropped d) → m ≡ stepOf e m k .mem
-  dropped-left d q = sym (ap (λ (s : Step). s .mem) q)
-
-  pub step-memory : length m < 55296 → stepOf e m k ≡ unchanged e 0 m (R.Dropped D.Memory)
-  unfolding stepOf
-  step-memory l = rw (lt-ltb (length m) 55296 l)
-
-  module _ (enough : 55296 ≤ length m) where
-    pub step-ip : (r : Refusal) (d : Drop) → ipv4Of k ≡ I.Refused r → d ≡ D.Format r → stepOf e m k ≡ unchanged e 0 m (R.Dropped d)
-    unfolding stepOf headerOf
-    step-ip r d q z = rw (le-ltb (length m) 55296 enough, q, z)
+  module _ (enough : 55296 ≤ room) where
+    pub seen-ip : (r : Refusal) (d : Drop) → ipv4Of k ≡ I.Refused r → d ≡ D.Format r → strangerWith d ≡ seenOf e k room
+    unfolding seenOf
+    seen-ip r d q z = rw (le-ltb room 55296 enough, q, z)
 
     module _ (h : Ipv4) (ip : ipv4Of k ≡ I.Packet h) where
-      pub step-destination : (h .destination ≡ e .own → ⊥) → stepOf e m k ≡ unchanged e 0 m (R.Dropped D.Destination)
-      unfolding stepOf headerOf configOf
-      step-destination n = rw (le-ltb (length m) 55296 enough, ip, ne-eqb (h .destination) (e .own) n)
+      pub seen-destination : (h .destination ≡ e .own → ⊥) → strangerWith D.Destination ≡ seenOf e k room
+      unfolding seenOf
+      seen-destination n = rw (le-ltb room 55296 enough, ip, ne-eqb (h .destination) (e .own) n)
 
       module _ (ours : h .destination ≡ e .own) where
-        pub step-stranger : findPeer (configOf e) (h .source) ≡ none → stepOf e m k ≡ unchanged e 0 m (R.Dropped D.Peer)
-        unfolding stepOf headerOf
-        step-stranger q = rw (le-ltb (length m) 55296 enough, ip, own-is e (h .destination) ours, q)
+        pub seen-stranger : findPeer (configOf e) (h .source) ≡ none → strangerWith D.Peer ≡ seenOf e k room
+        unfolding seenOf
+        seen-stranger q = rw (le-ltb room 55296 enough, ip, eq-eqb (h .destination) (e .own) ours, q)
 
-        pub step-peer : (p : ℕ) → findPeer (configOf e) (h .source) ≡ some p
-            → stepOf e m k ≡ peerFrom (e .networks) (e .kinds) (e .owners) (e .tenants) (min (e .«binding_count») 64) (e .port) p (rowAt e p) h k m
-        unfolding stepOf headerOf peerFrom configOf
-        step-peer p q =
-            rw (le-ltb (length m) 55296 enough, ip, eq-eqb (h .destination) (e .own) ours, q)
-            (carried-out e m k p h (carriageOf (h .protocol) (h .source) (h .destination) (e .port) (part k (h .start) (h .end))))
-
-        pub peer-out : (p n : ℕ) (row : Row) → findPeer (configOf e) (h .source) ≡ some p → n ≡ min (e .«binding_count») 64 → row ≡ rowAt e p
-            → peerFrom (e .networks) (e .kinds) (e .owners) (e .tenants) n (e .port) p row h k m ≡ stepOf e m k
-        peer-out p n row q s r = rw (s, r) (sym (step-peer p q))
+        pub seen-peer : (p n : ℕ) (v : Verdict) → findPeer (configOf e) (h .source) ≡ some p → n ≡ min (e .«binding_count») 64
+            → v ≡ verdictFrom (e .networks) (e .kinds) (e .owners) (e .tenants) n (e .port) p h k → record { peer = p; verdict = v } ≡ seenOf e k room
+        unfolding seenOf
+        seen-peer p n v q s r = rw (le-ltb room 55296 enough, ip, eq-eqb (h .destination) (e .own) ours, q, r, s)
 
 -- the search for the sender, as the code makes it
-pub sender-is : (e : Endpoint) (source n : ℕ) (f : Found) → f ≡ foundOf (lowest (hasAddress (map addressOf (e .peers)) source) n) → n ≡ min (e .«peer_count») 8
+pub sender-is : (e : Endpoint) (source n : ℕ) (f : Found) → f ≡ foundOf (lowest (hasAddress (e .addresses) source) n) → n ≡ min (e .«peer_count») 8
     → f ≡ foundOf (findPeer (configOf e) source)
 unfolding findPeer configOf
-sender-is e source n f q s = q ∙ ap (λ (x : ℕ). foundOf (lowest (hasAddress (map addressOf (e .peers)) source) x)) s
+sender-is e source n f q s = q ∙ ap (λ (x : ℕ). foundOf (lowest (hasAddress (e .addresses) source) x)) s
 
--- a listed peer's number
-pub peer-below : (e : Endpoint) (source p : ℕ) → findPeer (configOf e) source ≡ some p → p < 8
-unfolding findPeer configOf
-peer-below e source p q = omega (arith, lowest-some (hasAddress (map addressOf (e .peers)) source) (min (e .«peer_count») 8) p q .below)
+-- ---- the ways out of settling
+
+module _ (e : Endpoint) (x : Seen) (row : Row) (k m : List ℕ) where
+  pub settle-answer : (a : Received) → x .verdict ≡ W.Answer a → settleOf e x row k m ≡ kept (x .peer) row m a
+  unfolding settleOf
+  settle-answer a q = rw q
+
+  module _ (d : Due) (due : x .verdict ≡ W.Take d) where
+    pub settle-turned : d .end < d .start → settleOf e x row k m ≡ kept (x .peer) row m (R.Dropped D.Memory)
+    unfolding settleOf
+    settle-turned l = rw (due, lt-ltb (d .end) (d .start) l)
+
+    module _ (order : d .start ≤ d .end) where
+      pub settle-outside : length k < d .end → settleOf e x row k m ≡ kept (x .peer) row m (R.Dropped D.Memory)
+      unfolding settleOf
+      settle-outside l = rw (due, le-ltb (d .end) (d .start) order, lt-ltb (length k) (d .end) l)
+
+      pub settle-taken : d .end ≤ length k → (n : ℕ) (bytes : List ℕ) → n ≡ min (e .«binding_count») 64 → bytes ≡ part k (d .start) (d .end)
+          → segmentFrom (e .networks) (e .kinds) (e .owners) (e .tenants) n (x .peer) row (d .header) bytes m ≡ settleOf e x row k m
+      unfolding settleOf
+      settle-taken l n bytes s b = rw (due, le-ltb (d .end) (d .start) order, le-ltb (length k) (d .end) l, s, b)
+
+-- what the code gives where nothing changes
+module _ (e : Endpoint) (x : Seen) (row : Row) (k m : List ℕ) (p : ℕ) (a : Received) (is : settleOf e x row k m ≡ kept p row m a) where
+  pub kept-out : record { row = row; answer = a } ≡ changedOf (settleOf e x row k m)
+  kept-out = rw is
+
+  pub kept-left : m ≡ settleOf e x row k m .mem
+  kept-left = rw is
+
+-- ---- what the code makes of a packet, and what the theory of runs does
+
+module _ (e : Endpoint) (m k : List ℕ) where
+  -- settled, the one is the other's step
+  record Adds (x : Seen) (y : Made answers) : Type 0 where
+    peer : x .peer ≡ stepped e m y .peer
+    step : settleOf e x (rowAt e (x .peer)) k m ≡ stepped e m y
+
+  carried-adds : (h : Ipv4) → (h .start ≤ h .end) × (h .end ≤ length k) → (p : ℕ) (x : Carried)
+      → carriageOf (h .protocol) (h .source) (h .destination) (e .port) (part k (h .start) (h .end)) ≡ x
+      → Adds
+      (record { peer = p; verdict = carriedFrom (e .networks) (e .kinds) (e .owners) (e .tenants) (min (e .«binding_count») 64) p (h .start) (h .end) k x })
+      (carried? (configOf e) p (h .start) (h .end) k x)
+  unfolding settleOf segmentFrom configOf
+  carried-adds h b p (C.Refused r) q = record { peer = refl; step = refl }
+  carried-adds h b p (C.Tunnel t) q = record { peer = refl; step = refl }
+  carried-adds h b p (C.Segment g) q =
+      let bytes : List ℕ = part k (h .start + g .start) (h .end) in
+      let in-payload : g .start ≤ length (part k (h .start) (h .end)) =
+      segment-within (h .protocol) (h .source) (h .destination) (e .port) (part k (h .start) (h .end)) g q in
+      let in-order : h .start + g .start ≤ h .end = omega (arith, part-length k (h .start) (h .end) (b .1)) in
+      record {
+        peer = refl;
+        step =
+            rw (
+              le-ltb (h .end) (h .start + g .start) in-order,
+              le-ltb (length k) (h .end) (b .1),
+              told-out (configOf e) p (rowAt e p) m (segOf g bytes) (takeIn p (rowAt e p) m (segOf g bytes) .outcome) refl,
+            );
+      }
+
+  peer-adds : (h : Ipv4) → (h .start ≤ h .end) × (h .end ≤ length k) → (o : Option ℕ) → Adds (seenPeer o (seenVerdict e k h)) (peer? (configOf e) h k o)
+  unfolding settleOf verdictFrom configOf
+  peer-adds h b none = record { peer = refl; step = refl }
+  peer-adds h b (some p) = carried-adds h b p (carriageOf (h .protocol) (h .source) (h .destination) (e .port) (part k (h .start) (h .end))) refl
+
+  ours-adds : (h : Ipv4) → (h .start ≤ h .end) × (h .end ≤ length k) → (b : Bool)
+      → Adds (cond b (seenPeer (findPeer (configOf e) (h .source)) (seenVerdict e k h)) (strangerWith D.Destination)) (ours? (configOf e) h k b)
+  unfolding settleOf
+  ours-adds h b true = peer-adds h b (findPeer (configOf e) (h .source))
+  ours-adds h b false = record { peer = refl; step = refl }
+
+  ip-adds : (x : Ipv4Read) → ipv4Of k ≡ x → Adds (seenIp x (seenHeader e k)) (ip? (configOf e) k x)
+  unfolding settleOf configOf
+  ip-adds (I.Refused r) q = record { peer = refl; step = refl }
+  ip-adds (I.Packet h) q = ours-adds h (ipv4-bounds k h q) (eqb (h .destination) (e .own))
+
+  header-adds : Adds (seenIp (ipv4Of k) (seenHeader e k)) (headerOf (configOf e) k)
+  unfolding headerOf
+  header-adds = ip-adds (ipv4Of k) refl
 
 -- ---- what the layers promise to the theory of runs, for a configuration of at most eight peers
 
@@ -419,35 +517,36 @@ pub config-few : (e : Endpoint) → configOf e .peers ≤ 8
 unfolding configOf
 config-few e = omega arith
 
--- ---- the row that a receive puts back
+-- ---- what was looked at and then settled is the step
 
-stepped-below : (e : Endpoint) (m : List ℕ) (x : Seen answers) → Kept answers x → stepped e m x .peer < 8
+stepped-below : (e : Endpoint) (m : List ℕ) (x : Made answers) → Kept answers x → stepped e m x .peer < 8
 stepped-below e m (stranger a) l = omega arith
 stepped-below e m (plain p a) l = l .0
 stepped-below e m (segment p g) l = l
 
-pub step-below : (e : Endpoint) (m k : List ℕ) → stepOf e m k .peer < 8
-unfolding stepOf
-step-below e m k =
-    caseB (ltb (length m) 55296)
-    (λ b. rw b (omega arith))
-    (λ b. rw b (stepped-below e m (headerOf (configOf e) k) (header-kept (configOf e) (config-few e) k)))
+module _ (e : Endpoint) (k : List ℕ) where
+  pub seen-below : (room : ℕ) → seenOf e k room .peer < 8
+  unfolding seenOf
+  seen-below room =
+      caseB (ltb room 55296)
+      (λ b. rw b (omega arith))
+      (λ b. rw (b, header-adds e [] k .peer) (stepped-below e [] (headerOf (configOf e) k) (header-kept (configOf e) (config-few e) k)))
 
-pub receipt-out : (e : Endpoint) (s : Step) (x : Changed) → x ≡ changedOf s
-    → record {
-      endpoint = record {
-        networks = e .networks;
-        peers = set (e .peers) (x .peer) (record { row = x .row; address = getD (e .peers) (x .peer) noPeer .address });
-        own = e .own;
-        tenants = e .tenants;
-        port = e .port;
-        mtu = e .mtu;
-        «peer_count» = e .«peer_count»;
-        «binding_count» = e .«binding_count»;
-        kinds = e .kinds;
-        owners = e .owners;
-      };
-      answer = x .answer;
-    } ≡ receiptOf e s
+  module _ (m : List ℕ) where
+    pub seen-step : seenOf e k (length m) .peer ≡ stepOf e m k .peer
+    unfolding seenOf stepOf
+    seen-step = caseB (ltb (length m) 55296) (λ b. rw b) (λ b. rw b (header-adds e m k .peer))
+
+    pub settle-step : settleOf e (seenOf e k (length m)) (rowAt e (seenOf e k (length m) .peer)) k m ≡ stepOf e m k
+    unfolding seenOf stepOf settleOf
+    settle-step = caseB (ltb (length m) 55296) (λ b. rw b) (λ b. rw b (header-adds e m k .step))
+
+    -- with the row as the code reads it
+    pub settled-is : (x : Seen) → x ≡ seenOf e k (length m) → settleOf e x (getD (e .rows) (x .peer) noRow) k m ≡ stepOf e m k
+    unfolding rowAt
+    settled-is x q = rw q settle-step
+
+-- the row put back
+pub receipt-out : (e : Endpoint) (s : Step) (p : ℕ) (x : Changed) → p ≡ s .peer → x ≡ changedOf s → record { endpoint = withRows e (set (e .rows) p (x .row)); answer = x .answer } ≡ receiptOf e s
 unfolding withRow
-receipt-out e s x q = rw q
+receipt-out e s p x q r = rw (q, r)

@@ -2,19 +2,18 @@
 -- Assumes nothing.
 use mathlib.Core.Path.{_≡_, refl, sym, ap, _∙_}
 use mathlib.Core.Bool.{Bool, true, false, _&&_}
-use mathlib.Core.List.{List, [], _∷_, map}
+use mathlib.Core.List.{List}
 use mathlib.Core.Logic.{_≢_}
 use mathlib.Core.Option.{none, some}
 use Prim.Native.Nat.{ℕ, zero, suc, _+_, _<_, _≤_}
 use native.Mathlib.Omega.{arith}
 use lib.ListN.{getD}
-use lib.Dec.{eqb}
-use borrow.Author.Tests.{eqb-true, eqb-false, eq-eqb, ne-eqb}
+use lib.Dec.{eqb, ltb}
+use borrow.Author.Tests.{eqb-true, eqb-false, eq-eqb, ne-eqb, ltb-true, ltb-false}
 use Rattle.reassembly.specs.Base.{caseB, clash, and-l, and-r}
 use Rattle.endpoint.specs.declared.search.Found.the-variants as F
-use Rattle.endpoint.specs.declared.config.Peer.{Peer}
-use Rattle.endpoint.specs.Search.{from, lowest, Lowest, foundOf}
-use Rattle.endpoint.specs.Config.{addressOf, hasAddress, binds, noPeer}
+use Rattle.endpoint.specs.Search.{from, lowest, Lowest, foundOf, NextWith}
+use Rattle.endpoint.specs.Config.{hasAddress, binds}
 
 module _ (test : ℕ → Bool) where
   -- r is the lowest that passes among the k numbers from i on
@@ -101,20 +100,27 @@ module _ (test : ℕ → Bool) where
   pub found-nothing : (n i : ℕ) → n ≤ i → ((j : ℕ) → j < i → test j ≡ false) → F.Nothing ≡ foundOf (lowest test n)
   found-nothing n i l h = sym (ap foundOf (lowest-not n (λ j b. h j (omega arith))))
 
+-- ---- the next number at which a list has x
+
+module _ (l : List ℕ) (x : ℕ) where
+  pub not-more : (first i : ℕ) → ((j : ℕ) → first ≤ j → j < i → getD l j 0 ≢ x) → getD l i 0 ≢ x → (j : ℕ) → first ≤ j → j < i + 1 → getD l j 0 ≢ x
+  not-more first i h d j a b e = caseB (eqb j i) (λ q. d (ap (λ (k : ℕ). getD l k 0) (sym (eqb-true j i q)) ∙ e)) (λ q. let o : j ≢ i = eqb-false j i q in h j a (omega arith) e)
+
+  pub next-there : (first n i : ℕ) → first ≤ i → i < n → ((j : ℕ) → first ≤ j → j < i → getD l j 0 ≢ x) → getD l i 0 ≡ x → NextWith l x first n i
+  next-there first n i a b h e = record { from-first = a; at-most = omega arith; none-before = h; there = λ _. e }
+
+  pub next-none : (first n i : ℕ) → first ≤ n → n ≤ i → ((j : ℕ) → first ≤ j → j < i → getD l j 0 ≢ x) → NextWith l x first n n
+  next-none first n i a b h = record { from-first = a; at-most = omega arith; none-before = λ j c (d : j < n). h j c (omega arith); there = λ (d : n < n). absurd (omega arith) }
+
 -- ---- the tests, as the code makes them
 
-address-at : (l : List Peer) (i : ℕ) → getD (map addressOf l) i 0 ≡ getD l i noPeer .address
-address-at [] i = refl
-address-at (p ∷ l) zero = refl
-address-at (p ∷ l) (suc i) = address-at l i
-
-pub has-address : (l : List Peer) (address i : ℕ) → getD l i noPeer .address ≡ address → hasAddress (map addressOf l) address i ≡ true
+pub has-address : (l : List ℕ) (address i : ℕ) → getD l i 0 ≡ address → hasAddress l address i ≡ true
 unfolding hasAddress
-has-address l address i e = eq-eqb (getD (map addressOf l) i 0) address (address-at l i ∙ e)
+has-address l address i e = eq-eqb (getD l i 0) address e
 
-pub other-address : (l : List Peer) (address i : ℕ) → (getD l i noPeer .address ≡ address → ⊥) → hasAddress (map addressOf l) address i ≡ false
+pub other-address : (l : List ℕ) (address i : ℕ) → (getD l i 0 ≡ address → ⊥) → hasAddress l address i ≡ false
 unfolding hasAddress
-other-address l address i d = ne-eqb (getD (map addressOf l) i 0) address (λ e. d (sym (address-at l i) ∙ e))
+other-address l address i d = ne-eqb (getD l i 0) address d
 
 module _ (networks kinds owners : List ℕ) (peer kind network i : ℕ) where
   pub binds-hit : getD networks i 0 ≡ network → getD kinds i 0 ≡ kind → getD owners i 0 ≡ peer → binds networks kinds owners peer kind network i ≡ true
@@ -143,3 +149,11 @@ module _ (networks kinds owners : List ℕ) (peer kind network i : ℕ) where
         eqb-true (getD kinds i 0) kind (and-l k o (and-r n (k && o) e)),
         eqb-true (getD owners i 0) peer (and-r k o (and-r n (k && o) e)),
       )
+
+-- where no number before `first` passes, none before the next that has the network does
+pub none-till : (networks kinds owners : List ℕ) (peer kind network first n r : ℕ) → NextWith networks network first n r
+    → ((j : ℕ) → j < first → binds networks kinds owners peer kind network j ≡ false) → (j : ℕ) → j < r → binds networks kinds owners peer kind network j ≡ false
+none-till networks kinds owners peer kind network first n r w h j l =
+    caseB (ltb j first)
+    (λ q. h j (ltb-true j first q))
+    (λ q. other-network networks kinds owners peer kind network j (w .none-before j (ltb-false j first q) l))

@@ -7,7 +7,7 @@ use mathlib.Core.List.{List, [], _∷_}
 use native.Mathlib.Omega.{arith}
 use native.Mathlib.Nat.{suc-mul, le-div-iff-mul-le}
 use borrow.Author.Tests.{eq-eqb, ne-eqb, lt-ltb, le-ltb, le-leb, lt-leb, leb-true, leb-false, eqb-false}
-use lib.ListN.{length, getD, List·getD-map}
+use lib.ListN.{length, getD}
 use lib.Dec.{ltb, leb, eqb}
 use Rattle.wire.specs.BytesLaws.{wrote}
 use Rattle.wire.specs.Checks.{Check, _⇒_, first, At, given, decided, tests}
@@ -23,7 +23,7 @@ use Rattle.endpoint.specs.declared.answer.Wrapped.{Wrapped}
 use Rattle.endpoint.specs.declared.answer.Wrapped.the-variants as Y
 use Rattle.endpoint.specs.declared.config.Endpoint.{Endpoint}
 use Rattle.endpoint.specs.declared.wrap.Route.{Route}
-use Rattle.endpoint.specs.Config.{configOf, addressOf, noPeer}
+use Rattle.endpoint.specs.Config.{configOf, lent}
 use Rattle.endpoint.specs.Wrap.{segmentsOf, low32, packetOf, exceeds, isBad, kindAt, networkAt, ownerAt, wrapChecks, Wrote, refusedWrap, wrapOf}
 
 -- ---- checks 13, 22, 23 (segment), 21: what the call comes to once the binding is found
@@ -272,7 +272,7 @@ module _ (e : Endpoint) (b : ℕ) (frame : List ℕ) (k identifier : ℕ) (old :
         (record {
           network = networkAt e b;
           own = e .own;
-          peer = getD (e .peers) (ownerAt e b) noPeer .address;
+          peer = getD (e .addresses) (ownerAt e b) 0;
           port = e .port;
           mtu = e .mtu;
           kind = kindAt e b;
@@ -280,4 +280,11 @@ module _ (e : Endpoint) (b : ℕ) (frame : List ℕ) (k identifier : ℕ) (old :
         frame k identifier old
     unfolding wrapOf wrapChecks configOf sendOf sendChecks
     wrap-sends h =
-        rw (lt-leb (min (e .«binding_count») 64) b listed, lt-leb 8 (ownerAt e b) h, ← List·getD-map addressOf (e .peers) (ownerAt e b) noPeer)
+        rw (lt-leb (min (e .«binding_count») 64) b listed, lt-leb 8 (ownerAt e b) h)
+
+-- it knows of an endpoint only the columns and settings that it is lent
+pub wrap-lent : (e : Endpoint) (b : ℕ) (frame : List ℕ) (k identifier : ℕ) (old : List ℕ)
+    → wrapOf (lent (e .networks) (e .kinds) (e .owners) [] (e .addresses) (e .own) (e .port) (e .mtu) 0 (e .«binding_count»)) b frame k identifier old
+    ≡ wrapOf e b frame k identifier old
+unfolding wrapOf wrapChecks configOf
+wrap-lent e b frame k identifier old = refl

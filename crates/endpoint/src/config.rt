@@ -11,18 +11,12 @@ use crate::search::least;
 use reassembly::slot::Row;
 use reassembly::slot::Slot;
 
-// A peer: its row of four slots, and its address.
-#[repr(C)]
-pub struct Peer {
-    pub row: Row,
-    pub address: u32,
-}
-
-// An endpoint. Bindings are parallel arrays, so that a lookup touches only what it compares.
+// An endpoint. Peers and bindings are parallel arrays, so that a lookup touches only what it compares.
 #[repr(C)]
 pub struct Endpoint {
     pub networks: [u64; 64],
-    pub peers: [Peer; 8],
+    pub rows: [Row; 8],
+    pub addresses: [u32; 8],
     pub own: u32,
     pub tenants: [u16; 64],
     pub port: u16,
@@ -61,13 +55,11 @@ fn free_row() -> Row
 fn blank(own: u32, port: u16, mtu: u16) -> Endpoint
     ensures { λ r. ⌜ r ≡ fresh own port mtu ⌝ }
 {
-    let peer = Peer {
-        row: free_row(),
-        address: 0,
-    };
+    let row = free_row();
     Endpoint {
         networks: [0; 64],
-        peers: [peer; 8],
+        rows: [row; 8],
+        addresses: [0; 8],
         own: own,
         tenants: [0; 64],
         port: port,
@@ -142,8 +134,7 @@ pub fn add_peer(e: Endpoint, address: u32) -> Configured
         return unchanged(e, ConfigRefusal::OutOfRange);
     }
     let n = e.peer_count as usize;
-    let peers = e.peers;
-    let listed = find_peer(peers, least(n, 8), address);
+    let listed = find_peer(&e.addresses, least(n, 8), address);
     if let Found::At(_) = listed {
         return unchanged(e, ConfigRefusal::AlreadyListed);
     }
@@ -151,9 +142,7 @@ pub fn add_peer(e: Endpoint, address: u32) -> Configured
         return unchanged(e, ConfigRefusal::Full);
     }
     let mut next = e;
-    let mut peer = next.peers[n];
-    peer.address = address;
-    next.peers[n] = peer;
+    next.addresses[n] = address;
     next.peer_count = e.peer_count + 1;
     Configured {
         endpoint: next,

@@ -1,15 +1,16 @@
 // Receiving: from an outer packet to a tenant's frame (document 01, "The numbered answers").
 ghost use mathlib.Core.Path.{_≡_};
+ghost use mathlib.Core.List.{[]};
 ghost use Prim.Native.Nat.{_+_, _≤_};
 ghost use lib.ListN.{length};
+ghost use Rattle.endpoint.specs.Config.{lent};
 ghost use Rattle.endpoint.specs.Receive.{innerFrom, tunnelFrom, changedOf, stepOf, receiptOf};
-ghost use Rattle.endpoint.specs.ReceiveLaws.{ipDrop, judgedFrom, settledFrom, sttDrop, droppedWith, segmentFrom, peerFrom, Lies};
+ghost use Rattle.endpoint.specs.ReceiveLaws.{ipDrop, judgedFrom, settledFrom, sttDrop, strangerWith, segmentFrom, verdictFrom, Lies, seenOf, settleOf};
 use crate::answer::Drop;
 use crate::answer::Place;
 use crate::answer::Received;
 use crate::answer::Target;
 use crate::config::Endpoint;
-use crate::config::Peer;
 use crate::search::Found;
 use crate::search::find_binding;
 use crate::search::find_peer;
@@ -26,10 +27,27 @@ use wire::ipv4::Ipv4Read;
 use wire::segment::Segment;
 use wire::stt::SttRead;
 
-// What a receive changes of the endpoint, one peer's row, and its answer.
+// A segment that is to be taken: its header, and where its bytes lie in the packet.
+pub struct Due {
+    pub header: Segment,
+    pub start: usize,
+    pub end: usize,
+}
+
+pub enum Verdict {
+    Answer(Received),
+    Take(Due),
+}
+
+// What a look at a packet tells. A packet of no listed peer has peer 0, whose row stays.
+pub struct Seen {
+    pub peer: usize,
+    pub verdict: Verdict,
+}
+
+// What a receive changes of the endpoint, the row of the peer that was seen, and its answer.
 pub struct Changed {
     pub row: Row,
-    pub peer: usize,
     pub answer: Received,
 }
 
@@ -246,7 +264,6 @@ fn segment<'a>(
     let changed = taken.row;
     Changed {
         row: changed,
-        peer: peer,
         answer: answer,
     }
 }
@@ -260,14 +277,11 @@ fn from_peer<'a>(
     n: usize,
     port: u16,
     peer: usize,
-    row: Row,
     h: Ipv4,
     packet: &[u8],
-    memory: &mut [u8],
-) -> Changed
+) -> Verdict
     requires { ⌜ (n ≤ 64) × ((h .start ≤ h .end) × (h .end ≤ length (now packet))) ⌝ }
-    ensures { λ r. ⌜ r ≡ changedOf (peerFrom (now (networks .entry)) (now (kinds .entry)) (now (owners .entry)) (now (tenants .entry)) n port peer row h (now (packet .entry)) (now (memory .entry))) ⌝ }
-    ensures { λ _. ⌜ now (memory .exit) ≡ peerFrom (now (networks .entry)) (now (kinds .entry)) (now (owners .entry)) (now (tenants .entry)) n port peer row h (now (packet .entry)) (now (memory .entry)) .mem ⌝ }
+    ensures { λ r. ⌜ r ≡ verdictFrom (now (networks .entry)) (now (kinds .entry)) (now (owners .entry)) (now (tenants .entry)) n port peer h (now (packet .entry)) ⌝ }
 {
     let start = h.start;
     let end = h.end;
@@ -275,11 +289,7 @@ fn from_peer<'a>(
     let read = carriage::read(h.protocol, h.source, h.destination, port, payload);
     match read {
         Carried::Refused(r) => {
-            return Changed {
-                row: row,
-                peer: peer,
-                answer: Received::Dropped(Drop::Format(r)),
-            };
+            return Verdict::Answer(Received::Dropped(Drop::Format(r)));
         }
         Carried::Tunnel(t) => {
             let at = t.start;
@@ -295,14 +305,106 @@ fn from_peer<'a>(
                 start + at,
                 frame,
             );
-            return Changed {
-                row: row,
-                peer: peer,
-                answer: answer,
-            };
+            return Verdict::Answer(answer);
         }
         Carried::Segment(g) => {
-            let at = g.start;
+            return Verdict::Take(Due {
+                header: g,
+                start: start + g.start,
+                end: end,
+            });
+        }
+    }
+}
+
+fn stranger(d: Drop) -> Seen
+    ensures { λ r. ⌜ r ≡ strangerWith d ⌝ }
+{
+    Seen {
+        peer: 0,
+        verdict: Verdict::Answer(Received::Dropped(d)),
+    }
+}
+
+// Looks at a packet: checks 2 to 10 in order, and for VXLAN and NVGRE 11 to 13. `room` is the memory's length. The endpoint's columns are lent: no row and no
+// memory is touched, so that a caller moves only the row of the peer that was seen.
+pub fn look<'a>(
+    networks: &'a [u64; 64],
+    kinds: &'a [u8; 64],
+    owners: &'a [u8; 64],
+    tenants: &'a [u16; 64],
+    addresses: &'a [u32; 8],
+    own: u32,
+    port: u16,
+    peer_count: u16,
+    binding_count: u16,
+    packet: &[u8],
+    room: usize,
+) -> Seen
+    ensures { λ r. ⌜ r ≡ seenOf (lent (now (networks .entry)) (now (kinds .entry)) (now (owners .entry)) (now (tenants .entry)) (now (addresses .entry)) own port 0 «peer_count» «binding_count») (now (packet .entry)) room ⌝ }
+{
+    if room < 55296 {
+        return stranger(Drop::Memory);
+    }
+    let ip = wire::ipv4::read(packet);
+    let Ipv4Read::Packet(h) = ip else {
+        return stranger(ip_drop(ip));
+    };
+    if h.destination != own {
+        return stranger(Drop::Destination);
+    }
+    let sender = find_peer(addresses, least(peer_count as usize, 8), h.source);
+    let Found::At(p) = sender else {
+        return stranger(Drop::Peer);
+    };
+    let n = least(binding_count as usize, 64);
+    let verdict = from_peer(networks, kinds, owners, tenants, n, port, p, h, packet);
+    Seen {
+        peer: p,
+        verdict: verdict,
+    }
+}
+
+// Settles what was seen, with that peer's row: an answer stands, and a segment that is due is taken. A segment outside the packet, which no look gives, is not.
+pub fn settle<'a>(
+    networks: &'a [u64; 64],
+    kinds: &'a [u8; 64],
+    owners: &'a [u8; 64],
+    tenants: &'a [u16; 64],
+    binding_count: u16,
+    seen: Seen,
+    row: Row,
+    packet: &[u8],
+    memory: &mut [u8],
+) -> Changed
+    ensures { λ r. ⌜ r ≡ changedOf (settleOf (lent (now (networks .entry)) (now (kinds .entry)) (now (owners .entry)) (now (tenants .entry)) [] 0 0 0 0 «binding_count») seen row (now (packet .entry)) (now (memory .entry))) ⌝ }
+    ensures { λ _. ⌜ now (memory .exit) ≡ settleOf (lent (now (networks .entry)) (now (kinds .entry)) (now (owners .entry)) (now (tenants .entry)) [] 0 0 0 0 «binding_count») seen row (now (packet .entry)) (now (memory .entry)) .mem ⌝ }
+{
+    let peer = seen.peer;
+    let verdict = seen.verdict;
+    match verdict {
+        Verdict::Answer(a) => {
+            return Changed {
+                row: row,
+                answer: a,
+            };
+        }
+        Verdict::Take(due) => {
+            let start = due.start;
+            let end = due.end;
+            if end < start {
+                return Changed {
+                    row: row,
+                    answer: Received::Dropped(Drop::Memory),
+                };
+            }
+            if packet.len() < end {
+                return Changed {
+                    row: row,
+                    answer: Received::Dropped(Drop::Memory),
+                };
+            }
+            let n = least(binding_count as usize, 64);
             return segment(
                 networks,
                 kinds,
@@ -311,61 +413,11 @@ fn from_peer<'a>(
                 n,
                 peer,
                 row,
-                g,
-                &payload[at..],
+                due.header,
+                &packet[start..end],
                 memory,
             );
         }
-    }
-}
-
-// Decides on a packet: checks 2 to 7 in order, then by what it carries. It gives the one row that may change, so that a caller moves no more than that.
-pub fn decide(e: Endpoint, packet: &[u8], memory: &mut [u8]) -> Changed
-    ensures { λ r. ⌜ r ≡ changedOf (stepOf e (now (memory .entry)) (now (packet .entry))) ⌝ }
-    ensures { λ _. ⌜ now (memory .exit) ≡ stepOf e (now (memory .entry)) (now (packet .entry)) .mem ⌝ }
-{
-    let zero = e.peers[0];
-    let same = zero.row;
-    if memory.len() < 55296 {
-        return dropped(same, Drop::Memory);
-    }
-    let ip = wire::ipv4::read(packet);
-    let Ipv4Read::Packet(h) = ip else {
-        return dropped(same, ip_drop(ip));
-    };
-    if h.destination != e.own {
-        return dropped(same, Drop::Destination);
-    }
-    let peers = e.peers;
-    let sender = find_peer(peers, least(e.peer_count as usize, 8), h.source);
-    let Found::At(p) = sender else {
-        return dropped(same, Drop::Peer);
-    };
-    let owner = e.peers[p];
-    let n = least(e.binding_count as usize, 64);
-    from_peer(
-        &e.networks,
-        &e.kinds,
-        &e.owners,
-        &e.tenants,
-        n,
-        e.port,
-        p,
-        owner.row,
-        h,
-        packet,
-        memory,
-    )
-}
-
-// Another sender's packet changes nothing: peer 0 keeps its row.
-fn dropped(row: Row, d: Drop) -> Changed
-    ensures { λ r. ⌜ r ≡ droppedWith row d ⌝ }
-{
-    Changed {
-        row: row,
-        peer: 0,
-        answer: Received::Dropped(d),
     }
 }
 
@@ -374,16 +426,36 @@ pub fn receive(e: Endpoint, packet: &[u8], memory: &mut [u8]) -> Receipt
     ensures { λ r. ⌜ r ≡ receiptOf e (stepOf e (now (memory .entry)) (now (packet .entry))) ⌝ }
     ensures { λ _. ⌜ now (memory .exit) ≡ stepOf e (now (memory .entry)) (now (packet .entry)) .mem ⌝ }
 {
-    let changed = decide(e, packet, memory);
-    let p = changed.peer;
+    let seen = look(
+        &e.networks,
+        &e.kinds,
+        &e.owners,
+        &e.tenants,
+        &e.addresses,
+        e.own,
+        e.port,
+        e.peer_count,
+        e.binding_count,
+        packet,
+        memory.len(),
+    );
+    let p = seen.peer;
+    let old = e.rows[p];
+    let changed = settle(
+        &e.networks,
+        &e.kinds,
+        &e.owners,
+        &e.tenants,
+        e.binding_count,
+        seen,
+        old,
+        packet,
+        memory,
+    );
     let answer = changed.answer;
     let row = changed.row;
     let mut next = e;
-    let old = next.peers[p];
-    next.peers[p] = Peer {
-        row: row,
-        address: old.address,
-    };
+    next.rows[p] = row;
     Receipt {
         endpoint: next,
         answer: answer,

@@ -1,10 +1,8 @@
 // Lookups (document 01, "Listing and numbers"): the lowest-numbered peer or binding that matches.
 ghost use mathlib.Core.Path.{_≡_};
-ghost use mathlib.Core.List.{map};
 ghost use Prim.Native.Nat.{_≤_, min};
-ghost use Rattle.endpoint.specs.Search.{lowest, foundOf};
-ghost use Rattle.endpoint.specs.Config.{addressOf, hasAddress, binds};
-use crate::config::Peer;
+ghost use Rattle.endpoint.specs.Search.{lowest, foundOf, NextWith};
+ghost use Rattle.endpoint.specs.Config.{hasAddress, binds};
 
 pub enum Found {
     At(usize),
@@ -25,26 +23,40 @@ fn wide(x: u8) -> usize
     x as usize
 }
 
-// The lowest of the first n peers that has this address.
-pub(crate) fn find_peer(peers: [Peer; 8], n: usize, address: u32) -> Found
+// The lowest of the first n peers that has this address. All eight are compared, whatever n is: with a fixed number of turns a turn takes two instructions.
+pub(crate) fn find_peer(addresses: &[u32; 8], n: usize, address: u32) -> Found
     requires { ⌜ n ≤ 8 ⌝ }
-    ensures { λ r. ⌜ r ≡ foundOf (lowest (hasAddress (map addressOf peers) address) n) ⌝ }
+    ensures { λ r. ⌜ r ≡ foundOf (lowest (hasAddress (now (addresses .entry)) address) n) ⌝ }
 {
     let mut i: usize = 0;
-    let found = loop {
-        if n <= i {
-            break Found::Nothing;
-        }
-        let peer = peers[i];
-        if peer.address == address {
-            break Found::At(i);
+    while i < 8 {
+        if addresses[i] == address {
+            if i < n {
+                return Found::At(i);
+            }
+            return Found::Nothing;
         }
         i += 1;
-    };
-    found
+    }
+    Found::Nothing
 }
 
-// The lowest of the first n bindings that has this network, kind and peer. The network is compared first: it is what differs most.
+// The next of the first n bindings that has this network, or n.
+fn next_with(networks: &[u64; 64], from: usize, n: usize, network: u64) -> usize
+    requires { ⌜ (from ≤ n) × (n ≤ 64) ⌝ }
+    ensures { λ r. ⌜ NextWith (now (networks .entry)) network from n r ⌝ }
+{
+    let mut i = from;
+    while i < n {
+        if networks[i] == network {
+            return i;
+        }
+        i += 1;
+    }
+    n
+}
+
+// The lowest of the first n bindings that has this network, kind and peer. The networks are gone through in a loop of their own: they are what differs most.
 pub(crate) fn find_binding<'a>(
     networks: &'a [u64; 64],
     kinds: &'a [u8; 64],
@@ -57,19 +69,14 @@ pub(crate) fn find_binding<'a>(
     requires { ⌜ n ≤ 64 ⌝ }
     ensures { λ r. ⌜ r ≡ foundOf (lowest (binds (now (networks .entry)) (now (kinds .entry)) (now (owners .entry)) peer kind network) n) ⌝ }
 {
-    let mut i: usize = 0;
-    let found = loop {
-        if n <= i {
-            break Found::Nothing;
-        }
-        if networks[i] == network {
-            if kinds[i] == kind {
-                if wide(owners[i]) == peer {
-                    break Found::At(i);
-                }
+    let mut i = next_with(networks, 0, n, network);
+    while i < n {
+        if kinds[i] == kind {
+            if wide(owners[i]) == peer {
+                return Found::At(i);
             }
         }
-        i += 1;
-    };
-    found
+        i = next_with(networks, i + 1, n, network);
+    }
+    Found::Nothing
 }

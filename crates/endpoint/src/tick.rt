@@ -10,11 +10,8 @@ pub fn tick(e: Endpoint) -> Endpoint
     let mut next = e;
     let mut p: usize = 0;
     while p < 8 {
-        let mut peer = next.peers[p];
-        let row = peer.row;
-        let aged = tick_row(row);
-        peer.row = aged;
-        next.peers[p] = peer;
+        let row = next.rows[p];
+        next.rows[p] = tick_row(row);
         p += 1;
     }
     next

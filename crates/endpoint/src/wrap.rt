@@ -1,7 +1,9 @@
 // Wrapping (document 01, "Wrapping"): a tenant's frame goes out on a binding, as one packet or one segment a call.
 ghost use mathlib.Core.Path.{_≡_};
+ghost use mathlib.Core.List.{[]};
 ghost use Prim.Native.Nat.{_+_, _*_, _<_, _≤_};
 ghost use lib.ListN.{length};
+ghost use Rattle.endpoint.specs.Config.{lent};
 ghost use Rattle.endpoint.specs.Wrap.{segmentsOf, exceeds, wrapOf};
 ghost use Rattle.endpoint.specs.WrapExits.{packetOn, Put, pieceOf, sendOf};
 use crate::answer::Packet;
@@ -150,6 +152,45 @@ fn send(route: Route, frame: &[u8], segment: usize, identifier: u32, output: &mu
     })
 }
 
+// Wraps for the endpoint whose columns and settings are lent: the binding is looked up by its number.
+pub fn wrap_on<'a>(
+    networks: &'a [u64; 64],
+    kinds: &'a [u8; 64],
+    owners: &'a [u8; 64],
+    addresses: &'a [u32; 8],
+    own: u32,
+    port: u16,
+    mtu: u16,
+    binding_count: u16,
+    binding: u16,
+    frame: &[u8],
+    segment: u32,
+    identifier: u32,
+    output: &mut [u8],
+) -> Wrapped
+    ensures { λ r. ⌜ r ≡ wrapOf (lent (now (networks .entry)) (now (kinds .entry)) (now (owners .entry)) [] (now (addresses .entry)) own port mtu 0 «binding_count») binding (now (frame .entry)) segment identifier (now (output .entry)) .answer ⌝ }
+    ensures { λ _. ⌜ now (output .exit) ≡ wrapOf (lent (now (networks .entry)) (now (kinds .entry)) (now (owners .entry)) [] (now (addresses .entry)) own port mtu 0 «binding_count») binding (now (frame .entry)) segment identifier (now (output .entry)) .output ⌝ }
+{
+    let b = binding as usize;
+    if least(binding_count as usize, 64) <= b {
+        return Wrapped::Refused(WrapRefusal::Binding);
+    }
+    let owner = owners[b];
+    if 8 <= owner {
+        return Wrapped::Refused(WrapRefusal::Binding);
+    }
+    let p = owner as usize;
+    let route = Route {
+        network: networks[b],
+        own: own,
+        peer: addresses[p],
+        port: port,
+        mtu: mtu,
+        kind: kinds[b],
+    };
+    send(route, frame, segment as usize, identifier, output)
+}
+
 // Writes the packet that carries the frame out on the binding, or that carries its segment of this number, at the front of the output. The identifier is
 // the STT frame's: the segments of a frame are asked for one a call, all under the same one. The endpoint is only read.
 pub fn wrap(
@@ -163,25 +204,19 @@ pub fn wrap(
     ensures { λ r. ⌜ r ≡ wrapOf e binding (now (frame .entry)) segment identifier (now (output .entry)) .answer ⌝ }
     ensures { λ _. ⌜ now (output .exit) ≡ wrapOf e binding (now (frame .entry)) segment identifier (now (output .entry)) .output ⌝ }
 {
-    let b = binding as usize;
-    if least(e.binding_count as usize, 64) <= b {
-        return Wrapped::Refused(WrapRefusal::Binding);
-    }
-    let owner = e.owners[b];
-    if 8 <= owner {
-        return Wrapped::Refused(WrapRefusal::Binding);
-    }
-    let p = owner as usize;
-    let peer = e.peers[p];
-    let network = e.networks[b];
-    let kind = e.kinds[b];
-    let route = Route {
-        network: network,
-        own: e.own,
-        peer: peer.address,
-        port: e.port,
-        mtu: e.mtu,
-        kind: kind,
-    };
-    send(route, frame, segment as usize, identifier, output)
+    wrap_on(
+        &e.networks,
+        &e.kinds,
+        &e.owners,
+        &e.addresses,
+        e.own,
+        e.port,
+        e.mtu,
+        e.binding_count,
+        binding,
+        frame,
+        segment,
+        identifier,
+        output,
+    )
 }

@@ -1,2 +1,3 @@
 -- What the walks of this crate use.
+mod Columns
 mod RowAt

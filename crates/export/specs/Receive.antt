@@ -1,48 +1,59 @@
 -- A receive, which changes of the endpoint no more than one peer's row.
 -- Assumes nothing.
 use Prim.Native.Nat.{ℕ, _<_}
-use mathlib.Core.Path.{_≡_, refl, sym, ap, subst}
+use mathlib.Core.Path.{_≡_, refl, sym, ap, subst, _∙_}
 use mathlib.Core.List.{List}
-use lib.ListN.{getD, set}
+use native.Mathlib.Omega.{arith}
+use lib.ListN.{length, getD, set}
+use lib.Seq.{set-getD}
+use Rattle.reassembly.specs.Slots.{noRow}
 use Rattle.reassembly.specs.declared.slot.Row.{Row}
 use Rattle.endpoint.specs.Answer.{valuesOf}
-use Rattle.endpoint.specs.Config.{noPeer}
+use Rattle.endpoint.specs.Config.{withRows}
 use Rattle.endpoint.specs.Receive.{Step, stepOf, changedOf, receiptOf}
-use Rattle.endpoint.specs.ReceiveLaws.{receipt-out, step-below}
+use Rattle.endpoint.specs.ReceiveLaws.{seenOf, settleOf, settle-peer, seen-below, seen-step, settled-is, receipt-out}
 use Rattle.endpoint.specs.declared.config.Endpoint.{Endpoint}
+use Rattle.endpoint.specs.declared.receive.Seen.{Seen}
 use Rattle.endpoint.specs.declared.receive.Changed.{Changed}
 use Rattle.endpoint.specs.declared.receive.Receipt as E
 use Rattle.export.specs.Answer.{flatOf}
 use Rattle.export.specs.declared.answer.Receipt.{Receipt}
 use Rattle.export.specs.declared.receive.Outcome.{Outcome}
 
--- the endpoint with this row for peer p
-abbrev pub putRow : Endpoint → ℕ → Row → Endpoint
-putRow e p row = record {
-  networks = e .networks;
-  peers = set (e .peers) p (record { row = row; address = getD (e .peers) p noPeer .address });
-  own = e .own;
-  tenants = e .tenants;
-  port = e .port;
-  mtu = e .mtu;
-  «peer_count» = e .«peer_count»;
-  «binding_count» = e .«binding_count»;
-  kinds = e .kinds;
-  owners = e .owners;
-}
-
 -- the row that a receive leaves, whose it is, and the answer
 abbrev pub outcomeOf : Step → Outcome
 outcomeOf s = record { row = s .row; peer = s .peer; answer = flatOf (valuesOf (s .answer)) }
 
+-- what the code makes of what `settle` gives
+pub outcome-out : (e : Endpoint) (y : Seen) (row : Row) (k m : List ℕ) (x : Changed) (a : Receipt) → x ≡ changedOf (settleOf e y row k m) → a ≡ flatOf (valuesOf (x .answer))
+    → record { row = x .row; peer = y .peer; answer = a } ≡ outcomeOf (settleOf e y row k m)
+outcome-out e y row k m x a q f = rw (f, q, settle-peer e y row k m)
+
+-- ---- peer p's row, as it lies in the endpoint
+
+abbrev pub rowOf : Endpoint → ℕ → Row
+rowOf e p = getD (e .rows) p noRow
+
+abbrev pub putRow : Endpoint → ℕ → Row → Endpoint
+putRow e p row = withRows e (set (e .rows) p row)
+
+-- put where it was, it changes nothing
+pub same-row : (e : Endpoint) (p : ℕ) → putRow e p (rowOf e p) ≡ e
+same-row e p = ap (withRows e) (set-getD (e .rows) p noRow)
+
+-- ---- what `looked` gave, and what `settled` makes of it, add up to the receive
+
+module _ (e : Endpoint) (m k : List ℕ) (x : Seen) (is : x ≡ seenOf e k (length m)) where
+  -- there are 8 peers
+  pub seen-listed : x .peer < 8
+  seen-listed = subst (λ (y : Seen). y .peer < 8) (sym is) (seen-below e k (length m))
+
+  pub settled-step : settleOf e x (rowOf e (x .peer)) k m ≡ stepOf e m k
+  settled-step = settled-is e k m x is
+
+pub outcome-below : (e : Endpoint) (m k : List ℕ) (r : Outcome) → r ≡ outcomeOf (stepOf e m k) → r .peer < 8
+outcome-below e m k r q = omega (arith, seen-below e k (length m), seen-step e k m, ap (λ (y : Outcome). y .peer) q)
+
 -- put back, the row makes the endpoint that the receive leaves
 pub put-back : (e : Endpoint) (s : Step) → putRow e (s .peer) (s .row) ≡ receiptOf e s .endpoint
-put-back e s = ap (λ (r : E.Receipt). r .endpoint) (receipt-out e s (changedOf s) refl)
-
--- there are 8 peers
-pub outcome-below : (e : Endpoint) (m k : List ℕ) (r : Outcome) → r ≡ outcomeOf (stepOf e m k) → r .peer < 8
-outcome-below e m k r q = subst (λ (n : ℕ). n < 8) (sym (ap (λ (y : Outcome). y .peer) q)) (step-below e m k)
-
--- what the code makes of what `decide` gives
-pub outcome-out : (s : Step) (x : Changed) (a : Receipt) → x ≡ changedOf s → a ≡ flatOf (valuesOf (x .answer)) → record { row = x .row; peer = x .peer; answer = a } ≡ outcomeOf s
-outcome-out s x a q f = rw (f, q)
+put-back e s = ap (λ (y : E.Receipt). y .endpoint) (receipt-out e s (s .peer) (changedOf s) refl refl)

@@ -1,13 +1,17 @@
 // Receiving.
 ghost use mathlib.Core.Path.{_≡_};
+ghost use mathlib.Core.List.{[]};
 ghost use Rattle.endpoint.specs.Answer.{valuesOf};
+ghost use Rattle.endpoint.specs.Config.{lent};
 ghost use Rattle.endpoint.specs.Receive.{stepOf, receiptOf};
+ghost use Rattle.endpoint.specs.ReceiveLaws.{seenOf, settleOf};
 ghost use Rattle.export.specs.Answer.{flatOf};
 ghost use Rattle.export.specs.Receive.{outcomeOf};
 use crate::answer::Receipt;
 use crate::answer::flat_received;
 use endpoint::config::Endpoint;
 use endpoint::receive;
+use endpoint::receive::Seen;
 use reassembly::slot::Row;
 
 // What a receive leaves of one peer, which is all of the endpoint that it may change, and its answer.
@@ -17,19 +21,92 @@ pub struct Outcome {
     pub answer: Receipt,
 }
 
-// The receive by value: the work of `niulassenc_receive`, which only takes the endpoint from behind its reference and puts the row back there.
-pub(crate) fn received(e: Endpoint, packet: &[u8], memory: &mut [u8]) -> Outcome
-    ensures { λ r. ⌜ (r ≡ outcomeOf (stepOf e (now (memory .entry)) (now (packet .entry)))) × (now (memory .exit) ≡ stepOf e (now (memory .entry)) (now (packet .entry)) .mem) ⌝ }
+// What becomes of a packet that was looked at, with the answer as C has it.
+pub(crate) fn flat_settled<'a>(
+    networks: &'a [u64; 64],
+    kinds: &'a [u8; 64],
+    owners: &'a [u8; 64],
+    tenants: &'a [u16; 64],
+    binding_count: u16,
+    seen: Seen,
+    row: Row,
+    packet: &[u8],
+    memory: &mut [u8],
+) -> Outcome
+    ensures { λ r. ⌜ (r ≡ outcomeOf (settleOf (lent (now (networks .entry)) (now (kinds .entry)) (now (owners .entry)) (now (tenants .entry)) [] 0 0 0 0 «binding_count») seen row (now (packet .entry)) (now (memory .entry))))
+        × (now (memory .exit) ≡ settleOf (lent (now (networks .entry)) (now (kinds .entry)) (now (owners .entry)) (now (tenants .entry)) [] 0 0 0 0 «binding_count») seen row (now (packet .entry)) (now (memory .entry)) .mem) ⌝ }
 {
-    let changed = receive::decide(e, packet, memory);
+    let changed = receive::settle(
+        networks,
+        kinds,
+        owners,
+        tenants,
+        binding_count,
+        seen,
+        row,
+        packet,
+        memory,
+    );
     let answer = changed.answer;
-    let row = changed.row;
+    let left = changed.row;
     let given = flat_received(answer);
     Outcome {
-        row: row,
-        peer: changed.peer,
+        row: left,
+        peer: seen.peer,
         answer: given,
     }
+}
+
+// The look at a packet, and what becomes of it: the endpoint is read where it lies, and its columns are lent on.
+pub(crate) fn looked(endpoint: &Endpoint, packet: &[u8], room: usize) -> Seen
+    ensures { λ r. ⌜ r ≡ seenOf (now (endpoint .entry)) (now (packet .entry)) room ⌝ }
+{
+    receive::look(
+        &endpoint.networks,
+        &endpoint.kinds,
+        &endpoint.owners,
+        &endpoint.tenants,
+        &endpoint.addresses,
+        endpoint.own,
+        endpoint.port,
+        endpoint.peer_count,
+        endpoint.binding_count,
+        packet,
+        room,
+    )
+}
+
+pub(crate) fn settled(
+    endpoint: &Endpoint,
+    seen: Seen,
+    row: Row,
+    packet: &[u8],
+    memory: &mut [u8],
+) -> Outcome
+    ensures { λ r. ⌜ (r ≡ outcomeOf (settleOf (now (endpoint .entry)) seen row (now (packet .entry)) (now (memory .entry))))
+        × (now (memory .exit) ≡ settleOf (now (endpoint .entry)) seen row (now (packet .entry)) (now (memory .entry)) .mem) ⌝ }
+{
+    flat_settled(
+        &endpoint.networks,
+        &endpoint.kinds,
+        &endpoint.owners,
+        &endpoint.tenants,
+        endpoint.binding_count,
+        seen,
+        row,
+        packet,
+        memory,
+    )
+}
+
+// The receive as far as it only reads the endpoint: it gives the row that is to be put back.
+pub(crate) fn received(endpoint: &Endpoint, packet: &[u8], memory: &mut [u8]) -> Outcome
+    ensures { λ r. ⌜ (r ≡ outcomeOf (stepOf (now (endpoint .entry)) (now (memory .entry)) (now (packet .entry)))) × (now (memory .exit) ≡ stepOf (now (endpoint .entry)) (now (memory .entry)) (now (packet .entry)) .mem) ⌝ }
+{
+    let seen = looked(endpoint, packet, memory.len());
+    let p = seen.peer;
+    let row = endpoint.rows[p];
+    settled(endpoint, seen, row, packet, memory)
 }
 
 // Receives a packet. The memory is lent to every receive of an endpoint; a delivered STT frame lies there until the next one.
@@ -43,9 +120,8 @@ pub extern "C" fn niulassenc_receive(
         × ((now (endpoint .exit) ≡ receiptOf (now (endpoint .entry)) (stepOf (now (endpoint .entry)) (now (memory .entry)) (now (packet .entry))) .endpoint)
         × (now (memory .exit) ≡ stepOf (now (endpoint .entry)) (now (memory .entry)) (now (packet .entry)) .mem)) ⌝ }
 {
-    let was = *endpoint;
-    let out = received(was, packet, memory);
+    let out = received(&*endpoint, packet, memory);
     let p = out.peer;
-    endpoint.peers[p].row = out.row;
+    endpoint.rows[p] = out.row;
     out.answer
 }

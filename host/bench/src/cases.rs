@@ -5,6 +5,9 @@ use vectors::directed::{NVGRE, OWN, PEER_A, PORT, STT, VXLAN};
 use vectors::packet::{self, Label, Path};
 use vectors::prng::Prng;
 
+/// The lengths of the inner frames.
+pub const INNER: [usize; 2] = [64, 1514];
+
 /// The network that the packets are on.
 const NETWORK: u64 = 0x00C0_FFEE;
 
@@ -143,7 +146,7 @@ pub fn all() -> Vec<Case> {
 
 fn deliveries(cases: &mut Vec<Case>) {
     for listing in [Listing::Small, Listing::Full] {
-        for length in [64, 1514] {
+        for length in INNER {
             let delivery = |name: &str, kind, packet| {
                 let name = format!("{name}, inner {length}, {}", listing.name());
                 Case::receive(name, kind, listing, 0, packet)
@@ -223,10 +226,14 @@ fn ticks(cases: &mut Vec<Case>) {
     });
 }
 
+pub fn wrap_name(kind: &str, length: usize) -> String {
+    format!("wrap {kind}, inner {length}")
+}
+
 fn wraps(cases: &mut Vec<Case>) {
     for (kind, name) in [(VXLAN, "VXLAN"), (NVGRE, "NVGRE"), (STT, "STT")] {
-        for length in [64, 1514] {
-            let name = format!("wrap {name}, inner {length}");
+        for length in INNER {
+            let name = wrap_name(name, length);
             let case = Case::receive(name, kind, Listing::Full, 0, Vec::new());
             cases.push(Case {
                 call: Call::Wrap(inner(length)),

@@ -169,8 +169,8 @@ impl Endpoint {
     /// The addresses of the listed peers, in the order of their numbers.
     pub fn peers(&self) -> impl ExactSizeIterator<Item = Ipv4Addr> + '_ {
         let count = usize::from(self.raw().peer_count);
-        let listed = self.raw().peers.iter().take(count);
-        listed.map(|peer| peer.address.into())
+        let listed = self.raw().addresses.iter().take(count);
+        listed.map(|&address| address.into())
     }
 
     /// The bindings, in the order of their numbers.
@@ -189,8 +189,8 @@ impl Endpoint {
     /// The frames under way from a peer, by slot; none for a number that no
     /// peer can have.
     pub fn pending(&self, peer: u16) -> [Option<Pending>; 4] {
-        let peer = self.raw().peers.get(usize::from(peer));
-        peer.map_or([None; 4], |peer| peer.row.slots.map(pending))
+        let row = self.raw().rows.get(usize::from(peer));
+        row.map_or([None; 4], |row| row.slots.map(pending))
     }
 
     /// The endpoint for the calls with plain numbers.

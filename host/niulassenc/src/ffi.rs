@@ -24,16 +24,10 @@ pub struct Row {
 
 #[repr(C)]
 #[derive(Clone, Copy, Debug, PartialEq, Eq)]
-pub struct Peer {
-    pub row: Row,
-    pub address: u32,
-}
-
-#[repr(C)]
-#[derive(Clone, Copy, Debug, PartialEq, Eq)]
 pub struct Endpoint {
     pub networks: [u64; BINDINGS],
-    pub peers: [Peer; PEERS],
+    pub rows: [Row; PEERS],
+    pub addresses: [u32; PEERS],
     pub own: u32,
     pub tenants: [u16; BINDINGS],
     pub port: u16,
@@ -121,9 +115,8 @@ macro_rules! layout {
 
 layout!(Slot: 8, 4; identifier 0, frame_length 4, age 6, pending 7);
 layout!(Row: 32, 4; slots 0);
-layout!(Peer: 36, 4; row 0, address 32);
-layout!(Endpoint: 1072, 8; networks 0, peers 512, own 800, tenants 804, port 932, mtu 934,
-    peer_count 936, binding_count 938, kinds 940, owners 1004);
+layout!(Endpoint: 1072, 8; networks 0, rows 512, addresses 768, own 800, tenants 804, port 932,
+    mtu 934, peer_count 936, binding_count 938, kinds 940, owners 1004);
 layout!(Started: 1080, 8; endpoint 0, code 1072);
 layout!(Addition: 4, 2; number 0, code 2);
 layout!(Receipt: 24, 8; start 0, length 8, tenant 16, binding 18, code 20, in_memory 21);

@@ -41,8 +41,8 @@ returns-4 c = c .unchanged4 .ensures ∙ sym (add-peer-exit _ _ 3 (omega (arith,
 
 -- the address is in its range, and not our own
 ranges : (c : tie.Else4) →
-    let start = c .before .before .before .before .before .before in
-    Passed (take 4 (addPeerChecks (start .args .e) (start .args .address)))
+    let start = c .before .before .before .before in
+    Passed (take 4 (addPeerChecks (start .args .t1) (start .args .address)))
 unfolding addPeerChecks
 ranges c = omega (arith, deciding)
 
@@ -57,18 +57,18 @@ find-peer-requires c κs = search needs
 
 -- the lookup, as check 19 has it
 found : (c : tie.After-find-peer) →
-    let start = c .before .before .before .before .before .before .before .before .before .before in
-    isSome (findPeer (configOf (start .args .e)) (start .args .address)) ≡ isFound (c .find-peer .result)
+    let start = c .before .before .before .before .before .before .before .before in
+    isSome (findPeer (configOf (start .args .t1)) (start .args .address)) ≡ isFound (c .find-peer .result)
 found c =
-    let start = c .before .before .before .before .before .before .before .before .before .before in
-    peer-found (start .args .e) (start .args .address) (c .before .least .result) (c .find-peer .result) (c .before .least .ensures) (c .find-peer .ensures)
+    let start = c .before .before .before .before .before .before .before .before in
+    peer-found (start .args .t1) (start .args .address) (c .before .least .result) (c .find-peer .result) (c .before .least .ensures) (c .find-peer .ensures)
 
 enum-told : tie.Need-enum-told
 enum-told c = search needs
 
 listed : (c : tie.After-enum-told) →
-    let start = c .before .before .before .before .before .before .before .before .before .before .before .before in
-    isSome (findPeer (configOf (start .args .e)) (start .args .address)) ≡ true
+    let start = c .before .before .before .before .before .before .before .before .before .before in
+    isSome (findPeer (configOf (start .args .t1)) (start .args .address)) ≡ true
 listed c = found (c .before .before) ∙ ap isFound (c .enum-told .given .1)
 
 unchanged-requires-5 : tie.Need-unchanged-requires-5
@@ -84,8 +84,8 @@ enum-told-2 : tie.Need-enum-told-2
 enum-told-2 c = search needs
 
 unlisted : (c : tie.After-enum-told2) →
-    let start = c .before .before .before .before .before .before .before .before .before .before .before .before in
-    isSome (findPeer (configOf (start .args .e)) (start .args .address)) ≡ false
+    let start = c .before .before .before .before .before .before .before .before .before .before in
+    isSome (findPeer (configOf (start .args .t1)) (start .args .address)) ≡ false
 unlisted c = found (c .before .before) ∙ ap isFound (c .enum-told2 .given .1)
 
 unchanged-requires-6 : tie.Need-unchanged-requires-6
@@ -97,17 +97,11 @@ returns-6 c =
     c .unchanged6 .ensures
     ∙ sym (add-peer-exit _ _ 5 (behind (addPeerChecks _ _) 4 1 (ranges (c .before .before .before .before .before .before .before .before)) (unlisted (c .before .before), omega (arith, deciding))))
 
-mul-peer : tie.Need-mul-peer
-mul-peer c = search needs
+mul-next : tie.Need-mul-next
+mul-next c = search needs
 
-element-copy-out-peer : tie.Need-element-copy-out-peer
-element-copy-out-peer c = search needs
-
-mul-peer-2 : tie.Need-mul-peer-2
-mul-peer-2 c = search needs
-
-element-set-from-peer : tie.Need-element-set-from-peer
-element-set-from-peer c = search needs
+element-write-next : tie.Need-element-write-next
+element-write-next c = search needs
 
 add-next : tie.Need-add-next
 add-next c = search needs
@@ -115,7 +109,7 @@ add-next c = search needs
 returns-7 : tie.Need-returns-7
 unfolding addPeerChecks withAddress
 returns-7 c =
-    sym (add-peer-exit _ _ 6 (behind (addPeerChecks _ _) 4 2 (ranges (c .before .before .before .before .before .before .before .before .before)) (unlisted (c .before .before .before), (omega (arith, deciding), tt))))
+    sym (add-peer-exit _ _ 6 (behind (addPeerChecks _ _) 4 2 (ranges (c .before .before .before .before .before .before .before)) (unlisted (c .before), (omega (arith, deciding), tt))))
 
 pub add-peer-spec : {M : Type 1} → statement M
 add-peer-spec =
@@ -138,9 +132,7 @@ add-peer-spec =
     enum-told-2
     unchanged-requires-6
     returns-6
-    mul-peer
-    element-copy-out-peer
-    mul-peer-2
-    element-set-from-peer
+    mul-next
+    element-write-next
     add-next
     returns-7)

@@ -1,7 +1,7 @@
 -- `endpoint::receive::judged` meets its contract.
 -- Assumes nothing.
-use Prim.Native.Nat.{_<_, _≤_, _-_}
-use mathlib.Core.Path.{_≡_, _∙_, sym, refl, ap}
+use Prim.Native.Nat.{_≤_, _-_}
+use mathlib.Core.Path.{_∙_, sym, ap}
 use native.Mathlib.Omega.{arith}
 use lib.ListN.{length, drop, length-drop}
 use lib.Seq.{take-all}
@@ -10,69 +10,50 @@ use Rattle.endpoint.specs.ReceiveLaws.{sttDrop, judged-refused, judged-b
 use borrow.Author.Needs.{needs}
 use Rattle.endpoint.proofs.receive.judged.Statement.{statement}
 use Rattle.endpoint.proofs.receive.judged.Tie as tie
-use Rattle.endpoint.proofs.receive.judged.Reads as reads
-use Rattle.endpoint.proofs.receive.judged.Lts as lts
-use Rattle.endpoint.proofs.receive.inner_frame.Reads as inner-frame-reads
-use Rattle.endpoint.proofs.receive.stt_drop.Reads as stt-drop-reads
-use Rattle.wire.proofs.stt.read.Reads as read-reads
 
--- src/receive.rt:131:9
 read-requires : tie.Need-read-requires
 read-requires c κs = search needs
 
--- src/receive.rt:132:25
 enum-known-header : tie.Need-enum-known-header
 enum-known-header c = search needs
 
--- src/receive.rt:133:34
 enum-told : tie.Need-enum-told
 enum-told c = search needs
 
--- src/receive.rt:133:34
 stt-drop-requires : tie.Need-stt-drop-requires
 stt-drop-requires c κs = search needs
 
--- src/receive.rt:133:9
 returns : tie.Need-returns
 returns c = judged-refused _ _ _ _ _ _ _ _ _ _ (sym (c .before .before .before .read .ensures) ∙ c .before .enum-told .given .1) (c .stt-drop .ensures ∙ ap sttDrop (c .before .enum-told .given .1))
 
--- src/receive.rt:135:19
 sub-carried : tie.Need-sub-carried
 sub-carried c =
     let h : 18 ≤ length (c .before .before .before .before .before .args .frame .now) = stt-room _ _ (sym (c .before .before .before .read .ensures) ∙ c .before .header .given .1) in
     omega arith
 
--- src/receive.rt:135:19
 part-carried-start : tie.Need-part-carried-start
 part-carried-start c =
     let h : 18 ≤ length (c .before .before .before .before .before .args .frame .now) = stt-room _ _ (sym (c .before .before .before .read .ensures) ∙ c .before .header .given .1) in
     omega arith
 
--- src/receive.rt:135:19
 part-carried-end : tie.Need-part-carried-end
 part-carried-end c = search needs
 
--- src/receive.rt:136:9
 inner-frame-requires : tie.Need-inner-frame-requires
 inner-frame-requires c κs = search needs
 
--- src/receive.rt:148:20
 enum-known-worth : tie.Need-enum-known-worth
 enum-known-worth c = search needs
 
--- src/receive.rt:149:21
 enum-known-worth-2 : tie.Need-enum-known-worth-2
 enum-known-worth-2 c = search needs
 
--- src/receive.rt:152:24
 add-t20 : tie.Need-add-t20
 add-t20 c = search needs
 
--- src/receive.rt:118:1
 returns-2 : tie.Need-returns-2
 returns-2 c = judged-bad _ _ _ _ _ _ _ _ _ (sym (c .before .before .before .before .before .before .before .before .read .ensures) ∙ c .before .before .before .before .before .before .header .given .1) _ (take-all (length (c .before .before .before .before .before .before .before .before .before .before .args .frame .now) - 18) (drop 18 (c .before .before .before .before .before .before .before .before .before .before .args .frame .now)) (omega (arith, length-drop 18 (c .before .before .before .before .before .before .before .before .before .before .args .frame .now)))) _ (sym (c .before .before .before .inner-frame .ensures) ∙ c .before .worth .given .1)
 
--- src/receive.rt:118:1
 returns-3 : tie.Need-returns-3
 returns-3 c = judged-good _ _ _ _ _ _ _ _ _ (sym (c .before .before .before .before .before .before .before .before .read .ensures) ∙ c .before .before .before .before .before .before .header .given .1) _ (take-all (length (c .before .before .before .before .before .before .before .before .before .before .args .frame .now) - 18) (drop 18 (c .before .before .before .before .before .before .before .before .before .before .args .frame .now)) (omega (arith, length-drop 18 (c .before .before .before .before .before .before .before .before .before .before .args .frame .now)))) _ _ (omega arith) (sym (c .before .before .before .inner-frame .ensures) ∙ c .before .worth2 .given .1)
 

@@ -1,30 +1,19 @@
 -- `endpoint::receive::segment` meets its contract.
 -- Assumes nothing.
-use Prim.Native.Nat.{_<_, _≤_, _-_}
-use mathlib.Core.Path.{_≡_, _∙_, sym, refl, ap}
-use native.Mathlib.Omega.{arith}
 use Rattle.endpoint.specs.ReceiveLaws.{lies-taken, segment-out, segment-left}
 use borrow.Author.Needs.{needs}
 use Rattle.endpoint.proofs.receive.segment.Statement.{statement}
 use Rattle.endpoint.proofs.receive.segment.Tie as tie
-use Rattle.endpoint.proofs.receive.segment.Reads as reads
-use Rattle.endpoint.proofs.receive.segment.Lts as lts
-use Rattle.endpoint.proofs.receive.settled.Reads as settled-reads
-use Rattle.reassembly.proofs.take.take.Reads as take-reads
 
--- src/receive.rt:233:9
 take-requires : tie.Need-take-requires
 take-requires c κs = search needs
 
--- src/receive.rt:235:9
 settled-requires : tie.Need-settled-requires
 settled-requires c κs = (c .before .before .before .before .before .before .before .pre, lies-taken _ _ (c .before .before .before .before .before .before .before .args .header) _ _ _ _ (c .before .before .before .take .ensures .0) (c .before .before .before .take .ensures .1))
 
--- src/receive.rt:216:1
 same-length : tie.Need-same-length
 same-length c = search needs
 
--- src/receive.rt:216:1
 returns : tie.Need-returns
 returns c = (
   segment-out _ _ _ _ _ _ _ (c .before .before .before .before .before .take .ensures .0) (c .before .before .before .before .before .take .ensures .1) _ _ _ _ _ _ (c .before .settled .ensures),

@@ -1,26 +1,20 @@
 -- `endpoint::receive::stt_drop` meets its contract.
 -- Assumes nothing.
-use mathlib.Core.Path.{_≡_, sym, ap}
+use mathlib.Core.Path.{sym, ap}
 use Rattle.endpoint.specs.ReceiveLaws.{sttDrop}
 use borrow.Author.Needs.{needs}
 use Rattle.endpoint.proofs.receive.stt_drop.Statement.{statement}
 use Rattle.endpoint.proofs.receive.stt_drop.Tie as tie
-use Rattle.endpoint.proofs.receive.stt_drop.Reads as reads
-use Rattle.endpoint.proofs.receive.stt_drop.Lts as lts
 
--- src/receive.rt:210:31
 enum-told : tie.Need-enum-told
 enum-told c = search needs
 
--- src/receive.rt:211:26
 enum-known-read : tie.Need-enum-known-read
 enum-known-read c = search needs
 
--- src/receive.rt:206:1
 returns : tie.Need-returns
 returns c = search needs
 
--- src/receive.rt:206:1
 returns-2 : tie.Need-returns-2
 returns-2 c = sym (ap sttDrop (c .before .read .given .1))
 

@@ -1,36 +1,26 @@
 -- `endpoint::receive::tunnelled` meets its contract.
 -- Assumes nothing.
-use mathlib.Core.Path.{_≡_, _∙_, sym, ap}
-use native.Mathlib.Omega.{arith}
+use mathlib.Core.Path.{_∙_, sym}
 use Rattle.endpoint.specs.ReceiveLaws.{tunnel-bad, tunnel-good}
 use borrow.Author.Needs.{needs}
 use Rattle.endpoint.proofs.receive.tunnelled.Statement.{statement}
 use Rattle.endpoint.proofs.receive.tunnelled.Tie as tie
-use Rattle.endpoint.proofs.receive.tunnelled.Reads as reads
-use Rattle.endpoint.proofs.receive.tunnelled.Lts as lts
-use Rattle.endpoint.proofs.receive.inner_frame.Reads as inner-frame-reads
 
--- src/receive.rt:92:19
 cast-network : tie.Need-cast-network
 cast-network c = search needs
 
--- src/receive.rt:93:9
 inner-frame-requires : tie.Need-inner-frame-requires
 inner-frame-requires c κs = search needs
 
--- src/receive.rt:105:20
 enum-known-worth : tie.Need-enum-known-worth
 enum-known-worth c = search needs
 
--- src/receive.rt:106:21
 enum-known-worth-2 : tie.Need-enum-known-worth-2
 enum-known-worth-2 c = search needs
 
--- src/receive.rt:78:1
 returns : tie.Need-returns
 returns c = tunnel-bad _ _ _ _ _ _ _ _ _ _ _ (sym (c .before .before .before .inner-frame .ensures) ∙ c .before .worth .given .1)
 
--- src/receive.rt:78:1
 returns-2 : tie.Need-returns-2
 returns-2 c = tunnel-good _ _ _ _ _ _ _ _ _ _ _ (sym (c .before .before .before .inner-frame .ensures) ∙ c .before .worth2 .given .1)
 

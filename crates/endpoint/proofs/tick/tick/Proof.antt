@@ -4,14 +4,14 @@ use mathlib.Core.Path.{_≡_, _∙_}
 use Prim.Native.Nat.{_≤_, _<_, _-_}
 use native.Mathlib.Omega.{arith}
 use lib.ListN.{length}
-use Rattle.endpoint.specs.Config.{withPeers}
+use Rattle.endpoint.specs.Config.{withRows}
 use Rattle.endpoint.specs.TickLaws.{olderBefore, none-older, one-older, all-older}
-use Rattle.endpoint.proofs.Sizes.{eight-peers}
+use Rattle.endpoint.proofs.Sizes.{eight-rows}
 use Rattle.endpoint.proofs.tick.tick.Statement.{statement}
 use Rattle.endpoint.proofs.tick.tick.Tie as tie
 
 abbrev Inv-loop : tie.InvT-loop
-Inv-loop next₀ p₀ next p = (p ≤ 8) × (next ≡ withPeers next₀ (olderBefore (next₀ .peers) p))
+Inv-loop next₀ p₀ next p = (p ≤ 8) × (next ≡ withRows next₀ (olderBefore (next₀ .rows) p))
 
 abbrev μ-loop : tie.MeasureT-loop
 μ-loop next₀ p₀ next p = 8 - p
@@ -19,20 +19,20 @@ abbrev μ-loop : tie.MeasureT-loop
 loop-holds : tie.Need-loop-holds Inv-loop μ-loop
 loop-holds c = (omega arith, none-older (c .args .e))
 
-mul-peer : tie.Need-mul-peer Inv-loop μ-loop
-mul-peer c = omega arith
+mul-row : tie.Need-mul-row Inv-loop μ-loop
+mul-row c = omega arith
 
-element-copy-out-peer : tie.Need-element-copy-out-peer Inv-loop μ-loop
-element-copy-out-peer c = omega arith
+element-copy-out-row : tie.Need-element-copy-out-row Inv-loop μ-loop
+element-copy-out-row c = omega arith
 
 tick-row-requires : tie.Need-tick-row-requires Inv-loop μ-loop
 tick-row-requires c κs = tt
 
-mul-peer-2 : tie.Need-mul-peer-2 Inv-loop μ-loop
-mul-peer-2 c = omega arith
+mul-t6 : tie.Need-mul-t6 Inv-loop μ-loop
+mul-t6 c = omega arith
 
-element-set-from-peer : tie.Need-element-set-from-peer Inv-loop μ-loop
-element-set-from-peer c = omega arith
+element-set-from-next : tie.Need-element-set-from-next Inv-loop μ-loop
+element-set-from-next c = omega arith
 
 add-p : tie.Need-add-p Inv-loop μ-loop
 add-p c = omega arith
@@ -42,17 +42,17 @@ loop-less c = omega arith
 
 loop-again : tie.Need-loop-again Inv-loop μ-loop
 loop-again c =
-    let at = c .before .before .before .before .loop in
-    let start = c .before .before .before .before .before in
-    let n = eight-peers (start .args .e) (start .good .0) in
-    let h : at .p < length (start .args .e .peers) = omega arith in
+    let at = c .before .before .before .loop in
+    let start = c .before .before .before .before in
+    let n = eight-rows (start .args .e) (start .good .0) in
+    let h : at .p < length (start .args .e .rows) = omega arith in
     (omega arith, one-older (start .args .e) (at .next) (at .p) (c .tick-row .result) h (at .inv .1) (c .tick-row .ensures))
 
 returns : tie.Need-returns Inv-loop μ-loop
 returns c =
     let start = c .before .before in
-    let n = eight-peers (start .args .e) (start .good .0) in
-    let all : c .before .loop .p ≡ length (start .args .e .peers) = omega arith in
+    let n = eight-rows (start .args .e) (start .good .0) in
+    let all : c .before .loop .p ≡ length (start .args .e .rows) = omega arith in
     c .before .loop .inv .1 ∙ all-older (start .args .e) (c .before .loop .p) all
 
 pub tick-spec : {M : Type 1} → statement M
@@ -62,11 +62,11 @@ tick-spec =
     Inv-loop
     μ-loop
     loop-holds
-    mul-peer
-    element-copy-out-peer
+    mul-row
+    element-copy-out-row
     tick-row-requires
-    mul-peer-2
-    element-set-from-peer
+    mul-t6
+    element-set-from-next
     add-p
     loop-less
     loop-again

@@ -9,11 +9,11 @@ use Rattle.export.proofs.wrap.wrapped.Statement.{statement}
 use Rattle.export.proofs.wrap.wrapped.Tie as tie
 use Rattle.export.proofs.wrap.wrapped.Reads as reads
 use Rattle.export.proofs.wrap.wrapped.Lts as lts
-use Rattle.endpoint.proofs.wrap.wrap.Reads as wrap-reads
+use Rattle.endpoint.proofs.wrap.wrap_on.Reads as wrap-on-reads
 use Rattle.export.proofs.answer.flat_wrapped.Reads as flat-wrapped-reads
 
-wrap-requires : tie.Need-wrap-requires
-wrap-requires c κs = search needs
+wrap-on-requires : tie.Need-wrap-on-requires
+wrap-on-requires c κs = search needs
 
 flat-wrapped-requires : tie.Need-flat-wrapped-requires
 flat-wrapped-requires c κs = search needs
@@ -24,7 +24,7 @@ same-length c = search needs
 returns : tie.Need-returns
 returns c =
     let d = c .before .before .before in
-    (c .flat-wrapped .ensures ∙ ap (λ (a : Wrapped). writingOf (wrapValuesOf a)) (d .wrap .ensures .0), d .wrap .ensures .1)
+    (c .flat-wrapped .ensures ∙ ap (λ (a : Wrapped). writingOf (wrapValuesOf a)) (d .wrap-on .ensures .0), d .wrap-on .ensures .1)
 
 pub wrapped-spec : {M : Type 1} → statement M
-wrapped-spec = tie.close (tie.spec wrap-requires flat-wrapped-requires same-length returns)
+wrapped-spec = tie.close (tie.spec wrap-on-requires flat-wrapped-requires same-length returns)
