@@ -1,7 +1,8 @@
 /*
- * stack BOUND: how much stack each call uses. Every case runs on a painted stack of its own; the deepest byte that lost its paint
- * tells the use. Counted with it are the few bytes of the frame that makes the call, the struct that the call gives back where
- * the compiler keeps it there, and what the C library's memcpy and memset take. Fails where a case uses more than BOUND bytes.
+ * stack ANY EVERY_PACKET: how much stack each call uses. Every case runs on a painted stack of its own; the deepest byte that
+ * lost its paint tells the use, so only bytes that are written are seen. Counted with it are the few bytes of the frame that
+ * makes the call, the struct that the call gives back where the compiler keeps it there, and what the C library's memcpy and
+ * memset take. Fails where a receive or a wrap uses more than EVERY_PACKET bytes, or another call more than ANY.
  */
 #define _XOPEN_SOURCE 700
 #undef NDEBUG
@@ -325,10 +326,14 @@ int main(int count, char **arguments)
         {"tick", tick, ticks, false, 0, 0},
         {"wrap", wrap, wraps, true, 0, 0},
     };
-    size_t any = count == 3 ? strtoul(arguments[1], NULL, 10) : 0;
-    size_t every_packet = count == 3 ? strtoul(arguments[2], NULL, 10) : 0;
     bool kept = true;
 
+    if (count != 3) {
+        fprintf(stderr, "usage: stack ANY EVERY_PACKET\n");
+        return 2;
+    }
+    size_t any = strtoul(arguments[1], NULL, 10);
+    size_t every_packet = strtoul(arguments[2], NULL, 10);
     for (size_t i = 0; i < sizeof inner; i++)
         inner[i] = (uint8_t)i;
     put16(inner + 12, 0x88b5);

@@ -9,8 +9,8 @@
  *   frame and output.
  * - An endpoint comes from niulassenc_start. It is plain data: it holds no pointer, may be copied, and needs no clean-up.
  *   Its fields may be read. Only the functions write it.
- * - Calls on one endpoint do not run at the same time, wraps apart, which only read it. Calls on different endpoints may: there
- *   is no state outside what a call is given.
+ * - Calls on one endpoint do not run at the same time; only wraps may, with each other, since they only read it. Calls on
+ *   different endpoints with different memories may: there is no state outside what a call is given.
  * - Reassembly memory belongs to one endpoint. It may hold anything at first, and each receive is given it as the last one
  *   left it. Where somebody else writes it, a receive stays safe and delivers what it finds there.
  *

@@ -24,11 +24,10 @@ use Rattle.endpoint.specs.declared.config.Endpoint.{Endpoint}
 -- ---- a row put back
 
 pub config-row : (e : Endpoint) (p : ℕ) (row : Row) → configOf (withRow e p row) ≡ configOf e
-unfolding configOf withRow
+unfolding configOf
 config-row e p row = refl
 
 pub rows-row : (e : Endpoint) (p : ℕ) (row : Row) → withRow e p row .rows ≡ set (e .rows) p row
-unfolding withRow
 rows-row e p row = refl
 
 pub world-row : (e : Endpoint) (p : ℕ) (row : Row) (m : List ℕ)
@@ -36,7 +35,6 @@ pub world-row : (e : Endpoint) (p : ℕ) (row : Row) (m : List ℕ)
 world-row e p row m = rw (config-row e p row, rows-row e p row)
 
 same-world : (e : Endpoint) (p : ℕ) (m : List ℕ) → worldOf (withRow e p (rowAt e p)) m ≡ worldOf e m
-unfolding rowAt
 same-world e p m = world-row e p (getD (e .rows) p noRow) m ∙ rw (set-getD (e .rows) p noRow)
 
 -- ---- a receive
@@ -46,7 +44,6 @@ abbrev pub afterStep : Endpoint → Step → Said answers Config layers
 afterStep e s = record { reply = s .answer; world = worldOf (withRow e (s .peer) (s .row)) (s .mem) }
 
 stepped-is : (e : Endpoint) (m : List ℕ) (x : Seen answers) → afterStep e (stepped e m x) ≡ saidOf answers Config layers (worldOf e m) x
-unfolding rowAt
 stepped-is e m (stranger a) = ap (λ (w : World Config). record { reply = a; world = w }) (same-world e 0 m)
 stepped-is e m (plain p a) = ap (λ (w : World Config). record { reply = a; world = w }) (same-world e p m)
 stepped-is e m (segment p g) =

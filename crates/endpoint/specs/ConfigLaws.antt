@@ -20,8 +20,8 @@ use Rattle.endpoint.specs.declared.answer.Start.the-variants as S
 use Rattle.endpoint.specs.declared.config.Endpoint.{Endpoint}
 use Rattle.endpoint.specs.declared.config.Started.{Started}
 use Rattle.endpoint.specs.declared.config.Configured.{Configured}
-use Rattle.endpoint.specs.SearchLaws.{lowest-some, lowest-none, lowest-is, binds-hit, binds-all}
-use Rattle.endpoint.specs.Config.{Config, freeRow, tickOf, configOf, hasAddress, findPeer, binds, findBinding, isSome, fresh, startChecks, refusedStart, startOf, addressChecks, refusedAdd, addPeerChecks, withAddress, addPeerOf, isNetwork, addBindingChecks, withBinding, addBindingOf, Adding, addPeer, addBinding, added, addedAll, setUp}
+use Rattle.endpoint.specs.SearchLaws.{lowest-none, lowest-is, binds-hit, binds-all}
+use Rattle.endpoint.specs.Config.{freeRow, tickOf, configOf, hasAddress, findPeer, binds, findBinding, isSome, fresh, startChecks, refusedStart, startOf, addressChecks, refusedAdd, addPeerChecks, withAddress, addPeerOf, isNetwork, addBindingChecks, withBinding, addBindingOf, Adding, addPeer, addBinding, added, addedAll, setUp}
 use Rattle.endpoint.specs.ConfigExits.{peerAdded, bindingAdded, add-binding-exit}
 
 -- ---- what a call leaves: the endpoint as it came, or the one with the addition
@@ -63,14 +63,6 @@ pub rows-fresh : (own port mtu : ℕ) → fresh own port mtu .rows ≡ replicate
 unfolding fresh
 rows-fresh own port mtu = refl
 
-pub rows-add-peer : (e : Endpoint) (address : ℕ) → addPeerOf e address .endpoint .rows ≡ e .rows
-unfolding withAddress
-rows-add-peer e address = add-peer-cases (λ (x : Endpoint). x .rows ≡ e .rows) e address refl (λ _. refl)
-
-pub rows-add-binding : (e : Endpoint) (peer kind network tenant : ℕ) → addBindingOf e peer kind network tenant .endpoint .rows ≡ e .rows
-unfolding withBinding
-rows-add-binding e peer kind network tenant = add-binding-cases (λ (x : Endpoint). x .rows ≡ e .rows) e peer kind network tenant refl (λ _. refl)
-
 pub rows-tick : (e : Endpoint) → tickOf e .rows ≡ map olderRow (e .rows)
 unfolding tickOf
 rows-tick e = refl
@@ -78,37 +70,6 @@ rows-tick e = refl
 pub config-tick : (e : Endpoint) → configOf (tickOf e) ≡ configOf e
 unfolding configOf tickOf
 config-tick e = refl
-
--- ---- what a lookup finds
-
-pub record PeerFound (c : Config) (address p : ℕ) : Type 0 where
-  pub below : p < c .peers
-  pub is : getD (c .addresses) p 0 ≡ address
-
-pub find-peer-some : (c : Config) (address p : ℕ) → findPeer c address ≡ some p → PeerFound c address p
-unfolding findPeer hasAddress
-find-peer-some c address p e =
-    let w = lowest-some (hasAddress (c .addresses) address) (c .peers) p e in
-    record { below = w .below; is = eqb-true (getD (c .addresses) p 0) address (w .passes) }
-
-pub record BindingFound (c : Config) (peer kind network b : ℕ) : Type 0 where
-  pub below : b < c .bindings
-  pub network-is : getD (c .networks) b 0 ≡ network
-  pub kind-is : getD (c .kinds) b 0 ≡ kind
-  pub owner-is : getD (c .owners) b 0 ≡ peer
-
-pub find-binding-some : (c : Config) (peer kind network b : ℕ) → findBinding c peer kind network ≡ some b → BindingFound c peer kind network b
-unfolding findBinding
-find-binding-some c peer kind network b e =
-    let w = lowest-some (binds (c .networks) (c .kinds) (c .owners) peer kind network) (c .bindings) b e in
-    let all = binds-all (c .networks) (c .kinds) (c .owners) peer kind network b (w .passes) in
-    record { below = w .below; network-is = all .0; kind-is = all .1; owner-is = all .2 }
-
-pub binding-below : (e : Endpoint) (peer kind network b : ℕ) → findBinding (configOf e) peer kind network ≡ some b → b < 64
-unfolding configOf
-binding-below e peer kind network b h =
-    let l : b < min (e .«binding_count») 64 = find-binding-some (configOf e) peer kind network b h .below in
-    omega arith
 
 -- ---- set-ups
 

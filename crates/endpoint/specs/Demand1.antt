@@ -89,7 +89,6 @@ pub record FoundBad (e : Endpoint) (m k : List ℕ) (d : Drop) : Type 0 where
   pub bad-frame : judgeOf (configOf e) p (takeIn p (rowAt e p) m g .note) (frameIn bytesOf (takeIn p (rowAt e p) m g .mem) (slotNo p slot) (g .frame-length)) ≡ bad d
 
 pub same-row : (e : Endpoint) (p : ℕ) → withRow e p (rowAt e p) ≡ e
-unfolding withRow rowAt
 same-row e p = rw (set-getD (e .rows) p noRow)
 
 unchanged-nothing : (e : Endpoint) (p : ℕ) (m : List ℕ) (a : Received) → Nothing e m (unchanged e p m a)

@@ -7,6 +7,7 @@ pub mod ConfigLaws
 pub mod TickLaws
 pub mod View
 pub mod Receive
+pub mod Look
 pub mod Wrap
 pub mod WrapExits
 pub mod ReceiveLaws

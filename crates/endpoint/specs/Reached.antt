@@ -188,7 +188,7 @@ unfolding withBinding
 binding-fit e n peer kind network tenant h f = record { port = f .port; networks = set-fits (e .networks) n network h (f .networks) }
 
 left-fit : (e : Endpoint) (c : Call) → Typed c → Fit e → Fit (left e c)
-unfolding added tickOf withRow
+unfolding added tickOf
 left-fit e (add (addPeer address)) h f = add-peer-cases Fit e address f (λ p. peer-fit e (e .«peer_count») address f)
 left-fit e (add (addBinding peer kind network tenant)) h f =
     add-binding-cases Fit e peer kind network tenant f (λ p. binding-fit e (e .«binding_count») peer kind network tenant h f)
@@ -204,7 +204,7 @@ beside s (got m k) = s
 beside s ticked = s
 
 left-alike : (e s : Endpoint) (c : Call) → Alike e s → Alike (left e c) (beside s c)
-unfolding beside tickOf withRow
+unfolding beside tickOf
 left-alike e s (add a) h = added-alike e s a h
 left-alike e s (got m k) h =
     record { config = config-row e (stepOf e m k .peer) (stepOf e m k .row) ∙ h .config; peers = h .peers; bindings = h .bindings }

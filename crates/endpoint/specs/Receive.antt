@@ -92,9 +92,6 @@ unfoldable pub innerFrom : (networks kinds owners tenants : List ℕ) (n peer ki
 innerFrom networks kinds owners tenants n peer kind network frame =
     bound? tenants (lowest (binds networks kinds owners peer kind network) n) (frameOf frame)
 
-abbrev pub innerOf : Config → (peer kind network : ℕ) → List ℕ → Inner
-innerOf c peer kind network frame = innerFrom (c .networks) (c .kinds) (c .owners) (c .tenants) (c .bindings) peer kind network frame
-
 -- ---- what is made of a packet: checks 3 to 10, and for VXLAN and NVGRE 11 to 13
 
 -- the answer on a frame that lies at a place
@@ -166,7 +163,7 @@ pub record Step : Type 0 where
   pub answer : Received
   pub mem : List ℕ
 
-unfoldable pub rowAt : Endpoint → ℕ → Row
+abbrev pub rowAt : Endpoint → ℕ → Row
 rowAt e p = getD (e .rows) p noRow
 
 -- nothing changes: peer p keeps its row
@@ -187,7 +184,7 @@ abbrev pub changedOf : Step → Changed
 changedOf s = record { row = s .row; answer = s .answer }
 
 -- peer p's row is this one
-unfoldable pub withRow : Endpoint → ℕ → Row → Endpoint
+abbrev pub withRow : Endpoint → ℕ → Row → Endpoint
 withRow e p row = withRows e (set (e .rows) p row)
 
 -- what the call gives back; the memory is the step's

@@ -25,13 +25,12 @@ use Rattle.wire.specs.declared.segment.Segment.{Segment}
 use Rattle.wire.specs.declared.carriage.Tunnel.{Tunnel}
 use Rattle.wire.specs.declared.carriage.Carried.{Carried}
 use Rattle.wire.specs.declared.carriage.Carried.the-variants as C
-use Rattle.wire.specs.declared.stt.SttRead.{SttRead}
 use Rattle.wire.specs.declared.stt.SttRead.the-variants as T
 use Rattle.wire.specs.declared.frame.FrameRead.the-variants as F
 use Rattle.reassembly.specs.Slots.{Note, noRow}
 use Rattle.reassembly.specs.TakeFacts.{length-frame}
 use Rattle.reassembly.specs.StoreLaws.{slot-inside}
-use Rattle.reassembly.specs.Take.{Seg, segOf, Effect, frameIn}
+use Rattle.reassembly.specs.Take.{Seg, segOf, frameIn}
 use Rattle.reassembly.specs.Store.{bytesOf, takeIn, slotStart}
 use Rattle.reassembly.specs.Receive.{Seen as Made, stranger, plain, segment, spoken, told}
 use Rattle.reassembly.specs.Base.{caseB}
@@ -63,94 +62,7 @@ use Rattle.endpoint.specs.declared.receive.Verdict.the-variants as W
 use Rattle.endpoint.specs.declared.receive.Seen.{Seen}
 use Rattle.endpoint.specs.declared.receive.Changed.{Changed}
 use Rattle.endpoint.specs.declared.config.Endpoint.{Endpoint}
-
--- ---- the parts
-
-abbrev pub ipDrop : Ipv4Read → Drop
-ipDrop (I.Packet h) = D.Memory
-ipDrop (I.Refused r) = D.Format r
-
-abbrev pub sttDrop : SttRead → Drop
-sttDrop (T.Header context) = D.Memory
-sttDrop (T.Refused r) = D.Format r
-
--- the answer on a complete STT frame that lies in the memory from `at` on
-unfoldable pub judgedFrom : (networks kinds owners tenants : List ℕ) (n peer at : ℕ) → List ℕ → Received
-judgedFrom networks kinds owners tenants n peer at frame =
-    answerAt (sttFrom networks kinds owners tenants n peer frame) (record { start = at + 18; length = length frame - 18; «in_memory» = true })
-
--- the answer to a segment, by what taking it gave
-unfoldable pub settledFrom : (networks kinds owners tenants : List ℕ) (n peer : ℕ) → Outcome → (size : ℕ) → (memory : List ℕ) → Received
-settledFrom networks kinds owners tenants n peer (O.Rejected r) size m = R.Dropped (D.Segment r)
-settledFrom networks kinds owners tenants n peer O.Pending size m = R.Pending
-settledFrom networks kinds owners tenants n peer O.NoMemory size m = R.Dropped D.Memory
-settledFrom networks kinds owners tenants n peer (O.Complete s) size m =
-    judgedFrom networks kinds owners tenants n peer ((4 * peer + s) * 1728) (part m ((4 * peer + s) * 1728) ((4 * peer + s) * 1728 + size))
-
--- a complete frame lies in the memory
-unfoldable pub Lies : (peer : ℕ) → Outcome → (size : ℕ) → List ℕ → Type 0
-Lies peer (O.Rejected r) size m = Unit {0}
-Lies peer O.Pending size m = Unit {0}
-Lies peer O.NoMemory size m = Unit {0}
-Lies peer (O.Complete s) size m = (peer < 8) × ((s < 4) × ((size ≤ 1532) × (55296 ≤ length m)))
-
-unfoldable pub segmentFrom : (networks kinds owners tenants : List ℕ) (n peer : ℕ) → Row → Segment → (bytes memory : List ℕ) → Step
-segmentFrom networks kinds owners tenants n peer row header bytes m =
-    let o : Effect bytesOf = takeIn peer row m (segOf header bytes) in
-    record { peer = peer; row = o .row; answer = settledFrom networks kinds owners tenants n peer (o .outcome) (header .«frame_length») (o .mem); mem = o .mem }
-
--- what is made of a listed peer's packet, by what it carries
-abbrev pub carriedFrom : (networks kinds owners tenants : List ℕ) (n peer start end : ℕ) → List ℕ → Carried → Verdict
-carriedFrom networks kinds owners tenants n peer start end k (C.Refused r) = W.Answer (R.Dropped (D.Format r))
-carriedFrom networks kinds owners tenants n peer start end k (C.Tunnel t) =
-    W.Answer (tunnelFrom networks kinds owners tenants n peer (t .kind) (t .network) (start + t .start) (part k (start + t .start) end))
-carriedFrom networks kinds owners tenants n peer start end k (C.Segment g) = W.Take (record { header = g; start = start + g .start; end = end })
-
-unfoldable pub verdictFrom : (networks kinds owners tenants : List ℕ) (n port peer : ℕ) → Ipv4 → List ℕ → Verdict
-verdictFrom networks kinds owners tenants n port peer h k =
-    carriedFrom networks kinds owners tenants n peer (h .start) (h .end) k (carriageOf (h .protocol) (h .source) (h .destination) port (part k (h .start) (h .end)))
-
--- ---- a look: check 2, then 3 to 10, and for VXLAN and NVGRE 11 to 13. `room` is the memory's length
-
--- a packet of no listed peer
-abbrev pub strangerWith : Drop → Seen
-strangerWith d = record { peer = 0; verdict = W.Answer (R.Dropped d) }
-
-abbrev pub seenPeer : Option ℕ → (ℕ → Verdict) → Seen
-seenPeer none next = strangerWith D.Peer
-seenPeer (some p) next = record { peer = p; verdict = next p }
-
-abbrev pub seenIp : Ipv4Read → (Ipv4 → Seen) → Seen
-seenIp (I.Refused r) next = strangerWith (D.Format r)
-seenIp (I.Packet h) next = next h
-
-abbrev pub seenVerdict : Endpoint → List ℕ → Ipv4 → (peer : ℕ) → Verdict
-seenVerdict e k h p = verdictFrom (e .networks) (e .kinds) (e .owners) (e .tenants) (min (e .«binding_count») 64) (e .port) p h k
-
-abbrev pub seenHeader : Endpoint → List ℕ → Ipv4 → Seen
-seenHeader e k h = cond (eqb (h .destination) (e .own)) (seenPeer (findPeer (configOf e) (h .source)) (seenVerdict e k h)) (strangerWith D.Destination)
-
-unfoldable pub seenOf : Endpoint → (packet : List ℕ) → (room : ℕ) → Seen
-seenOf e k room = cond (ltb room 55296) (strangerWith D.Memory) (seenIp (ipv4Of k) (seenHeader e k))
-
--- ---- settling what was seen, with that peer's row
-
-abbrev pub kept : (peer : ℕ) → Row → (memory : List ℕ) → Received → Step
-kept p row m a = record { peer = p; row = row; answer = a; mem = m }
-
-abbrev pub byVerdict : Verdict → (Received → Step) → (Due → Step) → Step
-byVerdict (W.Answer a) answer take = answer a
-byVerdict (W.Take d) answer take = take d
-
--- a segment that is due, if it lies in the packet
-abbrev pub takenFrom : Endpoint → (peer : ℕ) → Row → (packet memory : List ℕ) → Due → Step
-takenFrom e p row k m d =
-    cond (ltb (d .end) (d .start)) (kept p row m (R.Dropped D.Memory))
-    (cond (ltb (length k) (d .end)) (kept p row m (R.Dropped D.Memory))
-    (segmentFrom (e .networks) (e .kinds) (e .owners) (e .tenants) (min (e .«binding_count») 64) p row (d .header) (part k (d .start) (d .end)) m))
-
-unfoldable pub settleOf : Endpoint → Seen → Row → (packet memory : List ℕ) → Step
-settleOf e x row k m = byVerdict (x .verdict) (kept (x .peer) row m) (takenFrom e (x .peer) row k m)
+use Rattle.endpoint.specs.Look.{judgedFrom, settledFrom, Lies, segmentFrom, carriedFrom, verdictFrom, strangerWith, seenPeer, seenIp, seenVerdict, seenHeader, seenOf, kept, byVerdict, takenFrom, settleOf}
 
 -- both know of an endpoint only the columns that they are lent
 pub seen-lent : (e : Endpoint) (k : List ℕ) (room : ℕ)
@@ -543,10 +455,8 @@ module _ (e : Endpoint) (k : List ℕ) where
 
     -- with the row as the code reads it
     pub settled-is : (x : Seen) → x ≡ seenOf e k (length m) → settleOf e x (getD (e .rows) (x .peer) noRow) k m ≡ stepOf e m k
-    unfolding rowAt
     settled-is x q = rw q settle-step
 
 -- the row put back
 pub receipt-out : (e : Endpoint) (s : Step) (p : ℕ) (x : Changed) → p ≡ s .peer → x ≡ changedOf s → record { endpoint = withRows e (set (e .rows) p (x .row)); answer = x .answer } ≡ receiptOf e s
-unfolding withRow
 receipt-out e s p x q r = rw (q, r)

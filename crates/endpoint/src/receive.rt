@@ -5,7 +5,7 @@ ghost use Prim.Native.Nat.{_+_, _≤_};
 ghost use lib.ListN.{length};
 ghost use Rattle.endpoint.specs.Config.{lent};
 ghost use Rattle.endpoint.specs.Receive.{innerFrom, tunnelFrom, changedOf, stepOf, receiptOf};
-ghost use Rattle.endpoint.specs.ReceiveLaws.{ipDrop, judgedFrom, settledFrom, sttDrop, strangerWith, segmentFrom, verdictFrom, Lies, seenOf, settleOf};
+ghost use Rattle.endpoint.specs.Look.{ipDrop, judgedFrom, settledFrom, sttDrop, strangerWith, segmentFrom, verdictFrom, Lies, seenOf, settleOf};
 use crate::answer::Drop;
 use crate::answer::Place;
 use crate::answer::Received;

@@ -23,22 +23,25 @@ fn wide(x: u8) -> usize
     x as usize
 }
 
-// The lowest of the first n peers that has this address. All eight are compared, whatever n is: with a fixed number of turns a turn takes two instructions.
+// The lowest of the first n peers that has this address. The loop goes over all eight, whatever n is: with a fixed number of turns a turn takes three instructions.
 pub(crate) fn find_peer(addresses: &[u32; 8], n: usize, address: u32) -> Found
     requires { ⌜ n ≤ 8 ⌝ }
     ensures { λ r. ⌜ r ≡ foundOf (lowest (hasAddress (now (addresses .entry)) address) n) ⌝ }
 {
     let mut i: usize = 0;
-    while i < 8 {
+    let found = loop {
+        if 8 <= i {
+            break Found::Nothing;
+        }
         if addresses[i] == address {
             if i < n {
-                return Found::At(i);
+                break Found::At(i);
             }
-            return Found::Nothing;
+            break Found::Nothing;
         }
         i += 1;
-    }
-    Found::Nothing
+    };
+    found
 }
 
 // The next of the first n bindings that has this network, or n.
@@ -70,13 +73,16 @@ pub(crate) fn find_binding<'a>(
     ensures { λ r. ⌜ r ≡ foundOf (lowest (binds (now (networks .entry)) (now (kinds .entry)) (now (owners .entry)) peer kind network) n) ⌝ }
 {
     let mut i = next_with(networks, 0, n, network);
-    while i < n {
+    let found = loop {
+        if n <= i {
+            break Found::Nothing;
+        }
         if kinds[i] == kind {
             if wide(owners[i]) == peer {
-                return Found::At(i);
+                break Found::At(i);
             }
         }
         i = next_with(networks, i + 1, n, network);
-    }
-    Found::Nothing
+    };
+    found
 }

@@ -1,21 +1,18 @@
 -- A receive, which changes of the endpoint no more than one peer's row.
 -- Assumes nothing.
 use Prim.Native.Nat.{ℕ, _<_}
-use mathlib.Core.Path.{_≡_, refl, sym, ap, subst, _∙_}
+use mathlib.Core.Path.{_≡_, refl, sym, ap, subst}
 use mathlib.Core.List.{List}
 use native.Mathlib.Omega.{arith}
-use lib.ListN.{length, getD, set}
-use lib.Seq.{set-getD}
-use Rattle.reassembly.specs.Slots.{noRow}
+use lib.ListN.{length}
 use Rattle.reassembly.specs.declared.slot.Row.{Row}
 use Rattle.endpoint.specs.Answer.{valuesOf}
-use Rattle.endpoint.specs.Config.{withRows}
-use Rattle.endpoint.specs.Receive.{Step, stepOf, changedOf, receiptOf}
-use Rattle.endpoint.specs.ReceiveLaws.{seenOf, settleOf, settle-peer, seen-below, seen-step, settled-is, receipt-out}
+use Rattle.endpoint.specs.Receive.{Step, rowAt, stepOf, changedOf, withRow, receiptOf}
+use Rattle.endpoint.specs.Look.{seenOf, settleOf}
+use Rattle.endpoint.specs.ReceiveLaws.{settle-peer, seen-below, seen-step, settled-is}
 use Rattle.endpoint.specs.declared.config.Endpoint.{Endpoint}
 use Rattle.endpoint.specs.declared.receive.Seen.{Seen}
 use Rattle.endpoint.specs.declared.receive.Changed.{Changed}
-use Rattle.endpoint.specs.declared.receive.Receipt as E
 use Rattle.export.specs.Answer.{flatOf}
 use Rattle.export.specs.declared.answer.Receipt.{Receipt}
 use Rattle.export.specs.declared.receive.Outcome.{Outcome}
@@ -29,18 +26,6 @@ pub outcome-out : (e : Endpoint) (y : Seen) (row : Row) (k m : List ℕ) (x : Ch
     → record { row = x .row; peer = y .peer; answer = a } ≡ outcomeOf (settleOf e y row k m)
 outcome-out e y row k m x a q f = rw (f, q, settle-peer e y row k m)
 
--- ---- peer p's row, as it lies in the endpoint
-
-abbrev pub rowOf : Endpoint → ℕ → Row
-rowOf e p = getD (e .rows) p noRow
-
-abbrev pub putRow : Endpoint → ℕ → Row → Endpoint
-putRow e p row = withRows e (set (e .rows) p row)
-
--- put where it was, it changes nothing
-pub same-row : (e : Endpoint) (p : ℕ) → putRow e p (rowOf e p) ≡ e
-same-row e p = ap (withRows e) (set-getD (e .rows) p noRow)
-
 -- ---- what `looked` gave, and what `settled` makes of it, add up to the receive
 
 module _ (e : Endpoint) (m k : List ℕ) (x : Seen) (is : x ≡ seenOf e k (length m)) where
@@ -48,12 +33,12 @@ module _ (e : Endpoint) (m k : List ℕ) (x : Seen) (is : x ≡ seenOf e k (leng
   pub seen-listed : x .peer < 8
   seen-listed = subst (λ (y : Seen). y .peer < 8) (sym is) (seen-below e k (length m))
 
-  pub settled-step : settleOf e x (rowOf e (x .peer)) k m ≡ stepOf e m k
+  pub settled-step : settleOf e x (rowAt e (x .peer)) k m ≡ stepOf e m k
   settled-step = settled-is e k m x is
 
 pub outcome-below : (e : Endpoint) (m k : List ℕ) (r : Outcome) → r ≡ outcomeOf (stepOf e m k) → r .peer < 8
 outcome-below e m k r q = omega (arith, seen-below e k (length m), seen-step e k m, ap (λ (y : Outcome). y .peer) q)
 
 -- put back, the row makes the endpoint that the receive leaves
-pub put-back : (e : Endpoint) (s : Step) → putRow e (s .peer) (s .row) ≡ receiptOf e s .endpoint
-put-back e s = ap (λ (y : E.Receipt). y .endpoint) (receipt-out e s (s .peer) (changedOf s) refl refl)
+pub put-back : (e : Endpoint) (s : Step) → withRow e (s .peer) (s .row) ≡ receiptOf e s .endpoint
+put-back e s = refl

@@ -4,7 +4,7 @@ ghost use mathlib.Core.List.{[]};
 ghost use Rattle.endpoint.specs.Answer.{valuesOf};
 ghost use Rattle.endpoint.specs.Config.{lent};
 ghost use Rattle.endpoint.specs.Receive.{stepOf, receiptOf};
-ghost use Rattle.endpoint.specs.ReceiveLaws.{seenOf, settleOf};
+ghost use Rattle.endpoint.specs.Look.{seenOf, settleOf};
 ghost use Rattle.export.specs.Answer.{flatOf};
 ghost use Rattle.export.specs.Receive.{outcomeOf};
 use crate::answer::Receipt;
@@ -57,7 +57,7 @@ pub(crate) fn flat_settled<'a>(
     }
 }
 
-// The look at a packet, and what becomes of it: the endpoint is read where it lies, and its columns are lent on.
+// The look at a packet. The endpoint is read where it lies, and its columns are lent on.
 pub(crate) fn looked(endpoint: &Endpoint, packet: &[u8], room: usize) -> Seen
     ensures { λ r. ⌜ r ≡ seenOf (now (endpoint .entry)) (now (packet .entry)) room ⌝ }
 {
@@ -76,6 +76,7 @@ pub(crate) fn looked(endpoint: &Endpoint, packet: &[u8], room: usize) -> Seen
     )
 }
 
+// What becomes of the packet, likewise.
 pub(crate) fn settled(
     endpoint: &Endpoint,
     seen: Seen,

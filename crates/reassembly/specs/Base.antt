@@ -139,6 +139,3 @@ or-cases false b e = inr e
 pub or-true-r : (a b : Bool) → b ≡ true → (a || b) ≡ true
 or-true-r true b e = refl
 or-true-r false b e = e
-
-pub allBelow-fails : (n : ℕ) (f : ℕ → Bool) (i : ℕ) → i < n → f i ≡ false → allBelow n f ≡ false
-allBelow-fails n f i l e = caseB (allBelow n f) (λ q. cc (allBelow-at n f q i l)) (λ q. q)

@@ -10,7 +10,7 @@ use lib.Seq.{getD-set-same, getD-set-other}
 use lib.Dec.{ltb, leb, eqb}
 use borrow.Author.Tests.{eqb-true, eqb-false}
 use Rattle.reassembly.specs.Base.{caseB, either, clash}
-use Rattle.reassembly.specs.Slots.{Slot, Row, Note, noRow, slotsOf, free, older, olderRow, older-slots, older-pending}
+use Rattle.reassembly.specs.Slots.{Slot, Row, Note, noRow, slotsOf, free, older, olderRow, older-pending}
 use Rattle.reassembly.specs.Take.{slotNo, Seg, Ops, Outcome, Rejected, Pending, Complete, NoMemory, Effect, frameIn, takeSegment}
 use Rattle.reassembly.specs.Laws.{Laws}
 use Rattle.reassembly.specs.Receive.{rowOf, Answers, Event, receive, tick, State, Answer, bare, fill, Verdict, Seen, stranger, plain, segment, spoken, told, Out, react, after, run}

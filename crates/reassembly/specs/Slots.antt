@@ -74,10 +74,6 @@ older s = cond (s .pending) (cond (ltb (s .age + 1) lifetime) (pendingSlot (s .i
 unfoldable pub olderRow : Row → Row
 olderRow r = record { slots = map older (r .slots) }
 
-pub older-slots : (r : Row) → olderRow r .slots ≡ map older (r .slots)
-unfolding olderRow
-older-slots r = refl
-
 pub older-pending : (s : Slot) → older s .pending ≡ true → (s .pending ≡ true) × (older s ≡ pendingSlot (s .identifier) (s .«frame_length») (s .age + 1) (noteOf s))
 unfolding older
 older-pending s e =

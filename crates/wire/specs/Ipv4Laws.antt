@@ -145,9 +145,6 @@ sound s b h eq =
     let p = passed I.Refused (ipv4Checks s) (I.Packet (ipv4At s)) (I.Packet h) (λ r e. let z : _≡_ {A = ℕ} 0 1 = cc in omega arith) eq in
     subst (Accepted s) (cc (p .1)) (sound-at s b (p .0))
 
-pub payload-short : (s : List ℕ) (h : Ipv4) → Accepted s h → length (part s (h .start) (h .end)) ≤ 65535
-payload-short s h a = omega (arith, a .is .size, a .is .fits .size)
-
 -- ---- what is ignored: bytes past the total length. Two lists that agree up to a length n which covers the total length give the same answer
 
 module _ (s t : List ℕ) (n : ℕ) (same : take n s ≡ take n t) where

@@ -265,15 +265,6 @@ pub segment-fits-met : (n offset count room : ℕ) → 14 ≤ n → 18 + n ≤ 6
 unfolding segmentFits segmentFitChecks
 segment-fits-met n offset count room h1 h2 h3 h4 h5 = pass (λ _. false) (segmentFitChecks n offset count room) true (omega (arith, passing))
 
--- ---- what a writer leaves, where it writes and where it does not
-
-pub did : {packet old new : List ℕ} {r : ℕ} (may : Bool) → may ≡ true → Written may packet old new r → (r ≡ length packet) × (new ≡ packet ++ drop (length packet) old)
-unfolding wrote
-did {packet} {old} {new} {r} may e w = (rw e at (w .length-is), rw e at (w .output-is))
-
-pub did-not : {packet old new : List ℕ} {r : ℕ} (may : Bool) → may ≡ false → Written may packet old new r → (r ≡ 0) × (new ≡ old)
-did-not {packet} {old} {new} {r} may e w = (rw e at (w .length-is), rw e at (w .output-is))
-
 -- ---- what the code cites
 
 pub fits-exit : (headers n room k : ℕ) → At (fitChecks headers n room) k → fits headers n room ≡ given (λ _. false) (fitChecks headers n room) true k

@@ -1,5 +1,5 @@
-//! Instructions and time a call, library against reference, as a table in
-//! Markdown.
+//! Instructions and time a call, and instructions of the transport sum alone,
+//! library against reference: two tables in Markdown.
 
 #![forbid(unsafe_code)]
 

@@ -26,6 +26,14 @@ fn same<T: PartialEq + Debug>(name: &str, library: T, reference: T) -> Result<()
     ))
 }
 
+/// Says what is not 0.
+fn zeros<T: PartialEq + Debug + Default>(
+    name: &str,
+    mut unused: impl Iterator<Item = T>,
+) -> Result<(), String> {
+    unused.try_for_each(|numbers| same(name, numbers, T::default()))
+}
+
 /// A number as the library hands it out: 0xFFFF where there is none.
 fn or_none(number: Option<u16>) -> u16 {
     number.unwrap_or(library::numbers::NONE)
@@ -58,6 +66,7 @@ impl Pair {
     pub fn call(&mut self, record: &Record) -> Result<u8, String> {
         let code = self.answers(record)?;
         self.endpoints()?;
+        self.unused()?;
         self.library_memory
             .check("memory", &self.reference_memory)?;
         Ok(code)
@@ -247,5 +256,27 @@ impl Pair {
         }
         let (ours, theirs): (Vec<_>, Vec<_>) = (ours().collect(), theirs().collect());
         same("bindings", ours, theirs)
+    }
+
+    /// The counts in the library's struct. Where it keeps nothing, behind them
+    /// and in free slots, every number is 0.
+    fn unused(&mut self) -> Result<(), String> {
+        let raw = self.library.as_numbers().raw();
+        let peers = usize::from(raw.peer_count);
+        let bindings = usize::from(raw.binding_count);
+        let reference = &self.reference;
+        same("peer count", peers, reference.peers().len())?;
+        same("binding count", bindings, reference.bindings().len())?;
+        let slots = raw.rows.iter().flat_map(|row| &row.slots);
+        let free = slots.filter(|slot| !slot.pending);
+        zeros("unused addresses", raw.addresses.into_iter().skip(peers))?;
+        zeros("unused networks", raw.networks.into_iter().skip(bindings))?;
+        zeros("unused kinds", raw.kinds.into_iter().skip(bindings))?;
+        zeros("unused owners", raw.owners.into_iter().skip(bindings))?;
+        zeros("unused tenants", raw.tenants.into_iter().skip(bindings))?;
+        zeros(
+            "free slot (identifier, frame length, age)",
+            free.map(|slot| (slot.identifier, slot.frame_length, slot.age)),
+        )
     }
 }

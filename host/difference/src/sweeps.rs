@@ -22,44 +22,18 @@ const HEADERS: usize = 20 + 20 + 18 + 14;
 
 pub fn all(seed: u64) -> Vec<Sweep> {
     let prng = &mut Prng::new(seed);
-    vec![
-        Sweep {
-            name: "every value of every header byte",
-            run: header_bytes(prng),
-        },
-        Sweep {
-            name: "every length",
-            run: lengths(prng),
-        },
-        Sweep {
-            name: "every frame length of a segment",
-            run: frame_lengths(prng),
-        },
-        Sweep {
-            name: "every offset of a segment",
-            run: offsets(prng),
-        },
-        Sweep {
-            name: "every cut of a frame",
-            run: cuts(prng),
-        },
-        Sweep {
-            name: "full listings",
-            run: full_listings(prng),
-        },
-        Sweep {
-            name: "starts and bindings at their bounds",
-            run: bounds(),
-        },
-        Sweep {
-            name: "noise",
-            run: noise(prng),
-        },
-        Sweep {
-            name: "every length of a wrap",
-            run: wraps(prng),
-        },
-    ]
+    let sweeps = [
+        ("every value of every header byte", header_bytes(prng)),
+        ("every length", lengths(prng)),
+        ("every frame length of a segment", frame_lengths(prng)),
+        ("every offset of a segment", offsets(prng)),
+        ("every cut of a frame", cuts(prng)),
+        ("full listings", full_listings(prng)),
+        ("starts and bindings at their bounds", bounds()),
+        ("noise", noise(prng)),
+        ("every length of a wrap", wraps(prng)),
+    ];
+    sweeps.map(|(name, run)| Sweep { name, run }).into()
 }
 
 fn receive(packet: Vec<u8>) -> Record {
@@ -232,35 +206,46 @@ fn cuts(prng: &mut Prng) -> Vec<Record> {
     run
 }
 
-/// Eight peers and 64 bindings, then some that no longer fit; every binding is
-/// found, and every slot of every peer is used.
-fn full_listings(prng: &mut Prng) -> Vec<Record> {
+/// The path from a peer of the full listings.
+fn from_peer(number: u32) -> Path {
+    Path {
+        from: OWN + 1 + number,
+        to: OWN,
+    }
+}
+
+/// Peer, kind and id of the full listings' bindings.
+fn networks() -> impl Iterator<Item = (u16, u8, u64)> {
+    (0..66u16).map(|n| (n % 8, (n / 8 % 3) as u8 + 1, 4096 + u64::from(n) / 5))
+}
+
+/// Eight peers and 64 bindings, then some that no longer fit.
+fn full_set_up(prng: &mut Prng) -> Vec<Record> {
     let mut run = vec![Record::Start {
         own: OWN,
         port: PORT,
         mtu: 1600,
     }];
-    let path = |peer: u32| Path {
-        from: OWN + 1 + peer,
-        to: OWN,
-    };
     run.extend((0..10).map(|peer| Record::Peer {
-        address: path(peer % 9).from,
+        address: from_peer(peer % 9).from,
     }));
-    let networks: Vec<(u16, u8, u64)> = (0..66u16)
-        .map(|n| (n % 8, (n / 8 % 3) as u8 + 1, 4096 + u64::from(n) / 5))
-        .collect();
-    run.extend(networks.iter().map(|&(peer, kind, id)| Record::Binding {
+    run.extend(networks().map(|(peer, kind, id)| Record::Binding {
         peer,
         kind,
         id,
         tenant: prng.draw() as u16,
     }));
     run.push(lend(prng));
+    run
+}
+
+/// Every binding is found, and every slot of every peer is used.
+fn full_listings(prng: &mut Prng) -> Vec<Record> {
+    let mut run = full_set_up(prng);
     let mut identifier = 0;
     for _ in 0..20 {
-        for &(peer, _, id) in &networks {
-            let (path, id) = (path(u32::from(peer)), id + prng.below(2) as u64);
+        for (peer, _, id) in networks() {
+            let (path, id) = (from_peer(u32::from(peer)), id + prng.below(2) as u64);
             let length = prng.between(14, 90);
             let frame = inner(prng, length);
             identifier += 1;
@@ -274,7 +259,7 @@ fn full_listings(prng: &mut Prng) -> Vec<Record> {
         for number in 0..40 {
             let stt = packet::stt_frame(4096, &inner(prng, 60));
             identifier += 1;
-            let mut parts = packet::cut(path(number % 8), PORT, identifier, &stt, &[20]);
+            let mut parts = packet::cut(from_peer(number % 8), PORT, identifier, &stt, &[20]);
             run.push(receive(parts.remove(prng.below(2))));
         }
         run.extend([Record::Tick, Record::Tick, Record::Tick, Record::Tick]);

@@ -7,34 +7,54 @@ pub const PEERS: usize = 8;
 pub const BINDINGS: usize = 64;
 pub const SLOTS: usize = 4;
 
+/// A slot of the reassembly memory: a frame under way, or free, every number 0.
 #[repr(C)]
 #[derive(Clone, Copy, Debug, PartialEq, Eq)]
 pub struct Slot {
+    /// The identifier of the frame's segments.
     pub identifier: u32,
+    /// The STT frame's length, its 18-byte header included.
     pub frame_length: u16,
+    /// Ticks since its first segment.
     pub age: u8,
+    /// Whether a frame is under way.
     pub pending: bool,
 }
 
+/// The slots of one peer.
 #[repr(C)]
 #[derive(Clone, Copy, Debug, PartialEq, Eq)]
 pub struct Row {
+    /// By number.
     pub slots: [Slot; SLOTS],
 }
 
+/// An endpoint's struct. Arrays are by the number of the peer or of the binding;
+/// what stands behind their count is 0.
 #[repr(C)]
 #[derive(Clone, Copy, Debug, PartialEq, Eq)]
 pub struct Endpoint {
+    /// The network id of each binding.
     pub networks: [u64; BINDINGS],
+    /// The slots of each peer.
     pub rows: [Row; PEERS],
+    /// The address of each peer.
     pub addresses: [u32; PEERS],
+    /// Our own address.
     pub own: u32,
+    /// The tenant of each binding.
     pub tenants: [u16; BINDINGS],
+    /// The TCP port on which STT is expected.
     pub port: u16,
+    /// The largest outer packet that is written.
     pub mtu: u16,
+    /// How many peers are listed.
     pub peer_count: u16,
+    /// How many bindings are listed.
     pub binding_count: u16,
+    /// The kind of each binding.
     pub kinds: [u8; BINDINGS],
+    /// The number of each binding's peer.
     pub owners: [u8; BINDINGS],
 }
 

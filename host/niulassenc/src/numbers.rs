@@ -3,6 +3,7 @@
 //! The crate's own types stand on these; they serve who has numbers anyway.
 
 use crate::ffi;
+pub use crate::ffi::{Endpoint as Raw, Row, Slot};
 use crate::place::Place;
 
 /// What stands for a tenant, a binding or a new number where there is none.
@@ -151,5 +152,10 @@ impl Endpoint {
             segments: wrapped.segments,
             code: wrapped.code,
         }
+    }
+
+    /// The struct as C has it, to read.
+    pub fn raw(&self) -> &Raw {
+        &self.raw
     }
 }

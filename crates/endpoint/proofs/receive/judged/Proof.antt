@@ -6,7 +6,8 @@ use native.Mathlib.Omega.{arith}
 use lib.ListN.{length, drop, length-drop}
 use lib.Seq.{take-all}
 use Rattle.wire.specs.SttLaws.{stt-room}
-use Rattle.endpoint.specs.ReceiveLaws.{sttDrop, judged-refused, judged-bad, judged-good}
+use Rattle.endpoint.specs.Look.{sttDrop}
+use Rattle.endpoint.specs.ReceiveLaws.{judged-refused, judged-bad, judged-good}
 use borrow.Author.Needs.{needs}
 use Rattle.endpoint.proofs.receive.judged.Statement.{statement}
 use Rattle.endpoint.proofs.receive.judged.Tie as tie

@@ -5,7 +5,8 @@ use native.Mathlib.Omega.{arith}
 use Rattle.wire.specs.Ipv4Laws.{ipv4-bounds}
 use Rattle.endpoint.specs.Config.{configOf, findPeer, lent}
 use Rattle.endpoint.specs.Search.{foundOf}
-use Rattle.endpoint.specs.ReceiveLaws.{ipDrop, found-none, found-some, seen-memory, seen-ip, seen-destination, seen-stranger, seen-peer, sender-is}
+use Rattle.endpoint.specs.Look.{ipDrop}
+use Rattle.endpoint.specs.ReceiveLaws.{found-none, found-some, seen-memory, seen-ip, seen-destination, seen-stranger, seen-peer, sender-is}
 use borrow.Author.Needs.{needs}
 use Rattle.endpoint.proofs.receive.look.Statement.{statement}
 use Rattle.endpoint.proofs.receive.look.Tie as tie

@@ -6,7 +6,8 @@ use lib.ListN.{length}
 use native.Mathlib.Omega.{arith}
 use Rattle.endpoint.specs.declared.receive.Seen.{Seen}
 use Rattle.endpoint.specs.Receive.{Step, stepOf, changedOf}
-use Rattle.endpoint.specs.ReceiveLaws.{seenOf, seen-lent, settle-lent, seen-below, seen-step, settled-is, receipt-out}
+use Rattle.endpoint.specs.Look.{seenOf}
+use Rattle.endpoint.specs.ReceiveLaws.{seen-lent, settle-lent, seen-below, seen-step, settled-is, receipt-out}
 use borrow.Author.Needs.{needs}
 use Rattle.endpoint.proofs.receive.receive.Statement.{statement}
 use Rattle.endpoint.proofs.receive.receive.Tie as tie

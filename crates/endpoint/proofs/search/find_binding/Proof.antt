@@ -27,20 +27,14 @@ loop-holds c =
     let w = c .next-with .ensures in
     (w .at-most, none-till _ _ _ _ _ _ 0 _ _ w (λ j (h : j < 0). absurd (omega arith)), w .there)
 
-element-copy-out-if1 : tie.Need-element-copy-out-if1 Inv-loop μ-loop
-element-copy-out-if1 c = omega arith
+element-copy-out-if2 : tie.Need-element-copy-out-if2 Inv-loop μ-loop
+element-copy-out-if2 c = omega arith
 
 element-copy-out-wide : tie.Need-element-copy-out-wide Inv-loop μ-loop
 element-copy-out-wide c = omega arith
 
 wide-requires : tie.Need-wide-requires Inv-loop μ-loop
 wide-requires c κs = tt
-
-returns : tie.Need-returns Inv-loop μ-loop
-returns c =
-    let at = c .before .before .before .before .before .before .loop in
-    found-at _ _ (at .i) (omega arith) (at .inv .1)
-    (binds-hit _ _ _ _ _ _ (at .i) (at .inv .2 (omega arith)) (c .before .before .before .if1 .taken) (sym (c .before .wide .ensures) ∙ c .if2 .taken))
 
 add-next-with : tie.Need-add-next-with Inv-loop μ-loop
 add-next-with c = omega arith
@@ -63,12 +57,18 @@ loop-again c =
       none-till _ _ _ _ _ _ (at .i + 1) _ _ w
           (more-not _ (at .i) (at .inv .1)
           (⊎-elim (λ v. other-peer _ _ _ _ _ _ (at .i) has (v .0 .taken) (λ e. v .3 .left (v .2 .ensures ∙ e)))
-          (λ v. other-kind _ _ _ _ _ _ (at .i) has (v .left)) (c .before .if1 .came))),
+          (λ v. other-kind _ _ _ _ _ _ (at .i) has (v .left)) (c .before .if2 .came))),
       w .there,
     )
 
+returns : tie.Need-returns Inv-loop μ-loop
+returns c = found-nothing _ _ (c .before .loop .i) (omega arith) (c .before .loop .inv .1)
+
 returns-2 : tie.Need-returns-2 Inv-loop μ-loop
-returns-2 c = found-nothing _ _ (c .before .loop .i) (omega arith) (c .before .loop .inv .1)
+returns-2 c =
+    let at = c .before .before .before .before .before .before .loop in
+    found-at _ _ (at .i) (omega arith) (at .inv .1)
+    (binds-hit _ _ _ _ _ _ (at .i) (at .inv .2 (omega arith)) (c .before .before .before .if2 .taken) (sym (c .before .wide .ensures) ∙ c .if3 .taken))
 
 pub find-binding-spec : {M : Type 1} → statement M
 find-binding-spec =
@@ -78,12 +78,12 @@ find-binding-spec =
     μ-loop
     next-with-requires
     loop-holds
-    element-copy-out-if1
+    element-copy-out-if2
     element-copy-out-wide
     wide-requires
-    returns
     add-next-with
     next-with-requires-2
     loop-less
     loop-again
+    returns
     returns-2)

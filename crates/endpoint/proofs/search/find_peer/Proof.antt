@@ -19,21 +19,11 @@ abbrev μ-loop : tie.MeasureT-loop
 loop-holds : tie.Need-loop-holds Inv-loop μ-loop
 loop-holds c = (omega arith, λ j h. absurd (omega arith))
 
-mul-if1 : tie.Need-mul-if1 Inv-loop μ-loop
-mul-if1 c = omega arith
+mul-if2 : tie.Need-mul-if2 Inv-loop μ-loop
+mul-if2 c = omega arith
 
-element-copy-out-if1 : tie.Need-element-copy-out-if1 Inv-loop μ-loop
-element-copy-out-if1 c = omega arith
-
-returns : tie.Need-returns Inv-loop μ-loop
-returns c =
-    let at = c .before .before .before .before .loop in
-    found-at _ _ (at .i) (c .if2 .taken) (at .inv .1) (has-address (c .before .before .before .before .before .args .addresses .now) _ (at .i) (c .before .if1 .taken))
-
-returns-2 : tie.Need-returns-2 Inv-loop μ-loop
-returns-2 c =
-    let at = c .before .before .before .before .loop in
-    found-nothing _ _ (at .i) (omega arith) (at .inv .1)
+element-copy-out-if2 : tie.Need-element-copy-out-if2 Inv-loop μ-loop
+element-copy-out-if2 c = omega arith
 
 add-i : tie.Need-add-i Inv-loop μ-loop
 add-i c = omega arith
@@ -44,10 +34,20 @@ loop-less c = omega arith
 loop-again : tie.Need-loop-again Inv-loop μ-loop
 loop-again c =
     let at = c .before .before .before .loop in
-    (omega arith, more-not _ (at .i) (at .inv .1) (other-address (c .before .before .before .before .args .addresses .now) _ (at .i) (c .if1 .left)))
+    (omega arith, more-not _ (at .i) (at .inv .1) (other-address (c .before .before .before .before .args .addresses .now) _ (at .i) (c .if2 .left)))
+
+returns : tie.Need-returns Inv-loop μ-loop
+returns c = found-nothing _ _ (c .before .loop .i) (omega arith) (c .before .loop .inv .1)
+
+returns-2 : tie.Need-returns-2 Inv-loop μ-loop
+returns-2 c =
+    let at = c .before .before .before .before .loop in
+    found-at _ _ (at .i) (c .if3 .taken) (at .inv .1) (has-address (c .before .before .before .before .before .args .addresses .now) _ (at .i) (c .before .if2 .taken))
 
 returns-3 : tie.Need-returns-3 Inv-loop μ-loop
-returns-3 c = found-nothing _ _ (c .before .loop .i) (omega arith) (c .before .loop .inv .1)
+returns-3 c =
+    let at = c .before .before .before .before .loop in
+    found-nothing _ _ (at .i) (omega arith) (at .inv .1)
 
 pub find-peer-spec : {M : Type 1} → statement M
 find-peer-spec =
@@ -56,11 +56,11 @@ find-peer-spec =
     Inv-loop
     μ-loop
     loop-holds
-    mul-if1
-    element-copy-out-if1
-    returns
-    returns-2
+    mul-if2
+    element-copy-out-if2
     add-i
     loop-less
     loop-again
+    returns
+    returns-2
     returns-3)

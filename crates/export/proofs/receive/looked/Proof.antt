@@ -22,7 +22,7 @@ use types.Kit.{Given, Item, ‵, raw, _⊛_, ⋆, some, later, _$_, _∵_, !, qe
 use types.Run.{look, init, forget, stop, hop, fld, from, load, addr, of-opd, and-then, no-more, assigns, land, returns, enter, alloc1, alloc0, params1, pass1, pass0, free1, free0}
 use types.Part.{whole, sub, look-in}
 use sound.WpLaws.{FmC, fmOf, WpFn-mono}
-use denote.RattleType.{RattleType, owns}
+use denote.RattleType.{owns}
 use denote.Laws.{Is, shows}
 use denote.Memory.{mem, partAt}
 use denote.Builtin.{u8, u16, u32, u64}
@@ -45,12 +45,13 @@ use denote.Exit.{yes}
 use Rattle.endpoint.specs.declared.config.Endpoint.{Endpoint}
 use Rattle.endpoint.specs.declared.receive.Seen.{Seen}
 use Rattle.endpoint.specs.Config.{lent}
-use Rattle.endpoint.specs.ReceiveLaws.{seenOf, seen-lent}
+use Rattle.endpoint.specs.Look.{seenOf}
+use Rattle.endpoint.specs.ReceiveLaws.{seen-lent}
 use Rattle.endpoint.proofs.config.Endpoint as T
 use Rattle.endpoint.proofs.config.Endpoint.Laws as T′
 use Rattle.endpoint.proofs.receive.Seen as S
 use Rattle.endpoint.proofs.receive.Seen.Laws as S′
-use Rattle.export.proofs.Columns.{Names, Field, lends-columns, lends-tenants, lends-addresses}
+use Rattle.export.proofs.Columns.{Names, Field, columns, col, own-fits, port-fits, peers-fit, bindings-fit, lends-columns, lends-tenants, lends-addresses}
 use Rattle.endpoint.proofs.receive.look as looking
 use Rattle.endpoint.proofs.receive.look.Symbol as looking-def
 use Rattle.endpoint.proofs.receive.look.Symbol.{name as #looking}
@@ -105,45 +106,25 @@ module _ {M : Type 1} (𝓤 : URA M) (H : Heap 𝓤) (A : Atoms 𝓤) (W : Given
   abbrev Says : Seen → Type 0
   Says x = x ≡ seenOf (lent (h .networks) (h .kinds) (h .owners) (h .tenants) (h .addresses) (h .own) (h .port) 0 (h .«peer_count») (h .«binding_count»)) (p .now) n
 
-  -- what the endpoint's numbers are known to be
-  module _ (was : Is T.the-row h (mach ∷ [])) where
-    own-fits : h .own < 2 ^ 32
-    own-fits = LL.owed T.the-type T′.the-laws h (mach ∷ []) was .1 .1 .1 .0 .1
-
-    port-fits : h .port < 2 ^ 16
-    port-fits = LL.owed T.the-type T′.the-laws h (mach ∷ []) was .1 .1 .1 .1 .1 .0 .1
-
-    peers-fit : h .«peer_count» < 2 ^ 16
-    peers-fit = LL.owed T.the-type T′.the-laws h (mach ∷ []) was .1 .1 .1 .1 .1 .1 .1 .0 .1
-
-    bindings-fit : h .«binding_count» < 2 ^ 16
-    bindings-fit = LL.owed T.the-type T′.the-laws h (mach ∷ []) was .1 .1 .1 .1 .1 .1 .1 .1 .0 .1
-
-  abbrev Column : (F : RattleType) → F .Denot → ℕ → GName → Fml
-  Column F x d g = Field 𝓤 H A W F (named 0) κe x b (o + d) g
-
   abbrev Cols : Names → Item 𝓤
-  Cols g = ‵ (Column (Array u64 64) (h .networks) 0 (g .0)) ⊛ (‵ (Column (Array u8 64) (h .kinds) 940 (g .1 .0)) ⊛ (‵ (Column (Array u8 64) (h .owners) 1004 (g .1 .1 .0)) ⊛ ‵ (Column (Array u16 64) (h .tenants) 804 (g .1 .1 .1))))
-
-  abbrev col : (x : List ℕ) → ℕ → GName → RefT (List ℕ)
-  col x d g = record { ptr = (b, o + d); name = g; now = x }
+  Cols g = columns 𝓤 H A W (named 0) κe h b o (Array u16 64) (h .tenants) 804 g
 
   abbrev Addresses : GName → Fml
-  Addresses g = Column (Array u32 8) (h .addresses) 768 g
+  Addresses g = Field 𝓤 H A W (Array u32 8) (named 0) κe (h .addresses) b (o + 768) g
 
   -- the call of `look`
   module _ (was : Is T.the-row h (mach ∷ [])) (g : Names) (g₅ : GName) where
     abbrev args : Args looking.signature κs
     args = (
-      col (h .networks) 0 (g .0),
+      col b o (h .networks) 0 (g .0),
       (
-        col (h .kinds) 940 (g .1 .0),
+        col b o (h .kinds) 940 (g .1 .0),
         (
-          col (h .owners) 1004 (g .1 .1 .0),
+          col b o (h .owners) 1004 (g .1 .1 .0),
           (
-            col (h .tenants) 804 (g .1 .1 .1),
+            col b o (h .tenants) 804 (g .1 .1 .1),
             (
-              col (h .addresses) 768 g₅,
+              col b o (h .addresses) 768 g₅,
               (h .own, (h .port, (h .«peer_count», (h .«binding_count», (p, (n, tt)))))),
             ),
           ),
@@ -183,8 +164,8 @@ module _ {M : Type 1} (𝓤 : URA M) (H : Heap 𝓤) (A : Atoms 𝓤) (W : Given
         qed W (((Cols g ⊛ ‵ (Addresses g₅)) ⊛ ‵ OwnP) ∷ ‵ (flft κe qe) ∷ Tokens ∷ []) ∵ split ! $ split ! $ split ! $ move ! (1 ∷ []) $ split ! $ move ! (1 ∷ []) $ split ! $
         -- [owners; tenants; kinds; networks; addresses; packet; the tokens]
         nothing ! $ owned ! u64 (Is u64) (uint-makes 𝓤 H A W w64) n _ (refl, n-fits) $ join ! $ move ! (6 ∷ 0 ∷ []) $ join ! $
-        owned ! u16 (Is u16) (uint-makes 𝓤 H A W w16) (h .«binding_count») _ (refl, bindings-fit was) $ join ! $ owned ! u16 (Is u16) (uint-makes 𝓤 H A W w16) (h .«peer_count») _ (refl, peers-fit was) $ join ! $
-        owned ! u16 (Is u16) (uint-makes 𝓤 H A W w16) (h .port) _ (refl, port-fits was) $ join ! $ owned ! u32 (Is u32) (uint-makes 𝓤 H A W w32) (h .own) _ (refl, own-fits was) $ join ! $
+        owned ! u16 (Is u16) (uint-makes 𝓤 H A W w16) (h .«binding_count») _ (refl, bindings-fit h was) $ join ! $ owned ! u16 (Is u16) (uint-makes 𝓤 H A W w16) (h .«peer_count») _ (refl, peers-fit h was) $ join ! $
+        owned ! u16 (Is u16) (uint-makes 𝓤 H A W w16) (h .port) _ (refl, port-fits h was) $ join ! $ owned ! u32 (Is u32) (uint-makes 𝓤 H A W w32) (h .own) _ (refl, own-fits h was) $ join ! $
         move ! (5 ∷ 0 ∷ []) $ join ! $ move ! (2 ∷ 0 ∷ []) $ join ! $ move ! (1 ∷ 0 ∷ []) $ join ! $ move ! (1 ∷ 0 ∷ []) $ join ! $ move ! (1 ∷ 0 ∷ []) $ join ! $
         -- [all arguments; the tokens]
         move ! (1 ∷ 2 ∷ []) $ join ! $ join ! $ frame ! $ done !
@@ -218,10 +199,10 @@ module _ {M : Type 1} (𝓤 : URA M) (H : Heap 𝓤) (A : Atoms 𝓤) (W : Given
         assigns ! (addr ! (from ! (hop ! (look ! 26 refl) (fld ! {τ = tyArray (tyInt w8) 64} {d = 1004} refl (stop !))))) (from ! (stop !)) (init ! 16 refl (tt, tt)) $
         assigns ! (addr ! (from ! (hop ! (look ! 26 refl) (fld ! {τ = tyArray (tyInt w16) 64} {d = 804} refl (stop !))))) (from ! (stop !)) (init ! 14 refl (tt, tt)) $
         assigns ! (addr ! (from ! (hop ! (look ! 26 refl) (fld ! {τ = tyArray (tyInt w32) 8} {d = 768} refl (stop !))))) (from ! (stop !)) (init ! 12 refl (tt, tt)) $
-        assigns ! (of-opd ! (load ! (from ! (hop ! (look ! 26 refl) (fld ! {τ = tyInt w32} {d = 800} refl (stop !)))) (look-in ! 0 (sub ! 3 refl (whole !))))) (from ! (stop !)) (init ! 10 refl (tt, record { fits = own-fits was })) $
-        assigns ! (of-opd ! (load ! (from ! (hop ! (look ! 26 refl) (fld ! {τ = tyInt w16} {d = 932} refl (stop !)))) (look-in ! 0 (sub ! 5 refl (whole !))))) (from ! (stop !)) (init ! 8 refl (tt, record { fits = port-fits was })) $
-        assigns ! (of-opd ! (load ! (from ! (hop ! (look ! 26 refl) (fld ! {τ = tyInt w16} {d = 936} refl (stop !)))) (look-in ! 0 (sub ! 7 refl (whole !))))) (from ! (stop !)) (init ! 6 refl (tt, record { fits = peers-fit was })) $
-        assigns ! (of-opd ! (load ! (from ! (hop ! (look ! 26 refl) (fld ! {τ = tyInt w16} {d = 938} refl (stop !)))) (look-in ! 0 (sub ! 8 refl (whole !))))) (from ! (stop !)) (init ! 4 refl (tt, record { fits = bindings-fit was })) $
+        assigns ! (of-opd ! (load ! (from ! (hop ! (look ! 26 refl) (fld ! {τ = tyInt w32} {d = 800} refl (stop !)))) (look-in ! 0 (sub ! 3 refl (whole !))))) (from ! (stop !)) (init ! 10 refl (tt, record { fits = own-fits h was })) $
+        assigns ! (of-opd ! (load ! (from ! (hop ! (look ! 26 refl) (fld ! {τ = tyInt w16} {d = 932} refl (stop !)))) (look-in ! 0 (sub ! 5 refl (whole !))))) (from ! (stop !)) (init ! 8 refl (tt, record { fits = port-fits h was })) $
+        assigns ! (of-opd ! (load ! (from ! (hop ! (look ! 26 refl) (fld ! {τ = tyInt w16} {d = 936} refl (stop !)))) (look-in ! 0 (sub ! 7 refl (whole !))))) (from ! (stop !)) (init ! 6 refl (tt, record { fits = peers-fit h was })) $
+        assigns ! (of-opd ! (load ! (from ! (hop ! (look ! 26 refl) (fld ! {τ = tyInt w16} {d = 938} refl (stop !)))) (look-in ! 0 (sub ! 8 refl (whole !))))) (from ! (stop !)) (init ! 4 refl (tt, record { fits = bindings-fit h was })) $
         shuts ! tt T.the-row q′ h (mach ∷ []) b o $ move ! (1 ∷ 0 ∷ []) $
         use2 W (later (some (λ (g : Names). Cols g ⊛ (‵ Shared ⊛ ‵ (flft κe qe))))) (lends-columns 𝓤 H A W (named 0) κe qe h b o (Array u16 64) (h .tenants) 804 (lends-tenants 𝓤 H A W (named 0) κe qe h b o)) $ await ! tt $ pick ! (λ g. split ! $ move ! (1 ∷ []) $ split ! $
         use2 W (later (some (λ (g₅ : GName). ‵ (Addresses g₅) ⊛ (‵ Shared ⊛ ‵ (flft κe qe))))) (lends-addresses 𝓤 H A W (named 0) κe qe h b o) $ await ! tt $ pick ! (λ g₅. split ! $ move ! (1 ∷ []) $ split ! $

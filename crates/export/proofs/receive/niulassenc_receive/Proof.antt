@@ -49,8 +49,8 @@ use denote.Exit.{yes}
 use Rattle.endpoint.specs.declared.config.Endpoint.{Endpoint}
 use Rattle.reassembly.specs.declared.slot.Row.{Row}
 use Rattle.export.specs.declared.receive.Outcome.{Outcome}
-use Rattle.endpoint.specs.Receive.{Step, stepOf}
-use Rattle.export.specs.Receive.{outcomeOf, rowOf, putRow, outcome-below, put-back}
+use Rattle.endpoint.specs.Receive.{Step, rowAt, stepOf, withRow}
+use Rattle.export.specs.Receive.{outcomeOf, outcome-below, put-back}
 use Rattle.endpoint.proofs.config.Endpoint as T
 use Rattle.endpoint.proofs.config.Endpoint.Laws as T′
 use Rattle.reassembly.proofs.slot.Row as R
@@ -161,7 +161,7 @@ module _ {M : Type 1} (𝓤 : URA M) (H : Heap 𝓤) (A : Atoms 𝓤) (W : Given
   -- what whoever holds the result knows of its fields
   module _ (r : Outcome) (v : Val) (is : Is O.the-row r (v ∷ [])) where
     abbrev next : Endpoint
-    next = putRow h (r .peer) (r .row)
+    next = withRow h (r .peer) (r .row)
 
     is-row : Is R.the-row (r .row) (LL.val R.the-type R′.the-laws (r .row) ∷ [])
     is-row = LL.owed O.the-type O′.the-laws r (v ∷ []) is .0
@@ -177,7 +177,7 @@ module _ {M : Type 1} (𝓤 : URA M) (H : Heap 𝓤) (A : Atoms 𝓤) (W : Given
     exits zs l e =
         qed W (‵ (fobs γ (T.the-row .coded .code next)) ∷ ‵ (fbor κe (Body (mem T.the-row) b o γ)) ∷ ‵ (flft κe qe) ∷ Tokens ∷ ‵ (finally u8 (m .name) zs) ∷ ‵ OwnP ∷ []) ∵
         suffices ! _ (ends-at 𝓤 H A f.ended stayed (f.clauses 𝓤 H A at-mem run) W ((κs, qs, tt, a, at), tt) (LL.val N.the-type N′.the-laws (r .answer)) (r .answer) (next, (tt, (zs, tt))) (tt, (tt, (l, tt)))) $
-        says ! (ap (λ (x : Outcome). x .answer) (e .0), (ap (λ (x : Outcome). putRow h (x .peer) (x .row)) (e .0) ∙ put-back h step, e .1)) $
+        says ! (ap (λ (x : Outcome). x .answer) (e .0), (ap (λ (x : Outcome). withRow h (x .peer) (x .row)) (e .0) ∙ put-back h step, e .1)) $
         move ! (2 ∷ 3 ∷ []) $ join ! $ frame ! $
         -- [obs; the borrow; the memory's last bytes; packet]
         feqI ! (List Val) (vptr b o ∷ []) (vptr b o ∷ []) refl $ fjoin3 ! $ nothing ! $ move ! (2 ∷ 0 ∷ []) $ fjoin ! $ move ! (2 ∷ 0 ∷ []) $ fjoin ! $ move ! (1 ∷ 0 ∷ []) $ fjoin ! $
@@ -216,9 +216,9 @@ module _ {M : Type 1} (𝓤 : URA M) (H : Heap 𝓤) (A : Atoms 𝓤) (W : Given
         assigns ! (addr ! (from ! (hop ! (look ! 28 refl) (fld ! {d = 512} refl (stop !))))) (from ! (stop !)) (init ! 10 refl (tt, tt)) $
         assigns ! (bin ! (load ! (from ! (stop !)) (look ! 10 refl)) (load ! (from ! (stop !)) (look ! 12 refl)) tt) (from ! (stop !)) (init ! 8 refl (tt, tt)) $
         -- the loan is over: the endpoint is back, and the row is reached
-        move ! (1 ∷ []) $ split ! $ lft-end ! tt $ move ! (0 ∷ 5 ∷ []) $ lent-back ! tt $ use1 W (AtRow fullShare (r .peer) (rowOf h (r .peer))) (reaches 𝓤 H A W fullShare h (r .peer) b o (below r e)) $ split ! $ split ! $ move ! (1 ∷ []) $ split ! $
-        use1 W (some (λ (us : List Val). ‵ (cellAt fullShare (RowS .mir) us b (place (r .peer))) ⊛ ‵ (RowS .own (into-row (rowOf h (r .peer))) us))) (lies-out 𝓤 H A W fullShare RowS (into-row (rowOf h (r .peer))) b (place (r .peer))) $ pick ! (λ us. split ! $
-        spelt ! R.the-row (Is R.the-row) (shows 𝓤 H A R.the-row) (LL.vals R.the-type R′.the-laws) (LL.tells R.the-type R′.the-laws) fullShare (rowOf h (r .peer)) us b (place (r .peer)) $
+        move ! (1 ∷ []) $ split ! $ lft-end ! tt $ move ! (0 ∷ 5 ∷ []) $ lent-back ! tt $ use1 W (AtRow fullShare (r .peer) (rowAt h (r .peer))) (reaches 𝓤 H A W fullShare h (r .peer) b o (below r e)) $ split ! $ split ! $ move ! (1 ∷ []) $ split ! $
+        use1 W (some (λ (us : List Val). ‵ (cellAt fullShare (RowS .mir) us b (place (r .peer))) ⊛ ‵ (RowS .own (into-row (rowAt h (r .peer))) us))) (lies-out 𝓤 H A W fullShare RowS (into-row (rowAt h (r .peer))) b (place (r .peer))) $ pick ! (λ us. split ! $
+        spelt ! R.the-row (Is R.the-row) (shows 𝓤 H A R.the-row) (LL.vals R.the-type R′.the-laws) (LL.tells R.the-type R′.the-laws) fullShare (rowAt h (r .peer)) us b (place (r .peer)) $
         assigns ! (of-opd ! (load ! (from ! (fld ! refl (stop !))) (look-in ! 26 (sub ! 0 refl (whole !))))) (from ! (hop ! (look ! 12 refl) (stop !))) (store-raw ! 0 refl (LL.lawful R.the-type R′.the-laws 𝓤 H A W .typed (r .row) _ (is-row r v is) .0)) $
         assigns ! (of-opd ! (load ! (from ! (fld ! refl (stop !))) (look-in ! 26 (sub ! 2 refl (whole !))))) (from ! (stop !)) (init ! 34 refl (LL.lawful N.the-type N′.the-laws 𝓤 H A W .typed (r .answer) _ (is-answer r v is) .0)) $
         -- the endpoint is put together again, with the new row, and the borrow is closed

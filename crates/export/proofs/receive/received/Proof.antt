@@ -48,9 +48,10 @@ use Rattle.endpoint.specs.declared.config.Endpoint.{Endpoint}
 use Rattle.reassembly.specs.declared.slot.Row.{Row}
 use Rattle.endpoint.specs.declared.receive.Seen.{Seen}
 use Rattle.export.specs.declared.receive.Outcome.{Outcome}
-use Rattle.endpoint.specs.Receive.{Step}
-use Rattle.endpoint.specs.ReceiveLaws.{seenOf, settleOf}
-use Rattle.export.specs.Receive.{outcomeOf, rowOf, seen-listed, settled-step, same-row}
+use Rattle.endpoint.specs.Receive.{Step, rowAt}
+use Rattle.endpoint.specs.Look.{seenOf, settleOf}
+use Rattle.endpoint.specs.Demand1.{same-row}
+use Rattle.export.specs.Receive.{outcomeOf, seen-listed, settled-step}
 use Rattle.endpoint.proofs.config.Endpoint as T
 use Rattle.endpoint.proofs.config.Endpoint.Laws as T′
 use Rattle.reassembly.proofs.slot.Row as R
@@ -131,10 +132,10 @@ module _ {M : Type 1} (𝓤 : URA M) (H : Heap 𝓤) (A : Atoms 𝓤) (W : Given
   Saw x = x ≡ seenOf h (p .now) (length (m .now))
 
   abbrev Settled : Seen → Outcome → List ℕ → Type 0
-  Settled x r zs = (r ≡ outcomeOf (settleOf h x (rowOf h (x .peer)) (p .now) (m .now))) × (zs ≡ settleOf h x (rowOf h (x .peer)) (p .now) (m .now) .mem)
+  Settled x r zs = (r ≡ outcomeOf (settleOf h x (rowAt h (x .peer)) (p .now) (m .now))) × (zs ≡ settleOf h x (rowAt h (x .peer)) (p .now) (m .now) .mem)
 
   abbrev vrow : Seen → Val
-  vrow x = LL.val R.the-type R′.the-laws (rowOf h (x .peer))
+  vrow x = LL.val R.the-type R′.the-laws (rowAt h (x .peer))
 
   -- the call of `looked`
   module _ (im : Is (MutSlice (named 2) κm u8) m (vm ∷ [])) where
@@ -150,12 +151,12 @@ module _ {M : Type 1} (𝓤 : URA M) (H : Heap 𝓤) (A : Atoms 𝓤) (W : Given
         move ! (2 ∷ 0 ∷ []) $ join ! $ move ! (1 ∷ 0 ∷ []) $ join ! $ nothing ! $ move ! (3 ∷ 0 ∷ []) $ join ! $ move ! (2 ∷ 0 ∷ []) $ join ! $ join ! $ frame ! $ done !
 
   -- the call of `settled`
-  module _ (x : Seen) (isr : Is R.the-row (rowOf h (x .peer)) (vrow x ∷ [])) where
+  module _ (x : Seen) (isr : Is R.the-row (rowAt h (x .peer)) (vrow x ∷ [])) where
     abbrev vx : Val
     vx = LL.val S.the-type S′.the-laws x
 
     abbrev settled-args : Args settling.signature κs
-    settled-args = (a .0, (x, (rowOf h (x .peer), (p, (m, tt)))))
+    settled-args = (a .0, (x, (rowAt h (x .peer), (p, (m, tt)))))
 
     abbrev settled-to : Settles 𝓤 H A at-mem run .Ghost
     settled-to = ((κs, qs, tt, settled-args, (vptr b o ∷ [], (vx ∷ [], (vrow x ∷ [], (vp ∷ [], (vm ∷ [], tt)))))), tt)
@@ -165,7 +166,7 @@ module _ {M : Type 1} (𝓤 : URA M) (H : Heap 𝓤) (A : Atoms 𝓤) (W : Given
         qed W (((‵ (flft κp qp) ⊛ ‵ ftrue) ⊛ (‵ (flft κm qm) ⊛ ‵ ftrue)) ∷ (((‵ OwnE ⊛ ‵ (S.the-row .own x (vx ∷ []))) ⊛ ‵ OwnP) ⊛ ‵ OwnM) ∷ ‵ (flft κe qe) ∷ []) ∵
         split ! $ split ! $ move ! (1 ∷ []) $ drop ! $ move ! (2 ∷ []) $ split ! $ split ! $ split ! $
         -- [the endpoint; seen; packet; memory; the tokens]
-        nothing ! $ move ! (4 ∷ 0 ∷ []) $ join ! $ move ! (3 ∷ 0 ∷ []) $ join ! $ owned ! R.the-row (Is R.the-row) (LL.makes R.the-type R′.the-plain 𝓤 H A) (rowOf h (x .peer)) _ isr $ join ! $
+        nothing ! $ move ! (4 ∷ 0 ∷ []) $ join ! $ move ! (3 ∷ 0 ∷ []) $ join ! $ owned ! R.the-row (Is R.the-row) (LL.makes R.the-type R′.the-plain 𝓤 H A) (rowAt h (x .peer)) _ isr $ join ! $
         move ! (2 ∷ 0 ∷ []) $ join ! $ move ! (1 ∷ 0 ∷ []) $ join ! $ move ! (1 ∷ 2 ∷ []) $ join ! $ move ! (2 ∷ 0 ∷ []) $ join ! $ join ! $ frame ! $ done !
 
   -- the row of peer n, in a share of the endpoint, and what is set aside to reach it
@@ -176,8 +177,8 @@ module _ {M : Type 1} (𝓤 : URA M) (H : Heap 𝓤) (A : Atoms 𝓤) (W : Given
   AtRow q n r = (‵ (Eight 𝓤 H A W q h n b o) ⊛ (‵ (TheRow 𝓤 H A W q h n b o (place n) r) ⊛ ‵ (Others 𝓤 H A W q h n b o))) ⊛ (‵ (EndpointRest 𝓤 H A W q h n b o) ⊛ raw (EndpointBack 𝓤 H A W q h n b o))
 
   -- it is put back where it was
-  stays : (q : Share) (n : ℕ) → n < 8 → ent 𝓤 (Reached 𝓤 H A W q h n b o (place n) (rowOf h n)) (sem 𝓤 H A (partAt T.the-row q h b o))
-  stays q n l = subst (λ (e : Endpoint). ent 𝓤 (Reached 𝓤 H A W q h n b o (place n) (rowOf h n)) (sem 𝓤 H A (partAt T.the-row q e b o))) (same-row h n) (comes-back 𝓤 H A W q h n b o l (rowOf h n))
+  stays : (q : Share) (n : ℕ) → n < 8 → ent 𝓤 (Reached 𝓤 H A W q h n b o (place n) (rowAt h n)) (sem 𝓤 H A (partAt T.the-row q h b o))
+  stays q n l = subst (λ (e : Endpoint). ent 𝓤 (Reached 𝓤 H A W q h n b o (place n) (rowAt h n)) (sem 𝓤 H A (partAt T.the-row q e b o))) (same-row h n) (comes-back 𝓤 H A W q h n b o l (rowAt h n))
 
   below : (x : Seen) → Saw x → x .peer < 8
   below x saw = seen-listed h (m .now) (p .now) x saw
@@ -224,15 +225,15 @@ module _ {M : Type 1} (𝓤 : URA M) (H : Heap 𝓤) (A : Atoms 𝓤) (W : Given
         assigns ! (bin ! (load ! (from ! (stop !)) (look ! 11 refl)) (load ! (from ! (stop !)) (look ! 13 refl)) tt) (from ! (stop !)) (init ! 9 refl (tt, tt)) $
         -- the borrow is looked into; the row is reached, and read
         move ! (1 ∷ []) $ split ! $ move ! (35 ∷ 0 ∷ []) $ looks ! tt T.the-row (Is T.the-row) (shows 𝓤 H A T.the-row) (LL.vals T.the-type T′.the-laws) (LL.tells T.the-type T′.the-laws) (LL.copy T.the-type T′.the-copy 𝓤 H A W) h b o (λ q′ vs.
-        use2 W (‵ (partAt T.the-row q′ h b o)) (lies-in 𝓤 H A W q′ T.the-row h b o vs) $ use1 W (AtRow q′ (x .peer) (rowOf h (x .peer))) (reaches 𝓤 H A W q′ h (x .peer) b o (below x saw)) $ split ! $ split ! $ move ! (1 ∷ []) $ split ! $
-        use1 W (some (λ (us : List Val). ‵ (cellAt q′ (RowS .mir) us b (place (x .peer))) ⊛ ‵ (RowS .own (into-row (rowOf h (x .peer))) us))) (lies-out 𝓤 H A W q′ RowS (into-row (rowOf h (x .peer))) b (place (x .peer))) $ pick ! (λ us. split ! $
-        spelt ! R.the-row (Is R.the-row) (shows 𝓤 H A R.the-row) (LL.vals R.the-type R′.the-laws) (LL.tells R.the-type R′.the-laws) q′ (rowOf h (x .peer)) us b (place (x .peer)) $
-        move ! (1 ∷ []) $ peeks ! R.the-row (Is R.the-row) (shows 𝓤 H A R.the-row) (rowOf h (x .peer)) (vrow x ∷ []) (λ isr. move ! (1 ∷ 0 ∷ []) $
-        assigns ! (of-opd ! (load ! (from ! (hop ! (look ! 16 refl) (stop !))) (look-raw ! 0 refl))) (from ! (stop !)) (init ! 14 refl (LL.lawful R.the-type R′.the-laws 𝓤 H A W .typed (rowOf h (x .peer)) _ isr .0)) $
-        assigns ! (of-opd ! (load ! (from ! (stop !)) (look ! 14 refl))) (from ! (stop !)) (init ! 22 refl (LL.lawful R.the-type R′.the-laws 𝓤 H A W .typed (rowOf h (x .peer)) _ isr .0)) $
+        use2 W (‵ (partAt T.the-row q′ h b o)) (lies-in 𝓤 H A W q′ T.the-row h b o vs) $ use1 W (AtRow q′ (x .peer) (rowAt h (x .peer))) (reaches 𝓤 H A W q′ h (x .peer) b o (below x saw)) $ split ! $ split ! $ move ! (1 ∷ []) $ split ! $
+        use1 W (some (λ (us : List Val). ‵ (cellAt q′ (RowS .mir) us b (place (x .peer))) ⊛ ‵ (RowS .own (into-row (rowAt h (x .peer))) us))) (lies-out 𝓤 H A W q′ RowS (into-row (rowAt h (x .peer))) b (place (x .peer))) $ pick ! (λ us. split ! $
+        spelt ! R.the-row (Is R.the-row) (shows 𝓤 H A R.the-row) (LL.vals R.the-type R′.the-laws) (LL.tells R.the-type R′.the-laws) q′ (rowAt h (x .peer)) us b (place (x .peer)) $
+        move ! (1 ∷ []) $ peeks ! R.the-row (Is R.the-row) (shows 𝓤 H A R.the-row) (rowAt h (x .peer)) (vrow x ∷ []) (λ isr. move ! (1 ∷ 0 ∷ []) $
+        assigns ! (of-opd ! (load ! (from ! (hop ! (look ! 16 refl) (stop !))) (look-raw ! 0 refl))) (from ! (stop !)) (init ! 14 refl (LL.lawful R.the-type R′.the-laws 𝓤 H A W .typed (rowAt h (x .peer)) _ isr .0)) $
+        assigns ! (of-opd ! (load ! (from ! (stop !)) (look ! 14 refl))) (from ! (stop !)) (init ! 22 refl (LL.lawful R.the-type R′.the-laws 𝓤 H A W .typed (rowAt h (x .peer)) _ isr .0)) $
         assigns ! (addr ! (from ! (fld ! refl (hop ! (look-in ! 28 (sub ! 0 refl (whole !))) (stop !))))) (from ! (stop !)) (init ! 12 refl (tt, tt)) $
         assigns ! (agg ! (and-then ! (load ! (from ! (stop !)) (look ! 12 refl)) (and-then ! (load ! (from ! (fld ! refl (stop !))) (look-in ! 28 (sub ! 1 refl (whole !)))) (no-more !)))) (from ! (stop !)) (init ! 10 refl (tt, (tt, (record { fits = im .0 .1 .0 }, tt)))) $
-        use2 W (‵ (TheRow 𝓤 H A W q′ h (x .peer) b o (place (x .peer)) (rowOf h (x .peer)))) (lies-in 𝓤 H A W q′ RowS (into-row (rowOf h (x .peer))) b (place (x .peer)) (vrow x ∷ [])) $
+        use2 W (‵ (TheRow 𝓤 H A W q′ h (x .peer) b o (place (x .peer)) (rowAt h (x .peer)))) (lies-in 𝓤 H A W q′ RowS (into-row (rowAt h (x .peer))) b (place (x .peer)) (vrow x ∷ [])) $
         join ! $ move ! (1 ∷ 0 ∷ []) $ join ! $ join ! $ use1 W (‵ (partAt T.the-row q′ h b o)) (stays q′ (x .peer) (below x saw)) $ move ! (1 ∷ 0 ∷ []) $ obor-close ! tt $ drop ! $
         -- [its token; the borrow; κp's; what seen owns; κm's; _12; …; packet; packet; memory; true; res; endpoint]
         move ! (36 ∷ 3 ∷ 31 ∷ 33 ∷ 0 ∷ 2 ∷ 4 ∷ []) $ join ! $ join ! $ join ! $ move ! (2 ∷ 3 ∷ []) $ join ! $ use3 W (raw (Settles 𝓤 H A at-mem run .pre (settled-to x isr))) (goes-settled x isr) $
