@@ -86,6 +86,14 @@ pub and-r : (a b : Bool) → (a && b) ≡ true → b ≡ true
 and-r true b e = e
 and-r false b e = let z : true ≡ false = cc in cc
 
+pub and-yes : (b : Bool) → (b && true) ≡ b
+and-yes true = refl
+and-yes false = refl
+
+pub and-no : (b : Bool) → (b && false) ≡ false
+and-no true = refl
+and-no false = refl
+
 pub or-false-l : (a b : Bool) → (a || b) ≡ false → a ≡ false
 or-false-l true b e = e
 or-false-l false b e = refl

@@ -8,7 +8,7 @@ use native.Mathlib.Omega.{arith}
 use lib.ListN.{length, getD, take}
 use lib.Dec.{ltb, leb, eqb}
 use borrow.Author.Tests.{ltb-true, ltb-false, leb-true, leb-false, eqb-true, eqb-false, lt-ltb, le-ltb, le-leb, lt-leb, eq-eqb, ne-eqb}
-use Rattle.reassembly.specs.Base.{caseB, either, clash, and-l, and-r, below-suc}
+use Rattle.reassembly.specs.Base.{caseB, either, clash, and-l, and-r, and-yes, and-no, below-suc}
 use Rattle.reassembly.specs.Receive.{Event, receive, tick}
 use Rattle.reassembly.specs.Laws.{within}
 use Rattle.reassembly.specs.Ghost.{Piece, covers, receivedIn, byteIn}
@@ -203,14 +203,6 @@ module _ (frames : List Frame) (f : ℕ) where
       (partOf (frameOf frames f) k .mark) (partOf (frameOf frames f) j .mark) (d j (rw (e, eq-eqb j j refl) (omega arith)) n)))
       (λ u. rw u ih))))
       (λ e. rw e (pull t k past tk (omega (arith, rw e at one)) (λ i l. d i (omega arith))))
-    where
-      and-yes : (b : Bool) → (b && true) ≡ b
-      and-yes true = refl
-      and-yes false = refl
-
-      and-no : (b : Bool) → (b && false) ≡ false
-      and-no true = refl
-      and-no false = refl
   pull t k (other e ∷ past) tk one d = pull t k past tk (omega arith) (λ i l. d i (omega arith))
 
   notes-to : (n : ℕ) (past : List Item) → ((j : ℕ) → j < n → times f j past ≡ 1)
@@ -290,18 +282,10 @@ abbrev but : (ℕ → Bool) → ℕ → ℕ → Bool
 but t g x = t x && not (eqb x g)
 
 but-same : (t : ℕ → Bool) (g x : ℕ) → x ≢ g → but t g x ≡ t x
-but-same t g x n = rw (ne-eqb x g n) (and-t (t x))
-  where
-    and-t : (b : Bool) → (b && true) ≡ b
-    and-t true = refl
-    and-t false = refl
+but-same t g x n = rw (ne-eqb x g n) (and-yes (t x))
 
 but-gone : (t : ℕ → Bool) (g : ℕ) → but t g g ≡ false
-but-gone t g = rw (eq-eqb g g refl) (and-f (t g))
-  where
-    and-f : (b : Bool) → (b && false) ≡ false
-    and-f true = refl
-    and-f false = refl
+but-gone t g = rw (eq-eqb g g refl) (and-no (t g))
 
 but-above : (n : ℕ) (t : ℕ → Bool) (g : ℕ) → n ≤ g → howMany n (but t g) ≡ howMany n t
 but-above zero t g l = refl

@@ -3,7 +3,7 @@
 use Prim.Native.Nat.{_-_, _≤_}
 use mathlib.Core.Path.{_≡_}
 use lib.ListN.{length}
-use Rattle.roundtrip.proofs.Prefix.{prefix}
+use lib.Seq.{length-take-le}
 use borrow.Author.Needs.{needs}
 use Rattle.roundtrip.proofs.sizes.Statement.{statement}
 use Rattle.roundtrip.proofs.sizes.Tie as tie
@@ -42,7 +42,7 @@ slice-relend-prefix-one-size : tie.Need-slice-relend-prefix-one-size Inv-loop μ
 slice-relend-prefix-one-size c = search needs
 
 slice-aggregate-one-size : tie.Need-slice-aggregate-one-size Inv-loop μ-loop
-slice-aggregate-one-size c = search (needs, prefix)
+slice-aggregate-one-size c = search (needs, length-take-le)
 
 one-size-requires : tie.Need-one-size-requires Inv-loop μ-loop
 one-size-requires c κs = search needs

@@ -1,6 +1,6 @@
 -- `replay::call::lend` is safe.
 -- Assumes nothing.
-use Rattle.replay.proofs.Prefix.{prefix}
+use lib.Seq.{length-take-le}
 use borrow.Author.Needs.{needs}
 use Rattle.replay.proofs.call.lend.Statement.{statement}
 use Rattle.replay.proofs.call.lend.Tie as tie
@@ -27,7 +27,7 @@ slice-relend-prefix-lend-all : tie.Need-slice-relend-prefix-lend-all
 slice-relend-prefix-lend-all c = search needs
 
 slice-aggregate-lend-all : tie.Need-slice-aggregate-lend-all
-slice-aggregate-lend-all c = search (needs, prefix)
+slice-aggregate-lend-all c = search (needs, length-take-le)
 
 lend-all-requires : tie.Need-lend-all-requires
 lend-all-requires c κs = search needs

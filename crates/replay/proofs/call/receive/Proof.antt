@@ -1,6 +1,6 @@
 -- `replay::call::receive` is safe.
 -- Assumes nothing.
-use Rattle.replay.proofs.Prefix.{prefix}
+use lib.Seq.{length-take-le}
 use borrow.Author.Needs.{needs}
 use Rattle.replay.proofs.call.receive.Statement.{statement}
 use Rattle.replay.proofs.call.receive.Tie as tie
@@ -39,13 +39,13 @@ slice-reshare-prefix-receive-in : tie.Need-slice-reshare-prefix-receive-in
 slice-reshare-prefix-receive-in c = search needs
 
 slice-aggregate-receive-in : tie.Need-slice-aggregate-receive-in
-slice-aggregate-receive-in c = search (needs, prefix)
+slice-aggregate-receive-in c = search (needs, length-take-le)
 
 slice-relend-prefix-receive-in : tie.Need-slice-relend-prefix-receive-in
 slice-relend-prefix-receive-in c = search needs
 
 slice-aggregate-receive-in-2 : tie.Need-slice-aggregate-receive-in-2
-slice-aggregate-receive-in-2 c = search (needs, prefix)
+slice-aggregate-receive-in-2 c = search (needs, length-take-le)
 
 receive-in-requires : tie.Need-receive-in-requires
 receive-in-requires c κs = search needs

@@ -1,6 +1,6 @@
 -- `replay::call::view` is safe.
 -- Assumes nothing.
-use Rattle.replay.proofs.Prefix.{prefix}
+use lib.Seq.{length-take-le}
 use borrow.Author.Needs.{needs}
 use Rattle.replay.proofs.call.view.Statement.{statement}
 use Rattle.replay.proofs.call.view.Tie as tie
@@ -33,10 +33,10 @@ at-requires-3 : tie.Need-at-requires-3
 at-requires-3 c κs = search needs
 
 slice-aggregate-viewed : tie.Need-slice-aggregate-viewed
-slice-aggregate-viewed c = search (needs, prefix)
+slice-aggregate-viewed c = search (needs, length-take-le)
 
 slice-aggregate-viewed-2 : tie.Need-slice-aggregate-viewed-2
-slice-aggregate-viewed-2 c = search (needs, prefix)
+slice-aggregate-viewed-2 c = search (needs, length-take-le)
 
 viewed-requires : tie.Need-viewed-requires
 viewed-requires c κs = search needs

@@ -1,6 +1,6 @@
 -- `replay::call::wrap_read` is safe.
 -- Assumes nothing.
-use Rattle.replay.proofs.Prefix.{prefix}
+use lib.Seq.{length-take-le}
 use borrow.Author.Needs.{needs}
 use Rattle.replay.proofs.call.wrap_read.Statement.{statement}
 use Rattle.replay.proofs.call.wrap_read.Tie as tie
@@ -39,7 +39,7 @@ slice-relend-prefix-wrap-in : tie.Need-slice-relend-prefix-wrap-in
 slice-relend-prefix-wrap-in c = search needs
 
 slice-aggregate-wrap-in : tie.Need-slice-aggregate-wrap-in
-slice-aggregate-wrap-in c = search (needs, prefix)
+slice-aggregate-wrap-in c = search (needs, length-take-le)
 
 wrap-in-requires : tie.Need-wrap-in-requires
 wrap-in-requires c κs = search needs

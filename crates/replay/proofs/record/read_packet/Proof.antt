@@ -1,6 +1,6 @@
 -- `replay::record::read_packet` is safe.
 -- Assumes nothing.
-use Rattle.replay.proofs.Prefix.{prefix}
+use lib.Seq.{length-take-le}
 use borrow.Author.Needs.{needs}
 use Rattle.replay.proofs.record.read_packet.Statement.{statement}
 use Rattle.replay.proofs.record.read_packet.Tie as tie
@@ -12,7 +12,7 @@ slice-relend-prefix-read-full : tie.Need-slice-relend-prefix-read-full
 slice-relend-prefix-read-full c = search needs
 
 slice-aggregate-read-full : tie.Need-slice-aggregate-read-full
-slice-aggregate-read-full c = search (needs, prefix)
+slice-aggregate-read-full c = search (needs, length-take-le)
 
 read-full-requires : tie.Need-read-full-requires
 read-full-requires c κs = search needs

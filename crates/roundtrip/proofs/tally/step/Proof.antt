@@ -1,6 +1,6 @@
 -- `roundtrip::tally::step` is safe.
 -- Assumes nothing.
-use Rattle.roundtrip.proofs.Prefix.{prefix}
+use lib.Seq.{length-take-le}
 use borrow.Author.Needs.{needs}
 use Rattle.roundtrip.proofs.tally.step.Statement.{statement}
 use Rattle.roundtrip.proofs.tally.step.Tie as tie
@@ -30,7 +30,7 @@ slice-reshare-prefix-arrive : tie.Need-slice-reshare-prefix-arrive
 slice-reshare-prefix-arrive c = search needs
 
 slice-aggregate-arrive : tie.Need-slice-aggregate-arrive
-slice-aggregate-arrive c = search (needs, prefix)
+slice-aggregate-arrive c = search (needs, length-take-le)
 
 arrive-requires : tie.Need-arrive-requires
 arrive-requires c κs = search needs
