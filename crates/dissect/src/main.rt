@@ -1,4 +1,7 @@
 // Writes what the readers of `wire` make of some packets, a line for each.
+use program::print::address;
+use program::print::decimal;
+use program::print::text;
 use wire::carriage::Carried;
 use wire::frame::FrameRead;
 use wire::ipv4::Ipv4Read;
@@ -6,35 +9,17 @@ use wire::refusal::Refusal;
 ghost use Prim.Native.Nat.{_+_, _<_};
 ghost use lib.ListN.{length};
 
-fn text(s: &[u8]) {
-    io::write_all(1, s);
-}
-
-fn number(n: u64) {
-    io::print_decimal(1, n);
-}
-
-fn address(a: u32) {
-    number((a / 16777216) as u64);
-    text(b".");
-    number((a / 65536 % 256) as u64);
-    text(b".");
-    number((a / 256 % 256) as u64);
-    text(b".");
-    number((a % 256) as u64);
-}
-
 fn refused(r: Refusal) {
     text(b"refused, answer ");
-    number(wire::refusal::code(r) as u64);
+    decimal(wire::refusal::code(r) as u64);
     text(b"\n");
 }
 
 fn inner(at: usize, frame: &[u8]) {
     text(b", frame of ");
-    number(frame.len() as u64);
+    decimal(frame.len() as u64);
     text(b" bytes at ");
-    number(at as u64);
+    decimal(at as u64);
     let read = wire::frame::read(frame);
     match read {
         FrameRead::Good => text(b"\n"),
@@ -53,18 +38,18 @@ fn payload(protocol: u8, source: u32, destination: u32, at: usize, s: &[u8])
         Carried::Refused(r) => refused(r),
         Carried::Segment(g) => {
             text(b"STT segment of frame ");
-            number(g.identifier as u64);
+            decimal(g.identifier as u64);
             text(b", bytes from ");
-            number(g.offset as u64);
+            decimal(g.offset as u64);
             text(b" of ");
-            number(g.frame_length as u64);
+            decimal(g.frame_length as u64);
             text(b"\n");
         }
         Carried::Tunnel(t) => {
             text(b"kind ");
-            number(t.kind as u64);
+            decimal(t.kind as u64);
             text(b", network ");
-            number(t.network as u64);
+            decimal(t.network as u64);
             let start = t.start;
             inner(at + start, &s[start..]);
         }

@@ -14,9 +14,9 @@ use Rattle.reassembly.specs.Receive.{Seen, stranger, plain, segment, Event, rec
 use Rattle.reassembly.specs.SetUp.{World, Endpoint as Ends, Said, receives, saidOf, next, runs, Promised}
 use Rattle.reassembly.specs.declared.slot.Row.{Row}
 use Rattle.endpoint.specs.Config.{Config, configOf, tickOf}
-use Rattle.endpoint.specs.ConfigLaws.{rows-tick, config-tick}
+use Rattle.endpoint.specs.Laws.Config.{rows-tick, config-tick}
 use Rattle.endpoint.specs.Receive.{answers, layers, headerOf, Step, rowAt, unchanged, stepped, stepOf, withRow, worldOf}
-use Rattle.endpoint.specs.ReceiveLaws.{header-kept, header-whose, config-few}
+use Rattle.endpoint.specs.Laws.Receive.{header-kept, header-whose, config-few}
 use Rattle.endpoint.specs.declared.answer.Drop.the-variants as D
 use Rattle.endpoint.specs.declared.answer.Received.the-variants as R
 use Rattle.endpoint.specs.declared.config.Endpoint.{Endpoint}

@@ -17,9 +17,9 @@ use Rattle.wire.specs.declared.refusal.Refusal.the-variants as F
 use Rattle.reassembly.specs.Base.{caseB}
 use Rattle.reassembly.specs.Slots.{noRow}
 use Rattle.reassembly.specs.Take.{Seg, rejectionCode, slotNo, frameIn}
-use Rattle.reassembly.specs.TakeFacts.{rejection-codes}
+use Rattle.reassembly.specs.Laws.TakeFacts.{rejection-codes}
 use Rattle.reassembly.specs.Store.{bytesOf, takeIn}
-use Rattle.reassembly.specs.TakeInLaws.{take-refused, take-no-memory}
+use Rattle.reassembly.specs.Laws.TakeIn.{take-refused, take-no-memory}
 use Rattle.reassembly.specs.Receive.{Seen, stranger, plain, segment, Verdict, bad, good, spoken, told}
 use Rattle.reassembly.specs.declared.slot.Row.{Row}
 use Rattle.reassembly.specs.declared.take.Outcome.{Outcome}

@@ -13,7 +13,7 @@ use borrow.Author.Tests.{ltb-true, le-ltb, le-leb}
 use lib.ListN.{length, getD, take, drop}
 use lib.Dec.{ltb, leb, eqb}
 use Rattle.wire.specs.Bytes.{Bytes, part}
-use Rattle.wire.specs.BytesLaws.{part-is, bytes-part}
+use Rattle.wire.specs.Laws.Bytes.{part-is, bytes-part}
 use Rattle.wire.specs.Ipv4.{ipv4Of}
 use Rattle.wire.specs.declared.ipv4.Ipv4.{Ipv4}
 use Rattle.wire.specs.declared.ipv4.Ipv4Read.{Ipv4Read}
@@ -25,17 +25,18 @@ use Rattle.reassembly.specs.Base.{caseB}
 use Rattle.reassembly.specs.Slots.{Note}
 use Rattle.reassembly.specs.Take.{Seg, slotNo, frameIn}
 use Rattle.reassembly.specs.Store.{bytesOf, takeIn, slotStart}
-use Rattle.reassembly.specs.StoreLaws.{handed, slot-inside}
-use Rattle.reassembly.specs.TakeFacts.{length-frame}
-use Rattle.reassembly.specs.TakeInLaws.{take-whole, take-length, frame-part}
+use Rattle.reassembly.specs.Laws.Store.{slot-inside}
+use Rattle.reassembly.specs.Laws.TakeFacts.{length-frame}
+use Rattle.reassembly.specs.Laws.TakeIn.{take-whole, take-length, frame-part}
 use Rattle.reassembly.specs.Receive.{viewOf, Seen, stranger, plain, segment, Verdict, bad, good, spoken, told}
 use Rattle.reassembly.specs.declared.take.Outcome.{Outcome}
 use Rattle.reassembly.specs.declared.take.Outcome.the-variants as O
 use Rattle.endpoint.specs.Answer.{placeOf}
 use Rattle.endpoint.specs.Config.{Config, configOf, findPeer}
+use Rattle.endpoint.specs.Laws.Receive.{slot-view}
 use Rattle.endpoint.specs.Receive.{answers, isDelivered, carried?, peer?, ours?, ip?, headerOf, judgeOf, Step, rowAt, stepped, stepOf}
 use Rattle.endpoint.specs.Formats.{CarriesFrame, CarriesSegment, GoodFrame}
-use Rattle.endpoint.specs.FormatsLaws.{Lies, judge-sound, judge-complete, segment-sound, segment-complete, frame-sound, frame-complete}
+use Rattle.endpoint.specs.Laws.Formats.{Lies, judge-sound, judge-complete, segment-sound, segment-complete, frame-sound, frame-complete}
 use Rattle.endpoint.specs.declared.answer.Place.{Place}
 use Rattle.endpoint.specs.declared.answer.Target.{Target}
 use Rattle.endpoint.specs.declared.answer.Drop.{Drop}
@@ -69,12 +70,6 @@ lies-view k m place frame l =
     let size : place .start + place .length - place .start ≡ place .length = omega arith in
     rw (l .in-packet, fits) (
     ap (λ (n : ℕ). take n (drop (place .start) k)) (sym size) ∙ sym (part-is k (place .start) (place .start + place .length)) ∙ l .bytes)
-
-slot-view : (k m : List ℕ) (i n : ℕ) → 18 ≤ n → slotStart i + n ≤ length m
-    → viewOf k m (record { inMemory = true; start = slotStart i + 18; len = n - 18 }) ≡ drop 18 (frameIn bytesOf m i n)
-slot-view k m i n l f =
-    let fits : leb (slotStart i + 18 + (n - 18)) (length m) ≡ true = le-leb (slotStart i + 18 + (n - 18)) (length m) (omega arith) in
-    rw fits (sym (handed m i n l f))
 
 -- ---- a stranger's packet is never delivered
 

@@ -14,19 +14,19 @@ use borrow.Author.Tests.{le-ltb, ltb-false}
 use lib.ListN.{length, drop}
 use lib.Dec.{eqb}
 use Rattle.wire.specs.Bytes.{part}
-use Rattle.wire.specs.BytesLaws.{part-empty}
+use Rattle.wire.specs.Laws.Bytes.{part-empty}
 use Rattle.wire.specs.Ipv4.{IsIpv4}
 use Rattle.wire.specs.Carriage.{Tunnels}
 use Rattle.wire.specs.Segment.{IsSegment}
 use Rattle.wire.specs.Stt.{IsStt}
 use Rattle.wire.specs.Frame.{IsFrame}
 use Rattle.wire.specs.Write.{vxlanBody, vxlanPacket, nvgreBody, nvgrePacket, sttFrame, segmentBytes, segmentBody, segmentPacket}
-use Rattle.wire.specs.WriteLaws.{vxlan-is, vxlan-length-is, nvgre-is, nvgre-length-is, stt-is, stt-length, segment-is, segment-length-is, segment-bytes-is}
-use Rattle.wire.specs.WriteIs.{part-short, part-join, part-all, wrote-is}
+use Rattle.wire.specs.Laws.Write.{vxlan-is, vxlan-length-is, nvgre-is, nvgre-length-is, stt-is, stt-length, segment-is, segment-length-is, segment-bytes-is}
+use Rattle.wire.specs.Laws.WriteIs.{part-short, part-join, part-all, wrote-is}
 use Rattle.reassembly.specs.Base.{either}
 use Rattle.endpoint.specs.Config.{configOf}
 use Rattle.endpoint.specs.Wrap.{segmentsOf, segmentSize, packetOf, exceeds, kindAt, networkAt, peerAt, packetAt, wrapOf}
-use Rattle.endpoint.specs.WrapLaws.{Says, written-says, written-when, Ready, Listed, ready-listed, ByKind, vxlan, nvgre, stt, by-kind, packet-vxlan, packet-nvgre, packet-stt, one-vxlan, one-nvgre, many-stt, starts-within, ends-past}
+use Rattle.endpoint.specs.Laws.Wrap.{Says, written-says, written-when, Ready, Listed, ready-listed, ByKind, vxlan, nvgre, stt, by-kind, packet-vxlan, packet-nvgre, packet-stt, one-vxlan, one-nvgre, many-stt, starts-within, ends-past}
 use Rattle.endpoint.specs.Reached.{Reached, reached-ready}
 use Rattle.endpoint.specs.declared.answer.Packet.{Packet}
 use Rattle.endpoint.specs.declared.answer.Wrapped.the-variants as Y

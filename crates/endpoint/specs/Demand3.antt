@@ -15,7 +15,7 @@ use lib.ListN.{length, drop}
 use lib.Dec.{eqb}
 use Rattle.wire.specs.Bytes.{Bytes, part}
 use Rattle.wire.specs.Ipv4.{IsIpv4, ipv4Of}
-use Rattle.wire.specs.Ipv4Laws as P
+use Rattle.wire.specs.Laws.Ipv4 as P
 use Rattle.wire.specs.declared.ipv4.Ipv4.{Ipv4}
 use Rattle.wire.specs.declared.ipv4.Ipv4Read.{Ipv4Read}
 use Rattle.wire.specs.declared.ipv4.Ipv4Read.the-variants as I
@@ -24,15 +24,15 @@ use Rattle.reassembly.specs.Take.{Seg}
 use Rattle.reassembly.specs.Receive.{Event, receive, tick, segment, good}
 use Rattle.reassembly.specs.SetUp.{World, Said, receives, runs, Claim}
 use Rattle.reassembly.specs.SetUp as U
-use Rattle.reassembly.specs.ClaimProof.{claim}
+use Rattle.reassembly.specs.Laws.Claim.{claim}
 use Rattle.reassembly.specs.Carried.{EveryRun, every-run}
 use Rattle.reassembly.specs.declared.slot.Row.{Row}
 use Rattle.endpoint.specs.Config.{Config, configOf, findPeer, Adding, setUp}
-use Rattle.endpoint.specs.ConfigLaws.{set-up-valid}
+use Rattle.endpoint.specs.Laws.Config.{set-up-valid}
 use Rattle.endpoint.specs.Receive.{answers, layers, headerOf, sender?, sourceOf, judgeOf, Step, stepOf, worldOf}
 use Rattle.endpoint.specs.Calls.{Left, calls, calls-are, receive-is, promised}
 use Rattle.endpoint.specs.Formats.{CarriesSegment, GoodFrame}
-use Rattle.endpoint.specs.FormatsLaws.{segment-sound, segment-complete, judge-sound, judge-complete}
+use Rattle.endpoint.specs.Laws.Formats.{segment-sound, segment-complete, judge-sound, judge-complete}
 use Rattle.endpoint.specs.declared.answer.Target.{Target}
 use Rattle.endpoint.specs.declared.config.Endpoint.{Endpoint}
 

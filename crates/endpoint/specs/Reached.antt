@@ -9,11 +9,11 @@ use native.Mathlib.Omega.{arith}
 use lib.ListN.{getD, set, replicate}
 use Rattle.wire.specs.Checks.{Check, _⇒_, first}
 use Rattle.endpoint.specs.Config.{Config, configOf, findPeer, isSome, fresh, startOf, refusedAdd, addPeerChecks, withAddress, addPeerOf, addBindingChecks, withBinding, addBindingOf, tickOf, Adding, addPeer, addBinding, added, addedAll, setUp}
-use Rattle.endpoint.specs.ConfigLaws.{start-cases, add-peer-cases, add-binding-cases, Valid, set-up-valid, config-tick}
-use Rattle.endpoint.specs.ConfigExits.{peerAdded, bindingAdded}
+use Rattle.endpoint.specs.Laws.Config.{start-cases, add-peer-cases, add-binding-cases, Valid, set-up-valid, config-tick}
+use Rattle.endpoint.specs.Laws.ConfigExits.{peerAdded, bindingAdded}
 use Rattle.endpoint.specs.Receive.{stepOf, withRow}
 use Rattle.endpoint.specs.Calls.{config-row}
-use Rattle.endpoint.specs.WrapLaws.{Alike, Ready}
+use Rattle.endpoint.specs.Laws.Wrap.{Alike, Ready}
 use Rattle.endpoint.specs.declared.answer.ConfigRefusal.{ConfigRefusal}
 use Rattle.endpoint.specs.declared.config.Endpoint.{Endpoint}
 use Rattle.endpoint.specs.declared.config.Configured.{Configured}

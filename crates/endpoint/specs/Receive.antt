@@ -37,10 +37,7 @@ use Rattle.endpoint.specs.declared.answer.Drop.{Drop}
 use Rattle.endpoint.specs.declared.answer.Drop.the-variants as D
 use Rattle.endpoint.specs.declared.answer.Received.{Received}
 use Rattle.endpoint.specs.declared.answer.Received.the-variants as R
-use Rattle.endpoint.specs.declared.receive.Inner.{Inner}
-use Rattle.endpoint.specs.declared.receive.Inner.the-variants as N
 use Rattle.endpoint.specs.declared.config.Endpoint.{Endpoint}
-use Rattle.endpoint.specs.declared.receive.Changed.{Changed}
 use Rattle.endpoint.specs.declared.receive.Receipt.{Receipt}
 
 -- ---- what an answer is to the theory of runs
@@ -79,25 +76,25 @@ answers = record {
 
 -- ---- the inner frame: 12, then 13. `networks`, `kinds`, `owners` and `tenants` are the bindings' columns, of which n are listed
 
-abbrev pub frame? : FrameRead → Target → Inner
-frame? F.Good t = N.Good t
-frame? (F.Refused r) t = N.Bad (D.Format r)
+abbrev pub frame? : FrameRead → Target → Verdict answers
+frame? F.Good t = good t
+frame? (F.Refused r) t = bad (D.Format r)
 
-abbrev pub bound? : (tenants : List ℕ) → Option ℕ → FrameRead → Inner
-bound? tenants none frame = N.Bad D.Binding
+abbrev pub bound? : (tenants : List ℕ) → Option ℕ → FrameRead → Verdict answers
+bound? tenants none frame = bad D.Binding
 bound? tenants (some b) frame = frame? frame (record { tenant = getD tenants b 0; binding = b })
 
 -- a frame from this peer on this network
-unfoldable pub innerFrom : (networks kinds owners tenants : List ℕ) (n peer kind network : ℕ) → List ℕ → Inner
+unfoldable pub innerFrom : (networks kinds owners tenants : List ℕ) (n peer kind network : ℕ) → List ℕ → Verdict answers
 innerFrom networks kinds owners tenants n peer kind network frame =
     bound? tenants (lowest (binds networks kinds owners peer kind network) n) (frameOf frame)
 
 -- ---- what is made of a packet: checks 3 to 10, and for VXLAN and NVGRE 11 to 13
 
 -- the answer on a frame that lies at a place
-abbrev pub answerAt : Inner → Place → Received
-answerAt (N.Bad d) place = R.Dropped d
-answerAt (N.Good t) place = R.Delivered t place
+abbrev pub answerAt : Verdict answers → Place → Received
+answerAt (bad d) place = R.Dropped d
+answerAt (good t) place = R.Delivered t place
 
 unfoldable pub tunnelFrom : (networks kinds owners tenants : List ℕ) (n peer kind network at : ℕ) → List ℕ → Received
 tunnelFrom networks kinds owners tenants n peer kind network at frame =
@@ -136,20 +133,16 @@ sourceOf c k = sender? c (ipv4Of k)
 
 -- ---- what a complete STT frame from peer p is worth: checks 11, 12, 13
 
-abbrev pub verdictOf : Inner → Verdict answers
-verdictOf (N.Bad d) = bad d
-verdictOf (N.Good t) = good t
-
-abbrev pub stt? : SttRead → (ℕ → Inner) → Inner
-stt? (T.Refused r) next = N.Bad (D.Format r)
+abbrev pub stt? : SttRead → (ℕ → Verdict answers) → Verdict answers
+stt? (T.Refused r) next = bad (D.Format r)
 stt? (T.Header context) next = next context
 
-unfoldable pub sttFrom : (networks kinds owners tenants : List ℕ) (n peer : ℕ) → List ℕ → Inner
+unfoldable pub sttFrom : (networks kinds owners tenants : List ℕ) (n peer : ℕ) → List ℕ → Verdict answers
 sttFrom networks kinds owners tenants n peer frame =
     stt? (sttOf frame) (λ context. innerFrom networks kinds owners tenants n peer 3 context (drop 18 frame))
 
 unfoldable pub judgeOf : Config → (peer : ℕ) → Note → List ℕ → Verdict answers
-judgeOf c p note frame = verdictOf (sttFrom (c .networks) (c .kinds) (c .owners) (c .tenants) (c .bindings) p frame)
+judgeOf c p note frame = sttFrom (c .networks) (c .kinds) (c .owners) (c .tenants) (c .bindings) p frame
 
 abbrev pub layers : Layers answers Config
 layers = record { header = headerOf; judge = judgeOf; source = sourceOf }
@@ -179,9 +172,6 @@ stepped e m (segment p g) =
 
 unfoldable pub stepOf : Endpoint → (memory packet : List ℕ) → Step
 stepOf e m k = cond (ltb (length m) 55296) (unchanged e 0 m (R.Dropped D.Memory)) (stepped e m (headerOf (configOf e) k))
-
-abbrev pub changedOf : Step → Changed
-changedOf s = record { row = s .row; answer = s .answer }
 
 -- peer p's row is this one
 abbrev pub withRow : Endpoint → ℕ → Row → Endpoint

@@ -10,7 +10,7 @@ use lib.ListN.{length, getD, take}
 use lib.Dec.{ltb, eqb}
 use Rattle.reassembly.specs.Receive.{Event, receive}
 use Rattle.endpoint.specs.Config.{Adding, setUp}
-use Rattle.endpoint.specs.ConfigLaws.{addressAt}
+use Rattle.endpoint.specs.Laws.Config.{addressAt}
 use Rattle.endpoint.specs.Receive.{stepOf}
 use Rattle.endpoint.specs.Calls.{Left, calls}
 use Rattle.endpoint.specs.Wrap.{segmentsOf, kindAt, networkAt, ownerAt, peerAt, wrapOf}

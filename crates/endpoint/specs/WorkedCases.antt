@@ -7,7 +7,7 @@ use mathlib.Core.List.{List, [], _∷_, _++_, map}
 use lib.ListN.{length, replicate}
 use Rattle.wire.specs.Bytes.{be, beAt}
 use Rattle.wire.specs.Sum.{total, ones}
-use Rattle.wire.specs.SumLaws.{complement}
+use Rattle.wire.specs.Laws.Sum.{complement}
 use Rattle.wire.specs.Ipv4 as I
 use Rattle.wire.specs.Udp.{udp}
 use Rattle.wire.specs.Vxlan.{vxlan}

@@ -1,7 +1,7 @@
 // Lookups (document 01, "Listing and numbers"): the lowest-numbered peer or binding that matches.
 ghost use mathlib.Core.Path.{_≡_};
 ghost use Prim.Native.Nat.{_≤_, min};
-ghost use Rattle.endpoint.specs.Search.{lowest, foundOf, NextWith};
+ghost use Rattle.endpoint.specs.Search.{lowest, foundOf};
 ghost use Rattle.endpoint.specs.Config.{hasAddress, binds};
 
 pub enum Found {
@@ -44,22 +44,7 @@ pub(crate) fn find_peer(addresses: &[u32; 8], n: usize, address: u32) -> Found
     found
 }
 
-// The next of the first n bindings that has this network, or n.
-fn next_with(networks: &[u64; 64], from: usize, n: usize, network: u64) -> usize
-    requires { ⌜ (from ≤ n) × (n ≤ 64) ⌝ }
-    ensures { λ r. ⌜ NextWith (now (networks .entry)) network from n r ⌝ }
-{
-    let mut i = from;
-    while i < n {
-        if networks[i] == network {
-            return i;
-        }
-        i += 1;
-    }
-    n
-}
-
-// The lowest of the first n bindings that has this network, kind and peer. The networks are gone through in a loop of their own: they are what differs most.
+// The lowest of the first n bindings that has this network, kind and peer. The loop goes over all 64, whatever n is, as above.
 pub(crate) fn find_binding<'a>(
     networks: &'a [u64; 64],
     kinds: &'a [u8; 64],
@@ -72,17 +57,22 @@ pub(crate) fn find_binding<'a>(
     requires { ⌜ n ≤ 64 ⌝ }
     ensures { λ r. ⌜ r ≡ foundOf (lowest (binds (now (networks .entry)) (now (kinds .entry)) (now (owners .entry)) peer kind network) n) ⌝ }
 {
-    let mut i = next_with(networks, 0, n, network);
+    let mut i: usize = 0;
     let found = loop {
-        if n <= i {
+        if 64 <= i {
             break Found::Nothing;
         }
-        if kinds[i] == kind {
-            if wide(owners[i]) == peer {
-                break Found::At(i);
+        if networks[i] == network {
+            if kinds[i] == kind {
+                if wide(owners[i]) == peer {
+                    if i < n {
+                        break Found::At(i);
+                    }
+                    break Found::Nothing;
+                }
             }
         }
-        i = next_with(networks, i + 1, n, network);
+        i += 1;
     };
     found
 }

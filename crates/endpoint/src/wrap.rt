@@ -5,7 +5,7 @@ ghost use Prim.Native.Nat.{_+_, _*_, _<_, _≤_};
 ghost use lib.ListN.{length};
 ghost use Rattle.endpoint.specs.Config.{lent};
 ghost use Rattle.endpoint.specs.Wrap.{segmentsOf, exceeds, wrapOf};
-ghost use Rattle.endpoint.specs.WrapExits.{packetOn, Put, pieceOf, sendOf};
+ghost use Rattle.endpoint.specs.Laws.WrapExits.{packetOn, Put, pieceOf, sendOf};
 use crate::answer::Packet;
 use crate::answer::WrapRefusal;
 use crate::answer::Wrapped;

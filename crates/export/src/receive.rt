@@ -1,17 +1,16 @@
 // Receiving.
 ghost use mathlib.Core.Path.{_≡_};
-ghost use mathlib.Core.List.{[]};
+ghost use Prim.Native.Nat.{min};
 ghost use Rattle.endpoint.specs.Answer.{valuesOf};
-ghost use Rattle.endpoint.specs.Config.{lent};
 ghost use Rattle.endpoint.specs.Receive.{stepOf, receiptOf};
-ghost use Rattle.endpoint.specs.Look.{seenOf, settleOf};
+ghost use Rattle.endpoint.specs.Stages.{settleOf, openedBy, settledBy};
 ghost use Rattle.export.specs.Answer.{flatOf};
 ghost use Rattle.export.specs.Receive.{outcomeOf};
 use crate::answer::Receipt;
 use crate::answer::flat_received;
 use endpoint::config::Endpoint;
 use endpoint::receive;
-use endpoint::receive::Seen;
+use endpoint::receive::Arrival;
 use reassembly::slot::Row;
 
 // What a receive leaves of one peer, which is all of the endpoint that it may change, and its answer.
@@ -21,71 +20,68 @@ pub struct Outcome {
     pub answer: Receipt,
 }
 
-// What becomes of a packet that was looked at, with the answer as C has it.
+// What becomes of a packet that was opened, with the answer as C has it.
 pub(crate) fn flat_settled<'a>(
     networks: &'a [u64; 64],
     kinds: &'a [u8; 64],
     owners: &'a [u8; 64],
     tenants: &'a [u16; 64],
     binding_count: u16,
-    seen: Seen,
+    arrival: Arrival,
     row: Row,
     packet: &[u8],
     memory: &mut [u8],
 ) -> Outcome
-    ensures { λ r. ⌜ (r ≡ outcomeOf (settleOf (lent (now (networks .entry)) (now (kinds .entry)) (now (owners .entry)) (now (tenants .entry)) [] 0 0 0 0 «binding_count») seen row (now (packet .entry)) (now (memory .entry))))
-        × (now (memory .exit) ≡ settleOf (lent (now (networks .entry)) (now (kinds .entry)) (now (owners .entry)) (now (tenants .entry)) [] 0 0 0 0 «binding_count») seen row (now (packet .entry)) (now (memory .entry)) .mem) ⌝ }
+    ensures { λ r. ⌜ (r ≡ outcomeOf (settleOf (now (networks .entry)) (now (kinds .entry)) (now (owners .entry)) (now (tenants .entry)) (min «binding_count» 64) arrival row (now (packet .entry)) (now (memory .entry))))
+        × (now (memory .exit) ≡ settleOf (now (networks .entry)) (now (kinds .entry)) (now (owners .entry)) (now (tenants .entry)) (min «binding_count» 64) arrival row (now (packet .entry)) (now (memory .entry)) .mem) ⌝ }
 {
-    let changed = receive::settle(
+    let peer = arrival.peer;
+    let changed = receive::take(row, arrival, packet, memory);
+    let offer = changed.offer;
+    let left = changed.row;
+    let answer = receive::deliver(
         networks,
         kinds,
         owners,
         tenants,
         binding_count,
-        seen,
-        row,
+        peer,
+        offer,
         packet,
         memory,
     );
-    let answer = changed.answer;
-    let left = changed.row;
     let given = flat_received(answer);
     Outcome {
         row: left,
-        peer: seen.peer,
+        peer: peer,
         answer: given,
     }
 }
 
-// The look at a packet. The endpoint is read where it lies, and its columns are lent on.
-pub(crate) fn looked(endpoint: &Endpoint, packet: &[u8], room: usize) -> Seen
-    ensures { λ r. ⌜ r ≡ seenOf (now (endpoint .entry)) (now (packet .entry)) room ⌝ }
+// Opens a packet. The endpoint is read where it lies, and its addresses are lent on.
+pub(crate) fn opened(endpoint: &Endpoint, packet: &[u8], room: usize) -> Arrival
+    ensures { λ r. ⌜ r ≡ openedBy (now (endpoint .entry)) (now (packet .entry)) room ⌝ }
 {
-    receive::look(
-        &endpoint.networks,
-        &endpoint.kinds,
-        &endpoint.owners,
-        &endpoint.tenants,
+    receive::open(
         &endpoint.addresses,
         endpoint.own,
         endpoint.port,
         endpoint.peer_count,
-        endpoint.binding_count,
         packet,
         room,
     )
 }
 
-// What becomes of the packet, likewise.
+// What becomes of the packet: the bindings' columns are lent on.
 pub(crate) fn settled(
     endpoint: &Endpoint,
-    seen: Seen,
+    arrival: Arrival,
     row: Row,
     packet: &[u8],
     memory: &mut [u8],
 ) -> Outcome
-    ensures { λ r. ⌜ (r ≡ outcomeOf (settleOf (now (endpoint .entry)) seen row (now (packet .entry)) (now (memory .entry))))
-        × (now (memory .exit) ≡ settleOf (now (endpoint .entry)) seen row (now (packet .entry)) (now (memory .entry)) .mem) ⌝ }
+    ensures { λ r. ⌜ (r ≡ outcomeOf (settledBy (now (endpoint .entry)) arrival row (now (packet .entry)) (now (memory .entry))))
+        × (now (memory .exit) ≡ settledBy (now (endpoint .entry)) arrival row (now (packet .entry)) (now (memory .entry)) .mem) ⌝ }
 {
     flat_settled(
         &endpoint.networks,
@@ -93,7 +89,7 @@ pub(crate) fn settled(
         &endpoint.owners,
         &endpoint.tenants,
         endpoint.binding_count,
-        seen,
+        arrival,
         row,
         packet,
         memory,
@@ -104,10 +100,10 @@ pub(crate) fn settled(
 pub(crate) fn received(endpoint: &Endpoint, packet: &[u8], memory: &mut [u8]) -> Outcome
     ensures { λ r. ⌜ (r ≡ outcomeOf (stepOf (now (endpoint .entry)) (now (memory .entry)) (now (packet .entry)))) × (now (memory .exit) ≡ stepOf (now (endpoint .entry)) (now (memory .entry)) (now (packet .entry)) .mem) ⌝ }
 {
-    let seen = looked(endpoint, packet, memory.len());
-    let p = seen.peer;
+    let arrival = opened(endpoint, packet, memory.len());
+    let p = arrival.peer;
     let row = endpoint.rows[p];
-    settled(endpoint, seen, row, packet, memory)
+    settled(endpoint, arrival, row, packet, memory)
 }
 
 // Receives a packet. The memory is lent to every receive of an endpoint; a delivered STT frame lies there until the next one.

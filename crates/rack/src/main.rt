@@ -4,15 +4,18 @@ mod say;
 
 use endpoint::config;
 use endpoint::config::Endpoint;
+use program::print;
+use program::print::decimal;
+use program::print::text;
 
 // Lists a peer.
 fn with_peer(e: Endpoint, address: u32) -> Endpoint {
     let made = config::add_peer(e, address);
     let answer = made.answer;
-    say::text(b"peer ");
+    text(b"peer ");
     say::added(answer);
-    say::address(address);
-    say::text(b"\n");
+    print::address(address);
+    text(b"\n");
     made.endpoint
 }
 
@@ -20,16 +23,16 @@ fn with_peer(e: Endpoint, address: u32) -> Endpoint {
 fn with_binding(e: Endpoint, peer: u16, kind: u8, network: u64, tenant: u16) -> Endpoint {
     let made = config::add_binding(e, peer, kind, network, tenant);
     let answer = made.answer;
-    say::text(b"binding ");
+    text(b"binding ");
     say::added(answer);
     say::kind(kind);
-    say::text(b" network ");
-    say::number(network);
-    say::text(b" of peer ");
-    say::number(peer as u64);
-    say::text(b" is tenant ");
-    say::number(tenant as u64);
-    say::text(b"\n");
+    text(b" network ");
+    decimal(network);
+    text(b" of peer ");
+    decimal(peer as u64);
+    text(b" is tenant ");
+    decimal(tenant as u64);
+    text(b"\n");
     made.endpoint
 }
 
@@ -48,8 +51,8 @@ fn set_up() -> Endpoint {
 fn show(e: Endpoint, name: &[u8], packet: &[u8], memory: &mut [u8]) -> Endpoint {
     let receipt = endpoint::receive::receive(e, packet, memory);
     let answer = receipt.answer;
-    say::text(name);
-    say::text(b": ");
+    text(name);
+    text(b": ");
     say::received(answer, packet, memory);
     receipt.endpoint
 }
@@ -110,7 +113,7 @@ fn dropped(e: Endpoint, memory: &mut [u8]) -> Endpoint {
 
 fn main() {
     let mut memory = [0u8; 55296];
-    say::text(b"endpoint 10.0.0.1, STT on port 7471\n");
+    text(b"endpoint 10.0.0.1, STT on port 7471\n");
     let ready = set_up();
     let first = whole_frames(ready, &mut memory);
     let second = in_segments(first, &mut memory);

@@ -2,24 +2,8 @@
 use endpoint::answer::Added;
 use endpoint::answer::Received;
 use endpoint::code;
-
-pub(crate) fn text(s: &[u8]) {
-    io::write_all(1, s);
-}
-
-pub(crate) fn number(n: u64) {
-    io::print_decimal(1, n);
-}
-
-pub(crate) fn address(a: u32) {
-    number((a / 16777216) as u64);
-    text(b".");
-    number((a / 65536 % 256) as u64);
-    text(b".");
-    number((a / 256 % 256) as u64);
-    text(b".");
-    number((a % 256) as u64);
-}
+use program::print::decimal;
+use program::print::text;
 
 pub(crate) fn kind(k: u8) {
     match k {
@@ -33,10 +17,10 @@ pub(crate) fn kind(k: u8) {
 // The number of what was added, or why it was not.
 pub(crate) fn added(answer: Added) {
     match answer {
-        Added::Number(n) => number(n as u64),
+        Added::Number(n) => decimal(n as u64),
         Added::Refused(r) => {
             text(b"refused with ");
-            number(code::config_code(r) as u64);
+            decimal(code::config_code(r) as u64);
         }
     }
     text(b": ");
@@ -57,9 +41,9 @@ fn bytes(s: &[u8]) {
 
 fn frame(tenant: u16, s: &[u8]) {
     text(b"tenant ");
-    number(tenant as u64);
+    decimal(tenant as u64);
     text(b", frame of ");
-    number(s.len() as u64);
+    decimal(s.len() as u64);
     text(b" bytes:");
     bytes(s);
     text(b"\n");
@@ -88,13 +72,13 @@ fn tunnel_reason(code: u8) {
         14 => text(b"its segment is empty or does not fit a frame"),
         15 => text(b"its frame has another length"),
         16 => text(b"some of its bytes are there already"),
-        _ => text(b"its peer has four frames under way"),
+        _ => text(b"its peer has four frames pending"),
     }
 }
 
 fn dropped(code: u8) {
     text(b"dropped with ");
-    number(code as u64);
+    decimal(code as u64);
     text(b", ");
     if code < 11 {
         outer_reason(code);
@@ -112,7 +96,7 @@ where
         Received::Delivered(target, place) => {
             frame(target.tenant, endpoint::view::view(packet, memory, place))
         }
-        Received::Pending => text(b"held, its frame is not yet complete\n"),
+        Received::Pending => text(b"pending, its frame is not yet complete\n"),
         Received::Dropped(d) => dropped(code::drop_code(d)),
     }
 }

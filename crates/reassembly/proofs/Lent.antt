@@ -9,7 +9,7 @@ use lib.ListN.{length, take, drop, getD, set, replicate, length-drop, length-rep
 use lib.Seq.{take-all, take-length, drop-length, drop-drop, sets, sets-eq, length-sets, length-take-le, getD-drop}
 use borrow.Rule.Slice.PartMut.{midOf, putMid, post-is}
 use Rattle.reassembly.specs.Base.{someBelow, allBelow, someBelow-ext, allBelow-ext}
-use Rattle.reassembly.specs.StoreLaws.{setBits-behind}
+use Rattle.reassembly.specs.Laws.Store.{setBits-behind}
 use Rattle.reassembly.specs.Store.{isOn, bitAt, setBits, slotStart, mapStart, clearAt, putAt, receivedAt}
 
 rest-mid : (a : ℕ) (m : List ℕ) → midOf a (length m - a) m ≡ drop a m

@@ -12,7 +12,7 @@ use lib.Seq.{ext-getD, getD-at}
 use lib.ListN.{List·getD-append}
 use lib.Dec.{ltb, leb, eqb}
 use borrow.Author.Tests.{ltb-true, ltb-false, eqb-true, eqb-false, lt-ltb, le-ltb, eq-eqb, ne-eqb}
-pub use Rattle.wire.specs.BytesLaws.{caseB}
+pub use Rattle.wire.specs.Laws.Bytes.{caseB}
 
 -- does the test pass at some number below n; at every number below n; the list of a function's values below n
 unfoldable pub someBelow : ℕ → (ℕ → Bool) → Bool

@@ -12,17 +12,17 @@ use borrow.Author.Tests.{eq-eqb, eqb-true}
 use Rattle.reassembly.specs.Base.{caseB, clash, table, length-table}
 use Rattle.reassembly.specs.Slots.{Slot, Row, Note, noRow, free}
 use Rattle.reassembly.specs.Take.{slotNo, Seg, Outcome, Rejected, Pending, Complete, NoMemory, Choice, reject, old, fresh, chosen, Effect, frameIn, takeSegment}
-use Rattle.reassembly.specs.TakeFacts.{length-frame}
+use Rattle.reassembly.specs.Laws.TakeFacts.{length-frame}
 use Rattle.reassembly.specs.Store.{bytesOf, takeIn, take-in}
-use Rattle.reassembly.specs.StoreLaws.{bytes-laws}
+use Rattle.reassembly.specs.Laws.Store.{bytes-laws}
 use Rattle.reassembly.specs.Receive.{Answers, Verdict, Seen, stranger, plain, segment, Event, receive, tick, State, react, after, run}
-use Rattle.reassembly.specs.Sim.{Alike, take-alike}
+use Rattle.reassembly.specs.Laws.Sim.{Alike, take-alike}
 use Rattle.reassembly.specs.Runs.{mine, own, keeps, Listed, Sim, event-sim, rows-older}
 use Rattle.reassembly.specs.NonInterference.{emptyRows, emptyRow, empty-at, empty-free, start, ghostStart}
-use Rattle.reassembly.specs.Ghost.{ghost, ghost-laws}
+use Rattle.reassembly.specs.Laws.Ghost.{ghost, ghost-laws}
 use Rattle.reassembly.specs.SetUp.{Layers, Kept, Promised, Endpoint, World, setUp, next, runs}
-use Rattle.reassembly.specs.ClaimProof.{kept-listed, set-up-rows, at, next-at, begins}
-use Rattle.reassembly.specs.Log.{Log, writes, enters, entered, logged, noSeg, carries, OneOf, OfFrame, AllOf, all-of-at, Logs, Pieced, Logged, take-logs, tick-logs, uncovered, apart-at, pieced-byte, Misses, Waiting}
+use Rattle.reassembly.specs.Laws.Claim.{kept-listed, set-up-rows, at, next-at, begins}
+use Rattle.reassembly.specs.Laws.Log.{Log, writes, enters, entered, logged, noSeg, carries, OneOf, OfFrame, AllOf, all-of-at, Logs, Pieced, Logged, take-logs, tick-logs, uncovered, apart-at, pieced-byte, Misses, Waiting}
 
 module _ (W : Answers) (Config : Type 0) (U : Layers W Config) (p : ℕ) where
   -- ---- the log of peer p's slots over a run
@@ -91,7 +91,7 @@ module _ (W : Answers) (Config : Type 0) (U : Layers W Config) (p : ℕ) where
 
   -- ---- the proof: the ghost's pieces are the log's
 
-  abbrev Came : Config → List Event → List Seg → Type 0
+  abbrev pub Came : Config → List Event → List Seg → Type 0
   Came c es [] = Unit {0}
   Came c es (g ∷ gs) = CameIn c es g × Came c es gs
 
@@ -114,23 +114,23 @@ module _ (W : Answers) (Config : Type 0) (U : Layers W Config) (p : ℕ) where
   )
 
   module _ (p< : p < 8) (c : Config) (promise : Promised W Config U c) where
-    abbrev header : List ℕ → Seen W
+    abbrev pub header : List ℕ → Seen W
     header k = U .header c k
 
-    abbrev judge : ℕ → Note → List ℕ → Verdict W
+    abbrev pub judge : ℕ → Note → List ℕ → Verdict W
     judge q t f = U .judge c q t f
 
-    listed : (k : List ℕ) → Listed W (header k)
+    pub listed : (k : List ℕ) → Listed W (header k)
     listed k = kept-listed W (header k) (promise .kept k)
 
-    abbrev world : State bytesOf → World Config
+    abbrev pub world : State bytesOf → World Config
     world s = record { ends = record { config = c; rows = s .rows }; mem = s .mem }
 
     -- what holds after the events so far
-    record Inv (past : List Event) (s : State bytesOf) (g : State ghost) (L : Log) : Type 0 where
-      sim : Sim bytesOf ghost p s g
-      logs : Logs p (getD (g .rows) p noRow .slots) (g .mem) L
-      came : (t : ℕ) → Came c past (L t)
+    pub record Inv (past : List Event) (s : State bytesOf) (g : State ghost) (L : Log) : Type 0 where
+      pub sim : Sim bytesOf ghost p s g
+      pub logs : Logs p (getD (g .rows) p noRow .slots) (g .mem) L
+      pub came : (t : ℕ) → Came c past (L t)
 
     -- what the log gains came in the run
     enters-came : (past : List Event) (L : Log) (g : Seg) (x : Choice) → CameIn c past g → ((t : ℕ) → Came c past (L t)) → (t : ℕ) → Came c past (enters L g x t)
@@ -177,7 +177,7 @@ module _ (W : Answers) (Config : Type 0) (U : Layers W Config) (p : ℕ) where
     other-log s L (segment q x) m = rw m
 
     -- one event
-    step : (past : List Event) (s : State bytesOf) (g : State ghost) (L : Log) (e : Event) → Inv past s g L
+    pub step : (past : List Event) (s : State bytesOf) (g : State ghost) (L : Log) (e : Event) → Inv past s g L
         → Inv (past ++ (e ∷ [])) (after W judge bytesOf header s e) (run W judge ghost header g (cond (keeps (own W header p) e) (e ∷ []) [])) (logNext (world s) L e)
     step past s g L tick h =
         record {
@@ -198,13 +198,13 @@ module _ (W : Answers) (Config : Type 0) (U : Layers W Config) (p : ℕ) where
         }
 
     -- a run comes to a state of which it still holds
-    record Reach (past es : List Event) (s : State bytesOf) (L : Log) : Type 0 where
-      state : State bytesOf
-      ghosts : State ghost
-      is : runs W Config U (world s) es ≡ world state
-      inv : Inv (past ++ es) state ghosts (logRun (world s) L es)
+    pub record Reach (past es : List Event) (s : State bytesOf) (L : Log) : Type 0 where
+      pub state : State bytesOf
+      pub ghosts : State ghost
+      pub is : runs W Config U (world s) es ≡ world state
+      pub inv : Inv (past ++ es) state ghosts (logRun (world s) L es)
 
-    reach : (es past : List Event) (s : State bytesOf) (g : State ghost) (L : Log) → Inv past s g L → Reach past es s L
+    pub reach : (es past : List Event) (s : State bytesOf) (g : State ghost) (L : Log) → Inv past s g L → Reach past es s L
     reach [] past s g L h = record { state = s; ghosts = g; is = refl; inv = subst (λ (x : List Event). Inv x s g L) (sym (append-nil past)) h }
     reach (v ∷ es) past s g L h =
         let q : next W Config U (world s) v ≡ world (after W judge bytesOf header s v) = next-at W Config U c promise p p< s g v (h .sim) in
@@ -218,28 +218,28 @@ module _ (W : Answers) (Config : Type 0) (U : Layers W Config) (p : ℕ) where
               (subst (λ (w : World Config). Inv ((past ++ (v ∷ [])) ++ es) (r .state) (r .ghosts) (logRun w (logNext (world s) L v) es)) (sym q) (r .inv));
         }
 
-    log-snoc : (es : List Event) (w : World Config) (L : Log) (e : Event) → logRun w L (es ++ (e ∷ [])) ≡ logNext (runs W Config U w es) (logRun w L es) e
+    pub log-snoc : (es : List Event) (w : World Config) (L : Log) (e : Event) → logRun w L (es ++ (e ∷ [])) ≡ logNext (runs W Config U w es) (logRun w L es) e
     log-snoc [] w L e = refl
     log-snoc (v ∷ es) w L e = log-snoc es (next W Config U w v) (logNext w L v) e
 
     -- one more packet, which carries segment x of peer p's
     module _ (past : List Event) (s : State bytesOf) (g : State ghost) (L : Log) (h : Inv past s g L) (k : List ℕ) (x : Seg) (e : header k ≡ segment p x) where
-      abbrev row : Row
+      abbrev pub row : Row
       row = getD (s .rows) p noRow
 
-      abbrev ghostly : Effect ghost
+      abbrev pub ghostly : Effect ghost
       ghostly = takeSegment ghost p row (g .mem) x
 
-      in-memory : takeIn p row (s .mem) x ≡ takeSegment bytesOf p row (s .mem) x
+      pub in-memory : takeIn p row (s .mem) x ≡ takeSegment bytesOf p row (s .mem) x
       in-memory = take-in p row (s .mem) x p< (h .sim .same .okA)
 
-      alike : Alike bytesOf ghost p (x .frame-length) (takeSegment bytesOf p row (s .mem) x) ghostly
+      pub alike : Alike bytesOf ghost p (x .frame-length) (takeSegment bytesOf p row (s .mem) x) ghostly
       alike = take-alike bytesOf ghost bytes-laws ghost-laws p p< row (s .mem) (g .mem) x (h .sim .same)
 
-      same-outcome : taking (world s) x .outcome ≡ ghostly .outcome
+      pub same-outcome : taking (world s) x .outcome ≡ ghostly .outcome
       same-outcome = ap (λ (o : Effect bytesOf). o .outcome) in-memory ∙ alike .outcome
 
-      log-now : logNext (world s) L (receive k) ≡ logged L (row .slots) x (ghostly .outcome)
+      pub log-now : logNext (world s) L (receive k) ≡ logged L (row .slots) x (ghostly .outcome)
       log-now = rw (e, eq-eqb p p refl, same-outcome)
 
       kept-log : Logged p x ghostly (logNext (world s) L (receive k))
@@ -281,7 +281,7 @@ module _ (W : Answers) (Config : Type 0) (U : Layers W Config) (p : ℕ) where
             uncovered = uncovered (logNext (world s) L (receive k) (w .slot)) (w .misses .byte) (w .misses .fails);
           }
 
-    begin : (m : List ℕ) → 55296 ≤ length m → Inv [] (start bytesOf m) ghostStart (λ t. [])
+    pub begin : (m : List ℕ) → 55296 ≤ length m → Inv [] (start bytesOf m) ghostStart (λ t. [])
     begin m o =
         let row : getD emptyRows p noRow .slots ≡ emptyRow = empty-at p p< in
         let no-slot : (s : ℕ) → s < 4 → getD (getD emptyRows p noRow .slots) s free ≡ free = λ s l. rw row (empty-free s l) in
@@ -291,10 +291,10 @@ module _ (W : Answers) (Config : Type 0) (U : Layers W Config) (p : ℕ) where
           came = λ t. tt;
         }
 
-    abbrev from : List ℕ → World Config
+    abbrev pub from : List ℕ → World Config
     from m = world (start bytesOf m)
 
-    reached : (m : List ℕ) → 55296 ≤ length m → (es : List Event) → Reach [] es (start bytesOf m) (λ t. [])
+    pub reached : (m : List ℕ) → 55296 ≤ length m → (es : List Event) → Reach [] es (start bytesOf m) (λ t. [])
     reached m o es = reach es [] (start bytesOf m) ghostStart (λ t. []) (begin m o)
 
     complete-from : (m : List ℕ) → 55296 ≤ length m → (es : List Event) (k : List ℕ) (g : Seg) (s : ℕ) → header k ≡ segment p g

@@ -10,10 +10,10 @@ use borrow.Author.Tests.{le-leb}
 use Rattle.reassembly.specs.Base.{caseB}
 use Rattle.reassembly.specs.Slots.{Row, Note}
 use Rattle.reassembly.specs.Take.{slotNo, Seg, Outcome, Rejected, Pending, Complete, NoMemory, Effect, frameIn, takeSegment}
-use Rattle.reassembly.specs.TakeFacts.{Fits, take-complete}
-use Rattle.reassembly.specs.Sim.{RowOk, take-apart}
+use Rattle.reassembly.specs.Laws.TakeFacts.{Fits, take-complete}
+use Rattle.reassembly.specs.Laws.Sim.{RowOk, take-apart}
 use Rattle.reassembly.specs.Store.{slotStart, bytesOf}
-use Rattle.reassembly.specs.StoreLaws.{bytes-laws, handed, slot-inside}
+use Rattle.reassembly.specs.Laws.Store.{bytes-laws, handed, slot-inside}
 use Rattle.reassembly.specs.Receive.{Place, nowhere, partOfSlice, viewOf, Answers, Answer, bare, fill, Verdict, bad, good, spoken, told}
 
 -- the empty place gives nothing

@@ -13,14 +13,14 @@ use Rattle.reassembly.specs.Base.{caseB, clash, and-r}
 use Rattle.reassembly.specs.Slots.{Slot, Row, Note, noRow, free, older, olderRow}
 use Rattle.reassembly.specs.Take.{slotNo, Seg, Ops, Outcome, Effect, frameIn, takeSegment}
 use Rattle.reassembly.specs.Store.{slotStart}
-use Rattle.reassembly.specs.Laws.{Laws}
+use Rattle.reassembly.specs.Laws.Memory.{Laws}
 use Rattle.reassembly.specs.Receive.{Answers, Answer, bare, Verdict, good, spoken, told, Seen, stranger, plain, segment, Event, receive, tick, State, Out, react, after, run}
 use Rattle.reassembly.specs.Runs.{mine, Listed, own, keeps, strike, Sim, run-sim, mine-sim, rows-older}
-use Rattle.reassembly.specs.Ghost.{Piece, ghost, ghost-laws}
+use Rattle.reassembly.specs.Laws.Ghost.{Piece, ghost, ghost-laws}
 use Rattle.reassembly.specs.NonInterference.{emptyRow, emptyRows, empty-at, empty-free, start, ghostStart, start-sim}
 use Rattle.reassembly.specs.Mix.{Part, Frame, partOf, states, Cut, Item, given, other, frameOf, event, segmentsOf, times, isSegment, notSegment, Free, AllFree, Mixing}
-use Rattle.reassembly.specs.MixFacts.{times-append}
-use Rattle.reassembly.specs.Deliver.{Seats, Owner, Seat, Step, take-step, lf, lj, tick-seats, other-seats}
+use Rattle.reassembly.specs.Laws.MixFacts.{times-append}
+use Rattle.reassembly.specs.Laws.Deliver.{Seats, Owner, Seat, Step, take-step, lf, lj, tick-seats, other-seats}
 
 -- what an answer to a segment of frame f must be, where `later` segments of it come after this one in the run
 pub record Right (W : Answers) (p : ℕ) (fr : Frame) (verdict : W .Good) (later : ℕ) (a : Answer W) : Type 0 where

@@ -8,11 +8,11 @@ use lib.ListN.{length, getD, replicate, getD-replicate}
 use Rattle.reassembly.specs.Base.{caseB, clash}
 use Rattle.reassembly.specs.Slots.{Slot, Row, Note, noRow, slotsOf, free}
 use Rattle.reassembly.specs.Take.{Ops}
-use Rattle.reassembly.specs.Laws.{Laws}
+use Rattle.reassembly.specs.Laws.Memory.{Laws}
 use Rattle.reassembly.specs.Receive.{Answers, Event, State, Answer, Verdict, Seen, run}
-use Rattle.reassembly.specs.Sim.{RowOk, Same}
+use Rattle.reassembly.specs.Laws.Sim.{RowOk, Same}
 use Rattle.reassembly.specs.Runs.{Listed, own, strike, answers, Sim, answers-sim}
-use Rattle.reassembly.specs.Ghost.{ghost, ghost-laws}
+use Rattle.reassembly.specs.Laws.Ghost.{ghost, ghost-laws}
 
 abbrev pub emptyRow : List Slot
 emptyRow = replicate 4 free

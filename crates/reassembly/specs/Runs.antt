@@ -12,9 +12,9 @@ use borrow.Author.Tests.{eqb-true, eqb-false}
 use Rattle.reassembly.specs.Base.{caseB, either, clash}
 use Rattle.reassembly.specs.Slots.{Slot, Row, Note, noRow, slotsOf, free, older, olderRow, older-pending}
 use Rattle.reassembly.specs.Take.{slotNo, Seg, Ops, Outcome, Rejected, Pending, Complete, NoMemory, Effect, frameIn, takeSegment}
-use Rattle.reassembly.specs.Laws.{Laws}
+use Rattle.reassembly.specs.Laws.Memory.{Laws}
 use Rattle.reassembly.specs.Receive.{rowOf, Answers, Event, receive, tick, State, Answer, bare, fill, Verdict, Seen, stranger, plain, segment, spoken, told, Out, react, after, run}
-use Rattle.reassembly.specs.Sim.{Agree, RowOk, Same, Alike, Apart, take-alike, take-apart, set-cases}
+use Rattle.reassembly.specs.Laws.Sim.{Agree, RowOk, Same, Alike, Apart, take-alike, take-apart, set-cases}
 
 -- other senders' packets struck out, where `own` says of a packet that it is the peer's
 abbrev pub keeps : (List ℕ → Bool) → Event → Bool

@@ -15,7 +15,7 @@ use Rattle.reassembly.specs.Runs.{strike}
 use Rattle.reassembly.specs.NonInterference.{emptyRows}
 use Rattle.reassembly.specs.Mix.{Frame, partOf, frameOf, Cut, Item, given, other, event, segmentsOf, Mixing}
 use Rattle.reassembly.specs.Mixed.{Right}
-use Rattle.reassembly.specs.InTurn.{InTurn}
+use Rattle.reassembly.specs.Laws.InTurn.{InTurn}
 
 -- what reads a configuration: what a packet is taken for; what checks 11 to 13 say of a complete frame from this peer, of whose segments this was noted;
 -- and the peer whose packet it is: it passes checks 3 to 6 and its source is that peer

@@ -5,6 +5,8 @@ use crate::record;
 use endpoint::answer::Place;
 use endpoint::config;
 use endpoint::config::Endpoint;
+use program::number::low8;
+use program::print::text;
 
 // The endpoint, how many bytes of the memory are lent, and the last packet's length. `done`: nothing more is to be read.
 pub(crate) struct State {
@@ -33,7 +35,7 @@ pub(crate) fn ended(state: State) -> State {
 
 // A record that breaks the form ends the run with a line that no answer has.
 pub(crate) fn broken(state: State) -> State {
-    line::text(b"broken record\n");
+    text(b"broken record\n");
     ended(state)
 }
 
@@ -65,7 +67,7 @@ fn peer(state: State, f: &[u8]) -> State {
 
 fn binding(state: State, f: &[u8]) -> State {
     let owner = number::low16(number::at(f, 0, 2));
-    let kind = number::low8(number::at(f, 2, 3));
+    let kind = low8(number::at(f, 2, 3));
     let network = number::at(f, 3, 11);
     let tenant = number::low16(number::at(f, 11, 13));
     let made = config::add_binding(state.endpoint, owner, kind, network, tenant);
@@ -94,7 +96,7 @@ fn lend(state: State, f: &[u8], memory: &mut [u8]) -> State {
 
 fn tick(state: State) -> State {
     let e = endpoint::tick::tick(state.endpoint);
-    line::text(b"tick 0\n");
+    text(b"tick 0\n");
     with(state, e)
 }
 

@@ -1,5 +1,4 @@
 // The lines of the answers.
-use crate::number;
 use endpoint::answer::Added;
 use endpoint::answer::Place;
 use endpoint::answer::Received;
@@ -7,14 +6,9 @@ use endpoint::answer::Start;
 use endpoint::answer::Target;
 use endpoint::answer::Wrapped;
 use endpoint::code;
-
-pub(crate) fn text(s: &[u8]) {
-    io::write_all(1, s);
-}
-
-fn decimal(n: u64) {
-    io::print_decimal(1, n);
-}
+use program::number::hash;
+use program::print::decimal;
+use program::print::text;
 
 pub(crate) fn started(answer: Start) {
     text(b"start ");
@@ -39,7 +33,7 @@ pub(crate) fn lent(memory: &[u8]) {
     text(b"memory ");
     decimal(memory.len() as u64);
     text(b" ");
-    decimal(number::hash(memory));
+    decimal(hash(0, memory));
     text(b"\n");
 }
 
@@ -66,7 +60,7 @@ where
     text(b" ");
     decimal(place.length as u64);
     text(b" ");
-    decimal(number::hash(frame));
+    decimal(hash(0, frame));
 }
 
 // Answer 1 and a refusal carry no tenant, no binding and the empty place.
@@ -82,7 +76,7 @@ where
         Received::Dropped(_) => text(b" - - packet 0 0 0"),
     }
     text(b" ");
-    decimal(number::hash(memory));
+    decimal(hash(0, memory));
     text(b"\n");
 }
 
@@ -113,7 +107,7 @@ where
     text(b" ");
     decimal(part.len() as u64);
     text(b" ");
-    decimal(number::hash(part));
+    decimal(hash(0, part));
     text(b"\n");
 }
 
@@ -133,6 +127,6 @@ pub(crate) fn wrapped(answer: Wrapped, output: &[u8]) {
         }
     }
     text(b" ");
-    decimal(number::hash(output));
+    decimal(hash(0, output));
     text(b"\n");
 }

@@ -1,4 +1,6 @@
-// Numbers of the record form: big-endian, the hash, and the first contents of a lent memory. A remainder before each step keeps it below 2^64.
+// Numbers of the record form: big-endian, and the first contents of a lent memory.
+use program::number::low8;
+use program::number::next;
 
 fn shifted(value: u64, byte: u8) -> u64 {
     value % 72057594037927936 * 256 + byte as u64
@@ -18,10 +20,6 @@ pub(crate) fn at(s: &[u8], from: usize, to: usize) -> u64 {
     value
 }
 
-pub(crate) fn low8(n: u64) -> u8 {
-    (n % 256) as u8
-}
-
 pub(crate) fn low16(n: u64) -> u16 {
     (n % 65536) as u16
 }
@@ -30,31 +28,12 @@ pub(crate) fn low32(n: u64) -> u32 {
     (n % 4294967296) as u32
 }
 
-fn mixed(h: u64, byte: u8) -> u64 {
-    (h % 4294967296 * 31 + byte as u64 + 1) % 4294967296
-}
-
-// h := 0, then for each byte h := 31 h + byte + 1 modulo 2^32.
-pub(crate) fn hash(s: &[u8]) -> u64 {
-    let mut h = 0;
-    let mut i = 0;
-    while i < s.len() {
-        h = mixed(h, s[i]);
-        i += 1;
-    }
-    h
-}
-
-fn drawn(x: u64) -> u64 {
-    (x % 4294967296 * 1103515245 + 12345) % 4294967296
-}
-
 // x := seed, then for each byte x := 1,103,515,245 x + 12,345 modulo 2^32; the byte is x div 65,536 modulo 256.
 pub(crate) fn fill(s: &mut [u8], seed: u64) {
     let mut x = seed;
     let mut i = 0;
     while i < s.len() {
-        x = drawn(x);
+        x = next(x);
         s[i] = low8(x / 65536);
         i += 1;
     }

@@ -1,5 +1,6 @@
 // The form of a record: op (1 byte), length (2 bytes), then that many bytes.
 use crate::number;
+use program::number::low8;
 
 pub(crate) enum Head {
     Record(u8, usize),
@@ -17,7 +18,7 @@ pub(crate) fn read_head(bytes: &mut [u8]) -> Head {
     }
     let op = number::at(bytes, 0, 1);
     let length = number::at(bytes, 1, 3);
-    Head::Record(number::low8(op), number::low16(length) as usize)
+    Head::Record(low8(op), number::low16(length) as usize)
 }
 
 // The length of a payload that is no packet.

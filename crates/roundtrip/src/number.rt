@@ -1,31 +1,10 @@
-// Numbers of the run: a remainder before each step keeps it below 2^64.
-
-pub(crate) fn low8(n: u64) -> u8 {
-    (n % 256) as u8
-}
-
-fn drawn(x: u64) -> u64 {
-    (x % 4294967296 * 1103515245 + 12345) % 4294967296
-}
+// Numbers of the run: counts, contents and the order of segments.
+use program::number::low8;
+use program::number::next;
 
 // One more, of a count that stays small.
 pub(crate) fn more(n: u64) -> u64 {
     n % 4294967296 + 1
-}
-
-fn mixed(h: u64, byte: u8) -> u64 {
-    (h % 4294967296 * 31 + byte as u64 + 1) % 4294967296
-}
-
-// h, then for each byte h := 31 h + byte + 1 modulo 2^32.
-pub(crate) fn hash(first: u64, s: &[u8]) -> u64 {
-    let mut h = first;
-    let mut i = 0;
-    while i < s.len() {
-        h = mixed(h, s[i]);
-        i += 1;
-    }
-    h
 }
 
 // Byte i of the frame, but for the type, which is 0x88B5.
@@ -44,7 +23,7 @@ pub(crate) fn fill(s: &mut [u8], size: usize, binding: u16) {
     let mut x = (size % 65536) as u64 * 16 + binding as u64;
     let mut i = 0;
     while i < s.len() {
-        x = drawn(x);
+        x = next(x);
         s[i] = content(i, x);
         i += 1;
     }

@@ -3,6 +3,9 @@ use crate::number;
 use endpoint::answer::Received;
 use endpoint::answer::Wrapped;
 use endpoint::config::Endpoint;
+use program::number::hash;
+use program::print::decimal;
+use program::print::text;
 
 pub(crate) struct Tally {
     pub receiver: Endpoint,
@@ -39,7 +42,7 @@ fn arrive(t: Tally, packet: &[u8], frame: &[u8], memory: &mut [u8]) -> Tally {
     let mut next = t;
     next.receiver = e;
     next.packets = number::more(t.packets);
-    next.sum = number::hash(t.sum, packet);
+    next.sum = hash(t.sum, packet);
     let Received::Delivered(_, place) = answer else {
         return next;
     };
@@ -79,8 +82,8 @@ pub(crate) fn step(
 }
 
 fn item(name: &[u8], n: u64) {
-    io::write_all(1, name);
-    io::print_decimal(1, n);
+    text(name);
+    decimal(n);
 }
 
 pub(crate) fn write(t: Tally, mtu: u16, binding: u16) {
@@ -90,5 +93,5 @@ pub(crate) fn write(t: Tally, mtu: u16, binding: u16) {
     item(b" sum ", t.sum);
     item(b" equal ", t.equal);
     item(b" refused ", t.refused);
-    io::write_all(1, b"\n");
+    text(b"\n");
 }

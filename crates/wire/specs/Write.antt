@@ -7,9 +7,9 @@ use mathlib.Core.List.{List, [], _∷_, _++_}
 use lib.ListN.{length, take}
 use lib.Dec.{ltb}
 use Rattle.wire.specs.Bytes.{be, part}
-use Rattle.wire.specs.BytesLaws.{wrote}
+use Rattle.wire.specs.Laws.Bytes.{wrote}
 use Rattle.wire.specs.Sum.{total, pseudo}
-use Rattle.wire.specs.SumLaws.{complement}
+use Rattle.wire.specs.Laws.Sum.{complement}
 use Rattle.wire.specs.Checks.{Check, _⇒_, first, pick}
 use Rattle.wire.specs.Ipv4 as I
 use Rattle.wire.specs.Udp.{udp}

@@ -4,7 +4,7 @@ use Prim.Native.Nat.{_≤_}
 use mathlib.Core.Path.{_∙_, sym}
 use native.Mathlib.Omega.{arith}
 use lib.ListN.{length}
-use Rattle.wire.specs.CarriageLaws.{tunnel-within}
+use Rattle.wire.specs.Laws.Carriage.{tunnel-within}
 use borrow.Author.Needs.{needs}
 use Rattle.dissect.proofs.payload.Statement.{statement}
 use Rattle.dissect.proofs.payload.Tie as tie
@@ -27,11 +27,11 @@ slice-aggregate-text c = search needs
 text-requires : tie.Need-text-requires
 text-requires c κs = search needs
 
-cast-number : tie.Need-cast-number
-cast-number c = search needs
+cast-decimal : tie.Need-cast-decimal
+cast-decimal c = search needs
 
-number-requires : tie.Need-number-requires
-number-requires c κs = search needs
+decimal-requires : tie.Need-decimal-requires
+decimal-requires c κs = search needs
 
 slice-aggregate-text-2 : tie.Need-slice-aggregate-text-2
 slice-aggregate-text-2 c = search needs
@@ -39,11 +39,11 @@ slice-aggregate-text-2 c = search needs
 text-requires-2 : tie.Need-text-requires-2
 text-requires-2 c κs = search needs
 
-cast-number-2 : tie.Need-cast-number-2
-cast-number-2 c = search needs
+cast-decimal-2 : tie.Need-cast-decimal-2
+cast-decimal-2 c = search needs
 
-number-requires-2 : tie.Need-number-requires-2
-number-requires-2 c κs = search needs
+decimal-requires-2 : tie.Need-decimal-requires-2
+decimal-requires-2 c κs = search needs
 
 slice-aggregate-text-3 : tie.Need-slice-aggregate-text-3
 slice-aggregate-text-3 c = search needs
@@ -51,11 +51,11 @@ slice-aggregate-text-3 c = search needs
 text-requires-3 : tie.Need-text-requires-3
 text-requires-3 c κs = search needs
 
-cast-number-3 : tie.Need-cast-number-3
-cast-number-3 c = search needs
+cast-decimal-3 : tie.Need-cast-decimal-3
+cast-decimal-3 c = search needs
 
-number-requires-3 : tie.Need-number-requires-3
-number-requires-3 c κs = search needs
+decimal-requires-3 : tie.Need-decimal-requires-3
+decimal-requires-3 c κs = search needs
 
 slice-aggregate-text-4 : tie.Need-slice-aggregate-text-4
 slice-aggregate-text-4 c = search needs
@@ -72,11 +72,11 @@ slice-aggregate-text-5 c = search needs
 text-requires-5 : tie.Need-text-requires-5
 text-requires-5 c κs = search needs
 
-cast-number-4 : tie.Need-cast-number-4
-cast-number-4 c = search needs
+cast-decimal-4 : tie.Need-cast-decimal-4
+cast-decimal-4 c = search needs
 
-number-requires-4 : tie.Need-number-requires-4
-number-requires-4 c κs = search needs
+decimal-requires-4 : tie.Need-decimal-requires-4
+decimal-requires-4 c κs = search needs
 
 slice-aggregate-text-6 : tie.Need-slice-aggregate-text-6
 slice-aggregate-text-6 c = search needs
@@ -84,11 +84,11 @@ slice-aggregate-text-6 c = search needs
 text-requires-6 : tie.Need-text-requires-6
 text-requires-6 c κs = search needs
 
-cast-number-5 : tie.Need-cast-number-5
-cast-number-5 c = search needs
+cast-decimal-5 : tie.Need-cast-decimal-5
+cast-decimal-5 c = search needs
 
-number-requires-5 : tie.Need-number-requires-5
-number-requires-5 c κs = search needs
+decimal-requires-5 : tie.Need-decimal-requires-5
+decimal-requires-5 c κs = search needs
 
 add-inner : tie.Need-add-inner
 add-inner c =
@@ -130,27 +130,27 @@ payload-spec =
     enum-known-carried-2
     slice-aggregate-text
     text-requires
-    cast-number
-    number-requires
+    cast-decimal
+    decimal-requires
     slice-aggregate-text-2
     text-requires-2
-    cast-number-2
-    number-requires-2
+    cast-decimal-2
+    decimal-requires-2
     slice-aggregate-text-3
     text-requires-3
-    cast-number-3
-    number-requires-3
+    cast-decimal-3
+    decimal-requires-3
     slice-aggregate-text-4
     text-requires-4
     enum-known-carried-3
     slice-aggregate-text-5
     text-requires-5
-    cast-number-4
-    number-requires-4
+    cast-decimal-4
+    decimal-requires-4
     slice-aggregate-text-6
     text-requires-6
-    cast-number-5
-    number-requires-5
+    cast-decimal-5
+    decimal-requires-5
     add-inner
     sub-inner
     part-inner-start

@@ -4,7 +4,7 @@ use Prim.Native.Nat.{_≤_}
 use mathlib.Core.Path.{_∙_, sym}
 use native.Mathlib.Omega.{arith}
 use lib.ListN.{length, length-take, length-drop}
-use Rattle.wire.specs.Ipv4Laws.{ipv4-bounds}
+use Rattle.wire.specs.Laws.Ipv4.{ipv4-bounds}
 use borrow.Author.Needs.{needs}
 use Rattle.dissect.proofs.show.Statement.{statement}
 use Rattle.dissect.proofs.show.Tie as tie

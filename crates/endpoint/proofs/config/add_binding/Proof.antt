@@ -7,7 +7,7 @@ use borrow.Author.Needs.{needs}
 use lib.ListN.{take}
 use Rattle.wire.specs.Checks.{Passed, deciding}
 use Rattle.endpoint.specs.Config.{configOf, findBinding, isSome, addBindingChecks, withBinding}
-use Rattle.endpoint.specs.ConfigExits.{behind, add-binding-exit, isFound, binding-found}
+use Rattle.endpoint.specs.Laws.ConfigExits.{behind, add-binding-exit, isFound, binding-found}
 use Rattle.endpoint.proofs.config.add_binding.Statement.{statement}
 use Rattle.endpoint.proofs.config.add_binding.Tie as tie
 

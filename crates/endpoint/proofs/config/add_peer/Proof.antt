@@ -7,7 +7,7 @@ use borrow.Author.Needs.{needs}
 use lib.ListN.{take}
 use Rattle.wire.specs.Checks.{Passed, deciding}
 use Rattle.endpoint.specs.Config.{configOf, findPeer, isSome, addPeerChecks, withAddress}
-use Rattle.endpoint.specs.ConfigExits.{behind, add-peer-exit, isFound, peer-found}
+use Rattle.endpoint.specs.Laws.ConfigExits.{behind, add-peer-exit, isFound, peer-found}
 use Rattle.endpoint.proofs.config.add_peer.Statement.{statement}
 use Rattle.endpoint.proofs.config.add_peer.Tie as tie
 

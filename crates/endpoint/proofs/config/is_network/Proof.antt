@@ -1,7 +1,7 @@
 -- `endpoint::config::is_network` meets its contract.
 -- Assumes nothing.
 use native.Mathlib.Omega.{arith}
-use Rattle.endpoint.specs.ConfigExits.{vxlan-ids, nvgre-low, nvgre-ids, stt-ids}
+use Rattle.endpoint.specs.Laws.ConfigExits.{vxlan-ids, nvgre-low, nvgre-ids, stt-ids}
 use Rattle.endpoint.proofs.config.is_network.Statement.{statement}
 use Rattle.endpoint.proofs.config.is_network.Tie as tie
 

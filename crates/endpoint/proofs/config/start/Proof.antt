@@ -8,7 +8,7 @@ use Rattle.endpoint.specs.declared.answer.Start.the-variants as S
 use Rattle.endpoint.specs.declared.config.Endpoint.{Endpoint}
 use Rattle.endpoint.specs.declared.config.Started.{Started}
 use Rattle.endpoint.specs.Config.{startChecks}
-use Rattle.endpoint.specs.ConfigExits.{start-exit}
+use Rattle.endpoint.specs.Laws.ConfigExits.{start-exit}
 use Rattle.endpoint.proofs.config.start.Statement.{statement}
 use Rattle.endpoint.proofs.config.start.Tie as tie
 

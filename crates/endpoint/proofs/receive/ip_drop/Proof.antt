@@ -1,7 +1,7 @@
 -- `endpoint::receive::ip_drop` meets its contract.
 -- Assumes nothing.
 use mathlib.Core.Path.{sym, ap}
-use Rattle.endpoint.specs.Look.{ipDrop}
+use Rattle.endpoint.specs.Stages.{ipDrop}
 use borrow.Author.Needs.{needs}
 use Rattle.endpoint.proofs.receive.ip_drop.Statement.{statement}
 use Rattle.endpoint.proofs.receive.ip_drop.Tie as tie

@@ -1,31 +1,22 @@
 -- `endpoint::receive::receive` meets its contract.
 -- Assumes nothing.
 use Prim.Native.Nat.{_<_}
-use mathlib.Core.Path.{_≡_, _∙_, ap}
+use mathlib.Core.Path.{_∙_, ap}
 use lib.ListN.{length}
 use native.Mathlib.Omega.{arith}
-use Rattle.endpoint.specs.declared.receive.Seen.{Seen}
-use Rattle.endpoint.specs.Receive.{Step, stepOf, changedOf}
-use Rattle.endpoint.specs.Look.{seenOf}
-use Rattle.endpoint.specs.ReceiveLaws.{seen-lent, settle-lent, seen-below, seen-step, settled-is, receipt-out}
+use Rattle.endpoint.specs.Receive.{Step, receiptOf}
+use Rattle.endpoint.specs.Laws.Receive.{open-below, settled-is, settled-out}
 use borrow.Author.Needs.{needs}
 use Rattle.endpoint.proofs.receive.receive.Statement.{statement}
 use Rattle.endpoint.proofs.receive.receive.Tie as tie
 
-look-requires : tie.Need-look-requires
-look-requires c κs = search needs
+open-requires : tie.Need-open-requires
+open-requires c κs = search needs
 
-seen : (c : tie.After-look) →
-    let a = c .before .before .before .before .before .before .before .before .before .args in
-    c .look .result ≡ seenOf (a .t1) (a .packet .now) (length (a .memory .now))
-seen c =
-    let a = c .before .before .before .before .before .before .before .before .before .args in
-    c .look .ensures ∙ seen-lent (a .t1) (a .packet .now) (length (a .memory .now))
-
-below : (c : tie.After-look) → c .look .result .peer < 8
+below : (c : tie.After-open) → c .«open» .result .peer < 8
 below c =
-    let a = c .before .before .before .before .before .before .before .before .before .args in
-    rw (seen c) (seen-below (a .t1) (a .packet .now) (length (a .memory .now)))
+    let a = c .before .before .before .before .before .args in
+    rw (c .«open» .ensures) (open-below (a .t1) (a .packet .now) (length (a .memory .now)))
 
 mul-old : tie.Need-mul-old
 mul-old c = omega (arith, below c)
@@ -33,36 +24,37 @@ mul-old c = omega (arith, below c)
 element-copy-out-old : tie.Need-element-copy-out-old
 element-copy-out-old c = omega (arith, below c)
 
-settle-requires : tie.Need-settle-requires
-settle-requires c κs = search needs
+take-requires : tie.Need-take-requires
+take-requires c κs = search needs
+
+deliver-requires : tie.Need-deliver-requires
+deliver-requires c κs = search needs
 
 mul-row : tie.Need-mul-row
-mul-row c = omega (arith, below (c .before .before .before .before .before .before .before .before .before .before .before))
+mul-row c = omega (arith, below (c .before .before .before .before .before .before .before .before .before .before .before .before .before))
 
 element-set-from-row : tie.Need-element-set-from-row
-element-set-from-row c = omega (arith, below (c .before .before .before .before .before .before .before .before .before .before .before))
+element-set-from-row c = omega (arith, below (c .before .before .before .before .before .before .before .before .before .before .before .before .before))
 
 same-length : tie.Need-same-length
 same-length c = search needs
 
 returns : tie.Need-returns
 returns c =
-    let a = c .before .before .before .before .before .before .before .before .before .before .before .before .before .before .before .before .before .before .before .before .args in
-    let x = seen (c .before .before .before .before .before .before .before .before .before .before .before) in
-    let same = settle-lent (a .t1) (c .before .before .before .before .before .before .before .before .before .before .before .look .result) _ (a .packet .now) (a .memory .now) ∙ settled-is (a .t1) (a .packet .now) (a .memory .now) _ x in
-    let p = ap (λ (y : Seen). y .peer) x ∙ seen-step (a .t1) (a .packet .now) (a .memory .now) in (
-      receipt-out (a .t1) (stepOf (a .t1) (a .memory .now) (a .packet .now)) _ _ p (c .before .before .before .settle .ensures .0 ∙ ap changedOf same),
-      c .before .before .before .settle .ensures .1 ∙ ap (λ (s : Step). s .mem) same,
-    )
+    let a = c .before .before .before .before .before .before .before .before .before .before .before .before .before .before .before .before .before .before .args in
+    let x = c .before .before .before .before .before .before .before .before .before .before .before .before .before .«open» in
+    let same = settled-out _ _ _ _ _ (x .result) _ _ _ _ _ _ (c .before .before .before .before .before .before .before .before .before .before .take .ensures .0) (c .before .before .before .before .before .before .before .before .before .before .take .ensures .1) (c .deliver .ensures) ∙ settled-is (a .t1) (a .packet .now) (a .memory .now) (x .result) (x .ensures) in
+    (ap (receiptOf (a .t1)) same, ap (λ (s : Step). s .mem) same)
 
 pub receive-spec : {M : Type 1} → statement M
 receive-spec =
     tie.close
     (tie.spec
-    look-requires
+    open-requires
     mul-old
     element-copy-out-old
-    settle-requires
+    take-requires
+    deliver-requires
     mul-row
     element-set-from-row
     same-length

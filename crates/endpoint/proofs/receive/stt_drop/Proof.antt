@@ -1,7 +1,7 @@
 -- `endpoint::receive::stt_drop` meets its contract.
 -- Assumes nothing.
 use mathlib.Core.Path.{sym, ap}
-use Rattle.endpoint.specs.Look.{sttDrop}
+use Rattle.endpoint.specs.Stages.{sttDrop}
 use borrow.Author.Needs.{needs}
 use Rattle.endpoint.proofs.receive.stt_drop.Statement.{statement}
 use Rattle.endpoint.proofs.receive.stt_drop.Tie as tie

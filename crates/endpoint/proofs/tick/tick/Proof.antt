@@ -5,7 +5,7 @@ use Prim.Native.Nat.{_≤_, _<_, _-_}
 use native.Mathlib.Omega.{arith}
 use lib.ListN.{length}
 use Rattle.endpoint.specs.Config.{withRows}
-use Rattle.endpoint.specs.TickLaws.{olderBefore, none-older, one-older, all-older}
+use Rattle.endpoint.specs.Laws.Tick.{olderBefore, none-older, one-older, all-older}
 use Rattle.endpoint.proofs.Sizes.{eight-rows}
 use Rattle.endpoint.proofs.tick.tick.Statement.{statement}
 use Rattle.endpoint.proofs.tick.tick.Tie as tie

@@ -4,7 +4,7 @@ use Prim.Native.Nat.{_+_, _*_, _-_, _<_}
 use lib.ListN.{length}
 use native.Mathlib.Omega.{arith}
 use Rattle.endpoint.specs.Wrap.{segmentsOf}
-use Rattle.endpoint.specs.WrapExits.{stt-room, stt-begins, put-vxlan, put-nvgre, put-stt}
+use Rattle.endpoint.specs.Laws.WrapExits.{stt-room, stt-begins, put-vxlan, put-nvgre, put-stt}
 use borrow.Author.Needs.{needs}
 use Rattle.endpoint.proofs.wrap.put_packet.Statement.{statement}
 use Rattle.endpoint.proofs.wrap.put_packet.Tie as tie

@@ -2,7 +2,7 @@
 -- Assumes nothing.
 use mathlib.Core.Path.{ap}
 use Prim.Native.Nat.{ℕ, _*_, _-_}
-use Rattle.endpoint.specs.WrapExits.{put-piece}
+use Rattle.endpoint.specs.Laws.WrapExits.{put-piece}
 use borrow.Author.Needs.{needs}
 use Rattle.endpoint.proofs.wrap.put_segment.Statement.{statement}
 use Rattle.endpoint.proofs.wrap.put_segment.Tie as tie

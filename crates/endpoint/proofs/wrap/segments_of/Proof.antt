@@ -1,7 +1,7 @@
 -- `endpoint::wrap::segments_of` meets its contract.
 -- Assumes nothing.
 use native.Mathlib.Omega.{arith}
-use Rattle.endpoint.specs.WrapExits.{segments-vxlan, segments-nvgre, segments-none, segments-stt}
+use Rattle.endpoint.specs.Laws.WrapExits.{segments-vxlan, segments-nvgre, segments-none, segments-stt}
 use borrow.Author.Needs.{needs}
 use Rattle.endpoint.proofs.wrap.segments_of.Statement.{statement}
 use Rattle.endpoint.proofs.wrap.segments_of.Tie as tie

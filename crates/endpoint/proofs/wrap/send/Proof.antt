@@ -6,7 +6,7 @@ use lib.ListN.{length}
 use native.Mathlib.Omega.{arith}
 use Rattle.wire.specs.Frame.{IsFrame, sound}
 use Rattle.endpoint.specs.Wrap.{segmentsOf}
-use Rattle.endpoint.specs.WrapExits.{send-frame, send-mtu, send-segment, send-output, send-written}
+use Rattle.endpoint.specs.Laws.WrapExits.{send-frame, send-mtu, send-segment, send-output, send-written}
 use borrow.Author.Needs.{needs}
 use Rattle.endpoint.proofs.wrap.send.Statement.{statement}
 use Rattle.endpoint.proofs.wrap.send.Tie as tie

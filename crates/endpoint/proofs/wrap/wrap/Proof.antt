@@ -2,7 +2,7 @@
 -- Assumes nothing.
 use mathlib.Core.Path.{_∙_, ap}
 use Rattle.endpoint.specs.Wrap.{Wrote}
-use Rattle.endpoint.specs.WrapExits.{wrap-lent}
+use Rattle.endpoint.specs.Laws.WrapExits.{wrap-lent}
 use borrow.Author.Needs.{needs}
 use Rattle.endpoint.proofs.wrap.wrap.Statement.{statement}
 use Rattle.endpoint.proofs.wrap.wrap.Tie as tie

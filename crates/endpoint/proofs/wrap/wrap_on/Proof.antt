@@ -8,7 +8,7 @@ use lib.ListN.{getD}
 use Rattle.endpoint.specs.declared.config.Endpoint.{Endpoint}
 use Rattle.endpoint.specs.Config.{lent}
 use Rattle.endpoint.specs.Wrap.{Wrote}
-use Rattle.endpoint.specs.WrapExits.{wrap-unlisted, wrap-ownerless, wrap-sends}
+use Rattle.endpoint.specs.Laws.WrapExits.{wrap-unlisted, wrap-ownerless, wrap-sends}
 use borrow.Author.Needs.{needs}
 use Rattle.endpoint.proofs.wrap.wrap_on.Statement.{statement}
 use Rattle.endpoint.proofs.wrap.wrap_on.Tie as tie

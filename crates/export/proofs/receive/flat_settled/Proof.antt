@@ -1,14 +1,18 @@
 -- `export::receive::flat_settled` meets its contract.
 -- Assumes nothing.
-use mathlib.Core.List.{[]}
-use Rattle.endpoint.specs.Config.{lent}
+use mathlib.Core.Path.{ap}
+use Rattle.endpoint.specs.Receive.{Step}
+use Rattle.endpoint.specs.Laws.Receive.{settled-out}
 use Rattle.export.specs.Receive.{outcome-out}
 use borrow.Author.Needs.{needs}
 use Rattle.export.proofs.receive.flat_settled.Statement.{statement}
 use Rattle.export.proofs.receive.flat_settled.Tie as tie
 
-settle-requires : tie.Need-settle-requires
-settle-requires c κs = search needs
+take-requires : tie.Need-take-requires
+take-requires c κs = search needs
+
+deliver-requires : tie.Need-deliver-requires
+deliver-requires c κs = search needs
 
 flat-received-requires : tie.Need-flat-received-requires
 flat-received-requires c κs = search needs
@@ -18,10 +22,9 @@ same-length c = search needs
 
 returns : tie.Need-returns
 returns c =
-    let d = c .before .before .before .before in
-    let a = d .before .before .before .before .args in
-    let e = lent (a .networks .now) (a .kinds .now) (a .owners .now) (a .tenants .now) [] 0 0 0 0 (a .binding-count) in
-    (outcome-out e (a .seen) (a .row) (a .packet .now) (a .memory .now) (d .settle .result) (c .flat-received .result) (d .settle .ensures .0) (c .flat-received .ensures), d .settle .ensures .1)
+    let took = c .before .before .before .before .before .before .take .ensures in
+    let same = settled-out _ _ _ _ _ _ _ _ _ _ _ _ (took .0) (took .1) (c .before .deliver .ensures) in
+    (outcome-out _ _ _ _ _ _ same (c .flat-received .ensures), ap (λ (s : Step). s .mem) same)
 
 pub flat-settled-spec : {M : Type 1} → statement M
-flat-settled-spec = tie.close (tie.spec settle-requires flat-received-requires same-length returns)
+flat-settled-spec = tie.close (tie.spec take-requires deliver-requires flat-received-requires same-length returns)

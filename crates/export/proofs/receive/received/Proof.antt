@@ -1,6 +1,6 @@
--- `export::receive::received` meets its contract: a walk of its MIR, by hand. The borrow of the endpoint is Copy: it goes to `looked` and to `settled`, and between the two it is looked into and the
+-- `export::receive::received` meets its contract: a walk of its MIR, by hand. The borrow of the endpoint is Copy: it goes to `opened` and to `settled`, and between the two it is looked into and the
 -- sender's row is read (`RowAt.antt`). With it go the packet, which is Copy too, and the memory, which is given up: `settled` says its last bytes. Its result is the call's own. All
--- that the proof knows of `looked` and `settled` is that they meet their contracts.
+-- that the proof knows of `opened` and `settled` is that they meet their contracts.
 -- Assumes nothing.
 use mathlib.Core.Path.{_≡_, refl, ap, subst, _∙_}
 use mathlib.Core.List.{List, [], _∷_}
@@ -44,26 +44,25 @@ use denote.Triple.Walked.{says, Stays, stay-none-ref, stay-none-slice, gave-slic
 use denote.Triple.Clauses.{ensured, lasts}
 use denote.Exit.{yes}
 use Rattle.endpoint.specs.declared.config.Endpoint.{Endpoint}
-use Rattle.reassembly.specs.declared.slot.Row.{Row}
-use Rattle.endpoint.specs.declared.receive.Seen.{Seen}
+use Rattle.endpoint.specs.declared.receive.Arrival.{Arrival}
 use Rattle.export.specs.declared.receive.Outcome.{Outcome}
 use Rattle.endpoint.specs.Receive.{Step, rowAt}
-use Rattle.endpoint.specs.Look.{seenOf, settleOf}
+use Rattle.endpoint.specs.Stages.{openedBy, settledBy}
 use Rattle.endpoint.specs.Demand1.{same-row}
-use Rattle.export.specs.Receive.{outcomeOf, seen-listed, settled-step}
+use Rattle.export.specs.Receive.{outcomeOf, arrival-listed, settled-step}
 use Rattle.endpoint.proofs.config.Endpoint as T
 use Rattle.endpoint.proofs.config.Endpoint.Laws as T′
 use Rattle.reassembly.proofs.slot.Row as R
 use Rattle.reassembly.proofs.slot.Row.Laws as R′
-use Rattle.endpoint.proofs.receive.Seen as S
-use Rattle.endpoint.proofs.receive.Seen.Laws as S′
+use Rattle.endpoint.proofs.receive.Arrival as S
+use Rattle.endpoint.proofs.receive.Arrival.Laws as S′
 use Rattle.export.proofs.receive.Outcome as O
 use Rattle.export.proofs.receive.Outcome.Laws as O′
 use Rattle.export.proofs.RowAt.{rowPlace, offset-fits, RowS, into-row, TheRow, Reached, reaches, comes-back, lies-in, lies-out, AtRow}
-use Rattle.export.proofs.receive.looked as looking
-use Rattle.export.proofs.receive.looked.Symbol as looking-def
-use Rattle.export.proofs.receive.looked.Symbol.{name as #looking}
-use Rattle.export.proofs.receive.looked.Met as looking-thm
+use Rattle.export.proofs.receive.opened as opening
+use Rattle.export.proofs.receive.opened.Symbol as opening-def
+use Rattle.export.proofs.receive.opened.Symbol.{name as #opening}
+use Rattle.export.proofs.receive.opened.Met as opening-thm
 use Rattle.export.proofs.receive.settled as settling
 use Rattle.export.proofs.receive.settled.Symbol as settling-def
 use Rattle.export.proofs.receive.settled.Symbol.{name as #settling}
@@ -78,8 +77,8 @@ stayed = (stay-none-ref (0 ∷ []) tt (plain (λ _. T.the-row)) yes, (stay-none-
 
 module _ {M : Type 1} (𝓤 : URA M) (H : Heap 𝓤) (A : Atoms 𝓤) (at-mem : Memory → SProp 𝓤) (run : Routine → Fun 𝓤) where
   -- the contracts that the proof cites
-  abbrev Looks : Contract 𝓤
-  Looks = tripleOf 𝓤 H A looking.signature (looking.spec 𝓤 H A at-mem run)
+  abbrev Opens : Contract 𝓤
+  Opens = tripleOf 𝓤 H A opening.signature (opening.spec 𝓤 H A at-mem run)
 
   abbrev Settles : Contract 𝓤
   Settles = tripleOf 𝓤 H A settling.signature (settling.spec 𝓤 H A at-mem run)
@@ -122,31 +121,31 @@ module _ {M : Type 1} (𝓤 : URA M) (H : Heap 𝓤) (A : Atoms 𝓤) (W : Given
   abbrev OwnE : Fml
   OwnE = ShrRef (named 0) κe T.the-row .own (a .0) (vptr b o ∷ [])
 
-  -- what `looked` says of its result, and `settled` of its own and of the memory's last bytes
-  abbrev Saw : Seen → Type 0
-  Saw x = x ≡ seenOf h (p .now) (length (m .now))
+  -- what `opened` says of its result, and `settled` of its own and of the memory's last bytes
+  abbrev Saw : Arrival → Type 0
+  Saw x = x ≡ openedBy h (p .now) (length (m .now))
 
-  abbrev Settled : Seen → Outcome → List ℕ → Type 0
-  Settled x r zs = (r ≡ outcomeOf (settleOf h x (rowAt h (x .peer)) (p .now) (m .now))) × (zs ≡ settleOf h x (rowAt h (x .peer)) (p .now) (m .now) .mem)
+  abbrev Settled : Arrival → Outcome → List ℕ → Type 0
+  Settled x r zs = (r ≡ outcomeOf (settledBy h x (rowAt h (x .peer)) (p .now) (m .now))) × (zs ≡ settledBy h x (rowAt h (x .peer)) (p .now) (m .now) .mem)
 
-  abbrev vrow : Seen → Val
+  abbrev vrow : Arrival → Val
   vrow x = LL.val R.the-type R′.the-laws (rowAt h (x .peer))
 
-  -- the call of `looked`
+  -- the call of `opened`
   module _ (im : Is (MutSlice (named 2) κm u8) m (vm ∷ [])) where
-    abbrev look-args : Args looking.signature (κe, (κp, tt))
-    look-args = (a .0, (p, (length (m .now), tt)))
+    abbrev open-args : Args opening.signature (κe, (κp, tt))
+    open-args = (a .0, (p, (length (m .now), tt)))
 
-    abbrev look-to : Looks 𝓤 H A at-mem run .Ghost
-    look-to = (((κe, (κp, tt)), (qe, (qp, tt)), tt, look-args, (vptr b o ∷ [], (vp ∷ [], (vint w64 (length (m .now)) ∷ [], tt)))), tt)
+    abbrev open-to : Opens 𝓤 H A at-mem run .Ghost
+    open-to = (((κe, (κp, tt)), (qe, (qp, tt)), tt, open-args, (vptr b o ∷ [], (vp ∷ [], (vint w64 (length (m .now)) ∷ [], tt)))), tt)
 
-    goes-look : ent 𝓤 (⋆ 𝓤 H A ((‵ OwnE ⊛ ‵ OwnP) ∷ ‵ (flft κe qe) ∷ ‵ (flft κp qp) ∷ [])) (Looks 𝓤 H A at-mem run .pre look-to)
-    goes-look =
+    goes-open : ent 𝓤 (⋆ 𝓤 H A ((‵ OwnE ⊛ ‵ OwnP) ∷ ‵ (flft κe qe) ∷ ‵ (flft κp qp) ∷ [])) (Opens 𝓤 H A at-mem run .pre open-to)
+    goes-open =
         qed W ((‵ OwnE ⊛ ‵ OwnP) ∷ ‵ (flft κe qe) ∷ ‵ (flft κp qp) ∷ []) ∵ split ! $ nothing ! $ owned ! u64 (Is u64) (uint-makes 𝓤 H A W w64) (length (m .now)) _ (refl, im .0 .1 .0) $ join ! $
         move ! (2 ∷ 0 ∷ []) $ join ! $ move ! (1 ∷ 0 ∷ []) $ join ! $ nothing ! $ move ! (3 ∷ 0 ∷ []) $ join ! $ move ! (2 ∷ 0 ∷ []) $ join ! $ join ! $ frame ! $ done !
 
   -- the call of `settled`
-  module _ (x : Seen) (isr : Is R.the-row (rowAt h (x .peer)) (vrow x ∷ [])) where
+  module _ (x : Arrival) (isr : Is R.the-row (rowAt h (x .peer)) (vrow x ∷ [])) where
     abbrev vx : Val
     vx = LL.val S.the-type S′.the-laws x
 
@@ -160,7 +159,7 @@ module _ {M : Type 1} (𝓤 : URA M) (H : Heap 𝓤) (A : Atoms 𝓤) (W : Given
     goes-settled =
         qed W (((‵ (flft κp qp) ⊛ ‵ ftrue) ⊛ (‵ (flft κm qm) ⊛ ‵ ftrue)) ∷ (((‵ OwnE ⊛ ‵ (S.the-row .own x (vx ∷ []))) ⊛ ‵ OwnP) ⊛ ‵ OwnM) ∷ ‵ (flft κe qe) ∷ []) ∵
         split ! $ split ! $ move ! (1 ∷ []) $ drop ! $ move ! (2 ∷ []) $ split ! $ split ! $ split ! $
-        -- [the endpoint; seen; packet; memory; the tokens]
+        -- [the endpoint; arrival; packet; memory; the tokens]
         nothing ! $ move ! (4 ∷ 0 ∷ []) $ join ! $ move ! (3 ∷ 0 ∷ []) $ join ! $ owned ! R.the-row (Is R.the-row) (LL.makes R.the-type R′.the-plain 𝓤 H A) (rowAt h (x .peer)) _ isr $ join ! $
         move ! (2 ∷ 0 ∷ []) $ join ! $ move ! (1 ∷ 0 ∷ []) $ join ! $ move ! (1 ∷ 2 ∷ []) $ join ! $ move ! (2 ∷ 0 ∷ []) $ join ! $ join ! $ frame ! $ done !
 
@@ -168,13 +167,13 @@ module _ {M : Type 1} (𝓤 : URA M) (H : Heap 𝓤) (A : Atoms 𝓤) (W : Given
   stays : (q : Share) (n : ℕ) → n < 8 → ent 𝓤 (Reached 𝓤 H A W q h n b o (rowPlace o n) (rowAt h n)) (sem 𝓤 H A (partAt T.the-row q h b o))
   stays q n l = subst (λ (e : Endpoint). ent 𝓤 (Reached 𝓤 H A W q h n b o (rowPlace o n) (rowAt h n)) (sem 𝓤 H A (partAt T.the-row q e b o))) (same-row h n) (comes-back 𝓤 H A W q h n b o l (rowAt h n))
 
-  below : (x : Seen) → Saw x → x .peer < 8
-  below x saw = seen-listed h (m .now) (p .now) x saw
+  below : (x : Arrival) → Saw x → x .peer < 8
+  below x saw = arrival-listed h (m .now) (p .now) x saw
 
-  peer-fits : (x : Seen) (v : Val) → Is S.the-row x (v ∷ []) → x .peer < 2 ^ 64
+  peer-fits : (x : Arrival) (v : Val) → Is S.the-row x (v ∷ []) → x .peer < 2 ^ 64
   peer-fits x v is = LL.owed S.the-type S′.the-laws x (v ∷ []) is .0 .1
 
-  exits : (x : Seen) → Saw x → (r : Outcome) (v : Val) (zs : List ℕ) → length zs ≡ length (m .now) → Settled x r zs
+  exits : (x : Arrival) → Saw x → (r : Outcome) (v : Val) (zs : List ℕ) → length zs ≡ length (m .now) → Settled x r zs
       → ent 𝓤 (⋆ 𝓤 H A (‵ (flft κe qe) ∷ ‵ (fres γ (T.the-row .coded .code h)) ∷ ‵ Shared ∷ Tokens ∷ ‵ (finally u8 (m .name) zs) ∷ ‵ OwnP ∷ ‵ (O.the-row .own r (v ∷ [])) ∷ [])) (Post v)
   exits x saw r v zs l e =
       let same = settled-step h (m .now) (p .now) x saw in
@@ -184,7 +183,7 @@ module _ {M : Type 1} (𝓤 : URA M) (H : Heap 𝓤) (A : Atoms 𝓤) (W : Given
       -- [res; the borrow; the memory's last bytes; packet; what the result owns]
       feqI ! (List Val) (vptr b o ∷ []) (vptr b o ∷ []) refl $ fjoin3 ! $ nothing ! $ move ! (2 ∷ 0 ∷ []) $ fjoin ! $ move ! (2 ∷ 0 ∷ []) $ fjoin ! $ move ! (1 ∷ 0 ∷ []) $ fjoin ! $ done !
 
-  module _ (C : Calls 𝓤 H) (Λ : Loops 𝓤 H) (fm : FmC 𝓤 H (W .laws) C) (known-look : Triple 𝓤 (C #looking) (Looks 𝓤 H A at-mem run)) (known-settled : Triple 𝓤 (C #settling) (Settles 𝓤 H A at-mem run)) where
+  module _ (C : Calls 𝓤 H) (Λ : Loops 𝓤 H) (fm : FmC 𝓤 H (W .laws) C) (known-open : Triple 𝓤 (C #opening) (Opens 𝓤 H A at-mem run)) (known-settled : Triple 𝓤 (C #settling) (Settles 𝓤 H A at-mem run)) where
     walk : Is (ShrSlice (named 1) κp u8) p (vp ∷ []) → Is (MutSlice (named 2) κm u8) m (vm ∷ [])
         → ent 𝓤 (onEntry 𝓤 H A f.signature κs qs a at) (WpFn 𝓤 H C Λ code.function (vptr b o ∷ vp ∷ vm ∷ []) Post)
     walk ip im =
@@ -199,12 +198,12 @@ module _ {M : Type 1} (𝓤 : URA M) (H : Heap 𝓤) (A : Atoms 𝓤) (W : Given
         pass1 ! (init ! 22 refl (tt, tt)) $ pass1 ! (init ! 20 refl (shr-slice-lawful 𝓤 H A W (named 1) κp u8 .typed p (vp ∷ []) ip .0)) $ pass1 ! (init ! 18 refl (mut-slice-lawful 𝓤 H A W (named 2) κm u8 .typed m (vm ∷ []) im .0)) $ pass0 ! $
         assigns ! (of-opd ! (load ! (from ! (fld ! refl (stop !))) (look-in ! 18 (sub ! 1 refl (whole !))))) (from ! (stop !)) (init ! 10 refl (tt, record { fits = im .0 .1 .0 })) $
         -- [_12; …; _0; …; packet; packet; packet; memory; true; res; the borrow; endpoint; endpoint; its token; the other tokens]
-        move ! (36 ∷ []) $ split ! $ move ! (35 ∷ 28 ∷ 37 ∷ 0 ∷ []) $ join ! $ use3 W (raw (Looks 𝓤 H A at-mem run .pre (look-to im))) (goes-look im) $
-        calls-at ! fm (Looks 𝓤 H A at-mem run) known-look (look-to im) (and-then ! (load ! (from ! (stop !)) (look ! 24 refl)) (and-then ! (load ! (from ! (stop !)) (look ! 22 refl)) (and-then ! (load ! (from ! (stop !)) (look ! 12 refl)) (no-more !)))) (λ v.
-        use1 W (later (some (λ (x : Seen). ((‵ (flft κe qe) ⊛ (‵ (flft κp qp) ⊛ ‵ ftrue)) ⊛ ‵ (S.the-row .own x (v ∷ []))) ⊛ raw (ensured 𝓤 H A looking.ended (looking.clauses 𝓤 H A at-mem run) (κe, (κp, tt)) (look-args im) tt x)))) (id⊢ 𝓤 _) $ await ! tt $ pick ! (λ x.
-        split ! $ move ! (1 ∷ []) $ use1 W (some (λ (zs : Unit {0} × (Unit {0} × (Unit {0} × (Unit {0})))). ‵ (lasts looking.ended (κe, (κp, tt)) (look-args im) zs) ⊛ raw (fact 𝓤 (Saw x)))) (id⊢ 𝓤 _) $ pick ! (λ _. split ! $ drop ! $ heard ! (Saw x) (λ saw.
+        move ! (36 ∷ []) $ split ! $ move ! (35 ∷ 28 ∷ 37 ∷ 0 ∷ []) $ join ! $ use3 W (raw (Opens 𝓤 H A at-mem run .pre (open-to im))) (goes-open im) $
+        calls-at ! fm (Opens 𝓤 H A at-mem run) known-open (open-to im) (and-then ! (load ! (from ! (stop !)) (look ! 24 refl)) (and-then ! (load ! (from ! (stop !)) (look ! 22 refl)) (and-then ! (load ! (from ! (stop !)) (look ! 12 refl)) (no-more !)))) (λ v.
+        use1 W (later (some (λ (x : Arrival). ((‵ (flft κe qe) ⊛ (‵ (flft κp qp) ⊛ ‵ ftrue)) ⊛ ‵ (S.the-row .own x (v ∷ []))) ⊛ raw (ensured 𝓤 H A opening.ended (opening.clauses 𝓤 H A at-mem run) (κe, (κp, tt)) (open-args im) tt x)))) (id⊢ 𝓤 _) $ await ! tt $ pick ! (λ x.
+        split ! $ move ! (1 ∷ []) $ use1 W (some (λ (zs : Unit {0} × (Unit {0} × (Unit {0} × (Unit {0})))). ‵ (lasts opening.ended (κe, (κp, tt)) (open-args im) zs) ⊛ raw (fact 𝓤 (Saw x)))) (id⊢ 𝓤 _) $ pick ! (λ _. split ! $ drop ! $ heard ! (Saw x) (λ saw.
         split ! $ move ! (1 ∷ []) $ peeks ! S.the-row (Is S.the-row) (shows 𝓤 H A S.the-row) x (v ∷ []) (λ is.
-        -- [what seen owns; the tokens; κm's; _12; …; _0; …; packet; packet; memory; true; res; the borrow; endpoint]
+        -- [what arrived owns; the tokens; κm's; _12; …; _0; …; packet; packet; memory; true; res; the borrow; endpoint]
         land ! (from ! (stop !)) (init ! 19 refl (LL.lawful S.the-type S′.the-laws 𝓤 H A W .typed x _ is .0)) $
         rewrite ! 19 (λ (u : Val). ‵ (fat fullShare S′.mir l₄ 0 u)) (ap only (LL.tells S.the-type S′.the-laws x _ is)) refl $ rewrite ! 0 (λ (u : Val). ‵ (S.the-row .own x (u ∷ []))) (ap only (LL.tells S.the-type S′.the-laws x _ is)) refl $
         assigns ! (of-opd ! (load ! (from ! (fld ! refl (stop !))) (look-in ! 19 (sub ! 0 refl (whole !))))) (from ! (stop !)) (init ! 17 refl (tt, record { fits = peer-fits x v is })) $
@@ -223,7 +222,7 @@ module _ {M : Type 1} (𝓤 : URA M) (H : Heap 𝓤) (A : Atoms 𝓤) (W : Given
         assigns ! (agg ! (and-then ! (load ! (from ! (stop !)) (look ! 12 refl)) (and-then ! (load ! (from ! (fld ! refl (stop !))) (look-in ! 28 (sub ! 1 refl (whole !)))) (no-more !)))) (from ! (stop !)) (init ! 10 refl (tt, (tt, (record { fits = im .0 .1 .0 }, tt)))) $
         use2 W (‵ (TheRow 𝓤 H A W q′ h (x .peer) b o (rowPlace o (x .peer)) (rowAt h (x .peer)))) (lies-in 𝓤 H A W q′ RowS (into-row (rowAt h (x .peer))) b (rowPlace o (x .peer)) (vrow x ∷ [])) $
         join ! $ move ! (1 ∷ 0 ∷ []) $ join ! $ join ! $ use1 W (‵ (partAt T.the-row q′ h b o)) (stays q′ (x .peer) (below x saw)) $ move ! (1 ∷ 0 ∷ []) $ obor-close ! tt $ drop ! $
-        -- [its token; the borrow; κp's; what seen owns; κm's; _12; …; packet; packet; memory; true; res; endpoint]
+        -- [its token; the borrow; κp's; what arrived owns; κm's; _12; …; packet; packet; memory; true; res; endpoint]
         move ! (36 ∷ 3 ∷ 31 ∷ 33 ∷ 0 ∷ 2 ∷ 4 ∷ []) $ join ! $ join ! $ join ! $ move ! (2 ∷ 3 ∷ []) $ join ! $ use3 W (raw (Settles 𝓤 H A at-mem run .pre (settled-to x isr))) (goes-settled x isr) $
         calls-at ! fm (Settles 𝓤 H A at-mem run) known-settled (settled-to x isr) (and-then ! (load ! (from ! (stop !)) (look ! 24 refl)) (and-then ! (load ! (from ! (stop !)) (look ! 18 refl)) (and-then ! (load ! (from ! (stop !)) (look ! 14 refl)) (and-then ! (load ! (from ! (stop !)) (look ! 22 refl)) (and-then ! (load ! (from ! (stop !)) (look ! 2 refl)) (no-more !)))))) (λ v′.
         use1 W (later (some (λ (r : Outcome). ((‵ (flft κe qe) ⊛ Tokens) ⊛ ‵ (O.the-row .own r (v′ ∷ []))) ⊛ raw (ensured 𝓤 H A settling.ended (settling.clauses 𝓤 H A at-mem run) κs (settled-args x isr) tt r)))) (id⊢ 𝓤 _) $ await ! tt $ pick ! (λ r.
@@ -237,22 +236,22 @@ module _ {M : Type 1} (𝓤 : URA M) (H : Heap 𝓤) (A : Atoms 𝓤) (W : Given
         move ! (1 ∷ []) $ split ! $ keep ! (0 ∷ 8 ∷ 5 ∷ 1 ∷ 3 ∷ 6 ∷ 2 ∷ []) $ by ! (exits x saw r v′ (zs .1 .1 .1 .1 .0) l e))))))))))))))))))))))))))))
 
 module _ {M : Type 1} (𝓤 : URA M) (H : Heap 𝓤) (A : Atoms 𝓤) (W : Given 𝓤 H A) (at-mem : Memory → SProp 𝓤) (run : Routine → Fun 𝓤) where
-  received-walks : (C : Calls 𝓤 H) (Λ : Loops 𝓤 H) → FmC 𝓤 H (W .laws) C → Triple 𝓤 (C #looking) (Looks 𝓤 H A at-mem run) → Triple 𝓤 (C #settling) (Settles 𝓤 H A at-mem run)
+  received-walks : (C : Calls 𝓤 H) (Λ : Loops 𝓤 H) → FmC 𝓤 H (W .laws) C → Triple 𝓤 (C #opening) (Opens 𝓤 H A at-mem run) → Triple 𝓤 (C #settling) (Settles 𝓤 H A at-mem run)
       → Walks 𝓤 H A f.ended stayed (WpFn 𝓤 H C Λ code.function) (f.clauses 𝓤 H A at-mem run)
-  received-walks C Λ fm known-look known-settled = walked 𝓤 H A f.ended stayed (f.clauses 𝓤 H A at-mem run) (WpFn 𝓤 H C Λ code.function)
+  received-walks C Λ fm known-open known-settled = walked 𝓤 H A f.ended stayed (f.clauses 𝓤 H A at-mem run) (WpFn 𝓤 H C Λ code.function)
       (λ κs. (ptr-vals, (slice-vals, (slice-vals, tt))))
       (λ κs. (shr-tells (named 0) (κs .0) T.the-row, (shr-slice-tells (named 1) (κs .1 .0) u8, (mut-slice-tells (named 2) (κs .1 .1 .0) u8, tt))))
-      (λ κs qs bounds a _ are. via 𝓤 _ (fst∗ 𝓤 _ (emp 𝓤)) (walk 𝓤 H A W at-mem run (κs .0) (κs .1 .0) (κs .1 .1 .0) (qs .0) (qs .1 .0) (qs .1 .1 .0) (a .0 .ptr .0) (a .0 .ptr .1) (a .0 .name) (a .0 .now) (a .1 .0) (a .1 .1 .0) C Λ fm known-look known-settled (are .1 .0) (are .1 .1 .0)))
+      (λ κs qs bounds a _ are. via 𝓤 _ (fst∗ 𝓤 _ (emp 𝓤)) (walk 𝓤 H A W at-mem run (κs .0) (κs .1 .0) (κs .1 .1 .0) (qs .0) (qs .1 .0) (qs .1 .1 .0) (a .0 .ptr .0) (a .0 .ptr .1) (a .0 .name) (a .0 .now) (a .1 .0) (a .1 .1 .0) C Λ fm known-open known-settled (are .1 .0) (are .1 .1 .0)))
 
   goes : AllGo 𝓤 H A W 3 (f.signature .params) (f.ended .kept) stayed
   goes = (goes-none-ref 𝓤 H A W 3 (0 ∷ []) tt (plain (λ _. T.the-row)) yes, (goes-none-slice 𝓤 H A W 3 (1 ∷ []) tt (plain (λ _. u8)) yes, (goes-gave-slice 𝓤 H A W 3 2 tt (plain (λ _. u8)), tt)))
 
 meets : {M : Type 1} (𝓤 : URA M) (H : Heap 𝓤) (A : Atoms 𝓤) (W : Given 𝓤 H A) (at-mem : Memory → SProp 𝓤) (run : Routine → Fun 𝓤) (𝓣 : Tables 𝓤 H)
-    → Triple 𝓤 (𝓣 .C #looking) (Looks 𝓤 H A at-mem run)
+    → Triple 𝓤 (𝓣 .C #opening) (Opens 𝓤 H A at-mem run)
     → Triple 𝓤 (𝓣 .C #settling) (Settles 𝓤 H A at-mem run)
     → Meets 𝓤 H A f.signature (WpFn 𝓤 H (𝓣 .C) (𝓣 .Λ) code.function) (f.spec 𝓤 H A at-mem run)
-meets 𝓤 H A W at-mem run 𝓣 known-look known-settled = walk-meets 𝓤 H A f.ended stayed W (goes 𝓤 H A W at-mem run) (f.clauses 𝓤 H A at-mem run) (WpFn 𝓤 H (𝓣 .C) (𝓣 .Λ) code.function) (WpFn-mono 𝓤 H (W .laws) 𝓣 code.function)
-    (received-walks 𝓤 H A W at-mem run (𝓣 .C) (𝓣 .Λ) (fmOf 𝓤 H (W .laws) 𝓣) known-look known-settled)
+meets 𝓤 H A W at-mem run 𝓣 known-open known-settled = walk-meets 𝓤 H A f.ended stayed W (goes 𝓤 H A W at-mem run) (f.clauses 𝓤 H A at-mem run) (WpFn 𝓤 H (𝓣 .C) (𝓣 .Λ) code.function) (WpFn-mono 𝓤 H (W .laws) 𝓣 code.function)
+    (received-walks 𝓤 H A W at-mem run (𝓣 .C) (𝓣 .Λ) (fmOf 𝓤 H (W .laws) 𝓣) known-open known-settled)
 
 pub received-spec : {M : Type 1} → stated.statement M
 unfolding code.routine tablesOf
@@ -260,5 +259,5 @@ received-spec 𝓤 H 𝓜 𝓖 𝓡 =
     entered 𝓤 H (tripleOf 𝓤 H (𝓖 .A) f.signature (f.spec 𝓤 H (𝓖 .A) (𝓜 .mem) (𝓡 .run)))
     (tables 𝓤 H 𝓜 𝓡 code.env .C) (tables 𝓤 H 𝓜 𝓡 code.env .Λ) #this code.function (code.unfolded 𝓤 H 𝓜 𝓡)
     (meets 𝓤 H (𝓖 .A) (givenOf 𝓤 H 𝓜 𝓖) (𝓜 .mem) (𝓡 .run) (tablesOf 𝓤 H 𝓜 (tables 𝓤 H 𝓜 𝓡 code.env))
-    (cited 𝓤 H (Looks 𝓤 H (𝓖 .A) (𝓜 .mem) (𝓡 .run)) 𝓜 𝓡 code.env #looking looking-def.routine code.calls-export·receive·looked (looking-thm.met 𝓤 H 𝓜 𝓖 𝓡))
+    (cited 𝓤 H (Opens 𝓤 H (𝓖 .A) (𝓜 .mem) (𝓡 .run)) 𝓜 𝓡 code.env #opening opening-def.routine code.calls-export·receive·opened (opening-thm.met 𝓤 H 𝓜 𝓖 𝓡))
     (cited 𝓤 H (Settles 𝓤 H (𝓖 .A) (𝓜 .mem) (𝓡 .run)) 𝓜 𝓡 code.env #settling settling-def.routine code.calls-export·receive·settled (settling-thm.met 𝓤 H 𝓜 𝓖 𝓡)))

@@ -1,8 +1,8 @@
 -- `export::receive::settled` meets its contract: a walk of its MIR, by hand. The borrow of the endpoint is looked into, the number of bindings is read, and the borrow is shut again.
--- Its columns are lent on to `flat_settled`, at the same lifetime (`Columns.antt`). With them go what was seen, the row and the packet, which are Copy and so had twice, and the
+-- Its columns are lent on to `flat_settled`, at the same lifetime (`Columns.antt`). With them go what arrived, the row and the packet, which are Copy and so had twice, and the
 -- memory, which is given up: `flat_settled` says its last bytes. All that the proof knows of it is that it meets its contract.
 -- Assumes nothing.
-use mathlib.Core.Path.{_≡_, refl, ap, _∙_}
+use mathlib.Core.Path.{_≡_, refl}
 use mathlib.Core.List.{List, [], _∷_}
 use Prim.Native.Nat.{ℕ, _+_}
 use lib.ListN.{length}
@@ -44,19 +44,17 @@ use denote.Triple.Clauses.{ensured, lasts}
 use denote.Exit.{yes}
 use Rattle.endpoint.specs.declared.config.Endpoint.{Endpoint}
 use Rattle.reassembly.specs.declared.slot.Row.{Row}
-use Rattle.endpoint.specs.declared.receive.Seen.{Seen}
+use Rattle.endpoint.specs.declared.receive.Arrival.{Arrival}
 use Rattle.export.specs.declared.receive.Outcome.{Outcome}
-use Rattle.endpoint.specs.Config.{lent}
 use Rattle.endpoint.specs.Receive.{Step}
-use Rattle.endpoint.specs.Look.{settleOf}
-use Rattle.endpoint.specs.ReceiveLaws.{settle-lent}
+use Rattle.endpoint.specs.Stages.{settledBy}
 use Rattle.export.specs.Receive.{outcomeOf}
 use Rattle.endpoint.proofs.config.Endpoint as T
 use Rattle.endpoint.proofs.config.Endpoint.Laws as T′
 use Rattle.reassembly.proofs.slot.Row as R
 use Rattle.reassembly.proofs.slot.Row.Laws as R′
-use Rattle.endpoint.proofs.receive.Seen as S
-use Rattle.endpoint.proofs.receive.Seen.Laws as S′
+use Rattle.endpoint.proofs.receive.Arrival as S
+use Rattle.endpoint.proofs.receive.Arrival.Laws as S′
 use Rattle.export.proofs.receive.Outcome as O
 use Rattle.export.proofs.receive.Outcome.Laws as O′
 use Rattle.export.proofs.Columns.{Names, columns, col, bindings-fit, lends-columns, lends-tenants}
@@ -80,9 +78,9 @@ module _ {M : Type 1} (𝓤 : URA M) (H : Heap 𝓤) (A : Atoms 𝓤) (at-mem : 
   abbrev Settles : Contract 𝓤
   Settles = tripleOf 𝓤 H A settling.signature (settling.spec 𝓤 H A at-mem run)
 
--- x what was seen, y the row, p the packet, m the memory
+-- x what arrived, y the row, p the packet, m the memory
 module _ {M : Type 1} (𝓤 : URA M) (H : Heap 𝓤) (A : Atoms 𝓤) (W : Given 𝓤 H A) (at-mem : Memory → SProp 𝓤) (run : Routine → Fun 𝓤)
-    (κe κp κm : Lft) (qe qp qm : Share) (b o : ℕ) (γ : GName) (h : Endpoint) (x : Seen) (y : Row) (p m : RefT (List ℕ)) where
+    (κe κp κm : Lft) (qe qp qm : Share) (b o : ℕ) (γ : GName) (h : Endpoint) (x : Arrival) (y : Row) (p m : RefT (List ℕ)) where
   abbrev κs : Lfts 3
   κs = (κe, (κp, (κm, tt)))
 
@@ -132,7 +130,7 @@ module _ {M : Type 1} (𝓤 : URA M) (H : Heap 𝓤) (A : Atoms 𝓤) (W : Given
   Post = walkOf 𝓤 H A f.ended stayed (f.clauses 𝓤 H A at-mem run) .post ((κs, qs, tt, a, at), tt)
 
   abbrev step : Step
-  step = settleOf (lent (h .networks) (h .kinds) (h .owners) (h .tenants) [] 0 0 0 0 (h .«binding_count»)) x y (p .now) (m .now)
+  step = settledBy h x y (p .now) (m .now)
 
   -- what `flat_settled` says of its result and of the memory's last bytes
   abbrev Says : Outcome → List ℕ → Type 0
@@ -153,7 +151,7 @@ module _ {M : Type 1} (𝓤 : URA M) (H : Heap 𝓤) (A : Atoms 𝓤) (W : Given
     goes-in =
         qed W (((((Cols g ⊛ ‵ OwnX) ⊛ ‵ OwnY) ⊛ ‵ OwnP) ⊛ ‵ OwnM) ∷ ‵ (flft κe qe) ∷ Tokens ∷ []) ∵
         split ! $ split ! $ split ! $ split ! $ split ! $ move ! (1 ∷ []) $ split ! $ move ! (1 ∷ []) $ split ! $
-        -- [owners; tenants; kinds; networks; seen; row; packet; memory; the tokens]
+        -- [owners; tenants; kinds; networks; arrival; row; packet; memory; the tokens]
         nothing ! $ move ! (8 ∷ 0 ∷ []) $ join ! $ move ! (7 ∷ 0 ∷ []) $ join ! $ move ! (6 ∷ 0 ∷ []) $ join ! $ move ! (5 ∷ 0 ∷ []) $ join ! $
         owned ! u16 (Is u16) (uint-makes 𝓤 H A W w16) (h .«binding_count») _ (refl, bindings-fit h was) $ join ! $
         move ! (2 ∷ 0 ∷ []) $ join ! $ move ! (1 ∷ 0 ∷ []) $ join ! $ move ! (1 ∷ 0 ∷ []) $ join ! $ move ! (1 ∷ 0 ∷ []) $ join ! $
@@ -163,11 +161,10 @@ module _ {M : Type 1} (𝓤 : URA M) (H : Heap 𝓤) (A : Atoms 𝓤) (W : Given
   exits : (r : Outcome) (v : Val) (zs : List ℕ) → length zs ≡ length (m .now) → Says r zs
       → ent 𝓤 (⋆ 𝓤 H A (‵ (flft κe qe) ∷ ‵ (fres γ (T.the-row .coded .code h)) ∷ ‵ Shared ∷ Tokens ∷ ‵ (finally u8 (m .name) zs) ∷ ‵ OwnP ∷ ‵ OwnX ∷ ‵ OwnY ∷ ‵ (O.the-row .own r (v ∷ [])) ∷ [])) (Post v)
   exits r v zs l e =
-      let same = settle-lent h x y (p .now) (m .now) in
       qed W (‵ (flft κe qe) ∷ ‵ (fres γ (T.the-row .coded .code h)) ∷ ‵ Shared ∷ Tokens ∷ ‵ (finally u8 (m .name) zs) ∷ ‵ OwnP ∷ ‵ OwnX ∷ ‵ OwnY ∷ ‵ (O.the-row .own r (v ∷ [])) ∷ []) ∵
       suffices ! _ (ends-at 𝓤 H A f.ended stayed (f.clauses 𝓤 H A at-mem run) W ((κs, qs, tt, a, at), tt) v r (tt, (tt, (tt, (tt, (zs, tt))))) (tt, (tt, (tt, (tt, (l, tt)))))) $
-      says ! (e .0 ∙ ap outcomeOf same, e .1 ∙ ap (λ (s : Step). s .mem) same) $ move ! (0 ∷ 3 ∷ []) $ join ! $ frame ! $
-      -- [res; the borrow; the memory's last bytes; packet; seen; row; what the result owns]
+      says ! e $ move ! (0 ∷ 3 ∷ []) $ join ! $ frame ! $
+      -- [res; the borrow; the memory's last bytes; packet; arrival; row; what the result owns]
       feqI ! (List Val) (vptr b o ∷ []) (vptr b o ∷ []) refl $ fjoin3 ! $ nothing ! $ move ! (2 ∷ 0 ∷ []) $ fjoin ! $ move ! (2 ∷ 0 ∷ []) $ fjoin ! $ move ! (3 ∷ 0 ∷ []) $ fjoin ! $ move ! (2 ∷ 0 ∷ []) $ fjoin ! $
       move ! (1 ∷ 0 ∷ []) $ fjoin ! $ done !
 
@@ -180,7 +177,7 @@ module _ {M : Type 1} (𝓤 : URA M) (H : Heap 𝓤) (A : Atoms 𝓤) (W : Given
         use1 W (‵ OwnX ⊛ ‵ OwnX) (LL.copy S.the-type S′.the-copy 𝓤 H A W .twice x (vx ∷ [])) $ split ! $ move ! (2 ∷ []) $
         use1 W (‵ OwnY ⊛ ‵ OwnY) (LL.copy R.the-type R′.the-copy 𝓤 H A W .twice y (vy ∷ [])) $ split ! $ move ! (4 ∷ []) $ fsplit3 ! $
         use1 W (‵ OwnP ⊛ ‵ OwnP) (shr-slice-copy 𝓤 H A W (named 1) κp u8 .twice p (vp ∷ [])) $ split ! $ move ! (8 ∷ 9 ∷ 10 ∷ []) $
-        -- [res; the borrow; its token; packet; packet; memory; true; row; row; seen; seen; the other tokens]
+        -- [res; the borrow; its token; packet; packet; memory; true; row; row; arrival; arrival; the other tokens]
         enter ! C Λ code.function (vptr b o ∷ vx ∷ vy ∷ vp ∷ vm ∷ []) _ $
         alloc1 ! (λ l₀. alloc1 ! (λ l₁. alloc1 ! (λ l₂. alloc1 ! (λ l₃. alloc1 ! (λ l₄. alloc1 ! (λ l₅. alloc1 ! (λ l₆. alloc1 ! (λ l₇. alloc1 ! (λ l₈. alloc1 ! (λ l₉. alloc1 ! (λ l₁₀. alloc1 ! (λ l₁₁. alloc1 ! (λ l₁₂. alloc0 ! $ params1 ! $
         pass1 ! (init ! 22 refl (tt, tt)) $ pass1 ! (init ! 20 refl (LL.lawful S.the-type S′.the-laws 𝓤 H A W .typed x _ ix .0)) $ pass1 ! (init ! 18 refl (LL.lawful R.the-type R′.the-laws 𝓤 H A W .typed y _ iy .0)) $
@@ -188,7 +185,7 @@ module _ {M : Type 1} (𝓤 : URA M) (H : Heap 𝓤) (A : Atoms 𝓤) (W : Given
         move ! (27 ∷ 28 ∷ []) $ looks ! tt T.the-row (Is T.the-row) (shows 𝓤 H A T.the-row) (LL.vals T.the-type T′.the-laws) (LL.tells T.the-type T′.the-laws) (LL.copy T.the-type T′.the-copy 𝓤 H A W) h b o (λ q′ vs.
         spelt ! T.the-row (Is T.the-row) (shows 𝓤 H A T.the-row) (LL.vals T.the-type T′.the-laws) (LL.tells T.the-type T′.the-laws) q′ h vs b o $
         move ! (1 ∷ []) $ peeks ! T.the-row (Is T.the-row) (shows 𝓤 H A T.the-row) h (mach ∷ []) (λ was. move ! (1 ∷ 0 ∷ []) $
-        -- [a share of the endpoint's cell; what it owns; what shuts it; the borrow; _12; …; _0; …; res; packet; packet; memory; true; row; row; seen; seen; the other tokens]
+        -- [a share of the endpoint's cell; what it owns; what shuts it; the borrow; _12; …; _0; …; res; packet; packet; memory; true; row; row; arrival; arrival; the other tokens]
         assigns ! (addr ! (from ! (hop ! (look ! 26 refl) (fld ! {τ = tyArray (tyInt w64) 64} {d = 0} refl (stop !))))) (from ! (stop !)) (init ! 16 refl (tt, tt)) $
         assigns ! (addr ! (from ! (hop ! (look ! 26 refl) (fld ! {τ = tyArray (tyInt w8) 64} {d = 940} refl (stop !))))) (from ! (stop !)) (init ! 14 refl (tt, tt)) $
         assigns ! (addr ! (from ! (hop ! (look ! 26 refl) (fld ! {τ = tyArray (tyInt w8) 64} {d = 1004} refl (stop !))))) (from ! (stop !)) (init ! 12 refl (tt, tt)) $
@@ -198,14 +195,14 @@ module _ {M : Type 1} (𝓤 : URA M) (H : Heap 𝓤) (A : Atoms 𝓤) (W : Given
         assigns ! (addr ! (from ! (fld ! refl (hop ! (look-in ! 16 (sub ! 0 refl (whole !))) (stop !))))) (from ! (stop !)) (init ! 4 refl (tt, tt)) $
         assigns ! (agg ! (and-then ! (load ! (from ! (stop !)) (look ! 4 refl)) (and-then ! (load ! (from ! (fld ! refl (stop !))) (look-in ! 16 (sub ! 1 refl (whole !)))) (no-more !)))) (from ! (stop !)) (init ! 2 refl (tt, (tt, (record { fits = im .0 .1 .0 }, tt)))) $
         move ! (1 ∷ 0 ∷ []) $ use2 W (later (some (λ (g : Names). Cols g ⊛ (‵ Shared ⊛ ‵ (flft κe qe))))) (lends-columns 𝓤 H A W (named 0) κe qe h b o (Array u16 64) (h .tenants) 804 (lends-tenants 𝓤 H A W (named 0) κe qe h b o)) $ await ! tt $ pick ! (λ g. split ! $ move ! (1 ∷ []) $ split ! $
-        -- [the borrow; its token; columns; _12; …; res; packet; packet; memory; true; row; row; seen; seen; the other tokens]
+        -- [the borrow; its token; columns; _12; …; res; packet; packet; memory; true; row; row; arrival; arrival; the other tokens]
         move ! (2 ∷ 36 ∷ 34 ∷ 30 ∷ 32 ∷ 1 ∷ 38 ∷ []) $ join ! $ join ! $ join ! $ join ! $ use3 W (raw (Settles 𝓤 H A at-mem run .pre (to was g))) (goes-in was g) $
         calls-at ! fm (Settles 𝓤 H A at-mem run) known (to was g) (and-then ! (load ! (from ! (stop !)) (look ! 14 refl)) (and-then ! (load ! (from ! (stop !)) (look ! 12 refl)) (and-then ! (load ! (from ! (stop !)) (look ! 10 refl)) (and-then ! (load ! (from ! (stop !)) (look ! 8 refl)) (and-then ! (load ! (from ! (stop !)) (look ! 6 refl)) (and-then ! (load ! (from ! (stop !)) (look ! 22 refl)) (and-then ! (load ! (from ! (stop !)) (look ! 20 refl)) (and-then ! (load ! (from ! (stop !)) (look ! 18 refl)) (and-then ! (load ! (from ! (stop !)) (look ! 2 refl)) (no-more !)))))))))) (λ v.
         use1 W (later (some (λ (r : Outcome). ((‵ (flft κe qe) ⊛ Tokens) ⊛ ‵ (O.the-row .own r (v ∷ []))) ⊛ raw (ensured 𝓤 H A settling.ended (settling.clauses 𝓤 H A at-mem run) κs (args was g) tt r)))) (id⊢ 𝓤 _) $ await ! tt $ pick ! (λ r.
         split ! $ move ! (1 ∷ []) $ use1 W (some (λ (zs : Unit {0} × (Unit {0} × (Unit {0} × (Unit {0} × (Unit {0} × (Unit {0} × (Unit {0} × (Unit {0} × (List ℕ × Unit {0}))))))))). ‵ (lasts settling.ended κs (args was g) zs) ⊛ raw (fact 𝓤 (Says r (zs .1 .1 .1 .1 .1 .1 .1 .1 .0))))) (id⊢ 𝓤 _) $ pick ! (λ zs.
         split ! $ move ! (1 ∷ []) $ heard ! (Says r (zs .1 .1 .1 .1 .1 .1 .1 .1 .0)) (λ e. fsplit3 ! $ drop ! $ drop ! $ fsplit3 ! $ drop ! $ drop ! $ fsplit3 ! $ drop ! $ drop ! $ fsplit3 ! $ drop ! $ drop ! $ fsplit ! $ fsplit ! $ move ! (1 ∷ []) $ feqL ! (λ l.
         move ! (2 ∷ []) $ split ! $ move ! (1 ∷ []) $ peeks ! O.the-row (Is O.the-row) (shows 𝓤 H A O.the-row) r (v ∷ []) (λ is.
-        -- [what the result owns; the tokens; the memory's last bytes; true; the borrow; _12; …; _0; …; res; packet; true; row; seen]
+        -- [what the result owns; the tokens; the memory's last bytes; true; the borrow; _12; …; _0; …; res; packet; true; row; arrival]
         land ! (from ! (stop !)) (init ! 29 refl (LL.lawful O.the-type O′.the-laws 𝓤 H A W .typed r _ is .0)) $
         returns ! (look ! 29 refl) $ forget ! 5 refl $ forget ! 7 refl $ forget ! 9 refl $ forget ! 11 refl $ forget ! 13 refl $ forget ! 15 refl $ forget ! 17 refl $ forget ! 19 refl $ forget ! 21 refl $ forget ! 23 refl $ forget ! 25 refl $ forget ! 27 refl $ forget ! 29 refl $
         move ! (29 ∷ 30 ∷ []) $ free1 ! $ move ! (27 ∷ 28 ∷ []) $ free1 ! $ move ! (25 ∷ 26 ∷ []) $ free1 ! $ move ! (23 ∷ 24 ∷ []) $ free1 ! $ move ! (21 ∷ 22 ∷ []) $ free1 ! $ move ! (19 ∷ 20 ∷ []) $ free1 ! $ move ! (17 ∷ 18 ∷ []) $ free1 ! $ move ! (15 ∷ 16 ∷ []) $ free1 ! $ move ! (13 ∷ 14 ∷ []) $ free1 ! $ move ! (11 ∷ 12 ∷ []) $ free1 ! $ move ! (9 ∷ 10 ∷ []) $ free1 ! $ move ! (7 ∷ 8 ∷ []) $ free1 ! $ move ! (5 ∷ 6 ∷ []) $ free1 ! $ free0 ! $

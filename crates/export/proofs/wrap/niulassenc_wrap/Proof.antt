@@ -46,7 +46,7 @@ use Rattle.endpoint.specs.declared.config.Endpoint.{Endpoint}
 use Rattle.endpoint.specs.Answer.{wrapValuesOf}
 use Rattle.endpoint.specs.Config.{lent}
 use Rattle.endpoint.specs.Wrap.{Wrote, wrapOf}
-use Rattle.endpoint.specs.WrapExits.{wrap-lent}
+use Rattle.endpoint.specs.Laws.WrapExits.{wrap-lent}
 use Rattle.endpoint.proofs.config.Endpoint as T
 use Rattle.endpoint.proofs.config.Endpoint.Laws as T′
 use Rattle.export.specs.Answer.{writingOf}

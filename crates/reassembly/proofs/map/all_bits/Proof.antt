@@ -8,7 +8,7 @@ use lib.Bits.{and-le-l}
 use lib.ListN.{getD}
 use Rattle.reassembly.specs.Base.{allBelow}
 use Rattle.reassembly.specs.Store.{bitAt}
-use Rattle.reassembly.specs.MapLaws.{all-whole, all-not, all-end}
+use Rattle.reassembly.specs.Laws.Map.{all-whole, all-not, all-end}
 use Rattle.reassembly.proofs.map.all_bits.Statement.{statement}
 use Rattle.reassembly.proofs.map.all_bits.Tie as tie
 

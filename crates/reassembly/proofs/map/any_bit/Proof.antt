@@ -7,7 +7,7 @@ use native.Mathlib.Omega.{arith}
 use lib.Dec.{eqb}
 use Rattle.reassembly.specs.Base.{someBelow}
 use Rattle.reassembly.specs.Store.{bitAt}
-use Rattle.reassembly.specs.MapLaws.{any-only, any-start, any-whole, any-end}
+use Rattle.reassembly.specs.Laws.Map.{any-only, any-start, any-whole, any-end}
 use Rattle.reassembly.proofs.map.any_bit.Statement.{statement}
 use Rattle.reassembly.proofs.map.any_bit.Tie as tie
 

@@ -6,8 +6,8 @@ use Prim.Native.Nat.{ℕ, _≤_, _<_, _+_, _*_, _-_, _/_}
 use native.Mathlib.Omega.{arith}
 use lib.ListN.{length, set, length-set}
 use Rattle.reassembly.specs.Store.{setBits}
-use Rattle.reassembly.specs.StoreLaws.{length-setBits}
-use Rattle.reassembly.specs.MapLaws.{set-only, set-start, set-whole, set-end}
+use Rattle.reassembly.specs.Laws.Store.{length-setBits}
+use Rattle.reassembly.specs.Laws.Map.{set-only, set-start, set-whole, set-end}
 use Rattle.reassembly.proofs.map.set_bits.Statement.{statement}
 use Rattle.reassembly.proofs.map.set_bits.Tie as tie
 

@@ -1,6 +1,6 @@
 -- `reassembly::take::finish` meets its contract.
 -- Assumes nothing.
-use Rattle.reassembly.specs.TakeLaws.{finish-complete, finish-pending}
+use Rattle.reassembly.specs.Laws.Take.{finish-complete, finish-pending}
 use borrow.Author.Needs.{needs}
 use Rattle.reassembly.proofs.take.finish.Statement.{statement}
 use Rattle.reassembly.proofs.take.finish.Tie as tie

@@ -1,7 +1,7 @@
 -- `reassembly::take::further` meets its contract.
 -- Assumes nothing.
 use Rattle.reassembly.specs.Take.{segOf}
-use Rattle.reassembly.specs.TakeLaws.{further-refused, further-stored}
+use Rattle.reassembly.specs.Laws.Take.{further-refused, further-stored}
 use borrow.Author.Needs.{needs}
 use Rattle.reassembly.proofs.take.further.Statement.{statement}
 use Rattle.reassembly.proofs.take.further.Tie as tie

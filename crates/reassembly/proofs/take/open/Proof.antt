@@ -1,7 +1,7 @@
 -- `reassembly::take::open` meets its contract.
 -- Assumes nothing.
 use Rattle.reassembly.specs.Take.{segOf}
-use Rattle.reassembly.specs.TakeLaws.{open-stored}
+use Rattle.reassembly.specs.Laws.Take.{open-stored}
 use borrow.Author.Needs.{needs}
 use Rattle.reassembly.proofs.take.open.Statement.{statement}
 use Rattle.reassembly.proofs.take.open.Tie as tie

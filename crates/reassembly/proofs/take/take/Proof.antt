@@ -2,7 +2,7 @@
 -- Assumes nothing.
 use mathlib.Core.Path.{sym, _∙_}
 use Rattle.reassembly.specs.Take.{segOf}
-use Rattle.reassembly.specs.TakeLaws.{no-peer, no-memory, take-rejected, take-further, take-open, further-is, open-is}
+use Rattle.reassembly.specs.Laws.Take.{no-peer, no-memory, take-rejected, take-further, take-open, further-is, open-is}
 use borrow.Author.Needs.{needs}
 use Rattle.reassembly.proofs.take.take.Statement.{statement}
 use Rattle.reassembly.proofs.take.take.Tie as tie

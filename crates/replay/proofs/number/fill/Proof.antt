@@ -16,8 +16,8 @@ abbrev μ-loop : tie.MeasureT-loop
 loop-holds : tie.Need-loop-holds Inv-loop μ-loop
 loop-holds c = search needs
 
-drawn-requires : tie.Need-drawn-requires Inv-loop μ-loop
-drawn-requires c κs = search needs
+next-requires : tie.Need-next-requires Inv-loop μ-loop
+next-requires c κs = search needs
 
 low8-requires : tie.Need-low8-requires Inv-loop μ-loop
 low8-requires c κs = search needs
@@ -47,7 +47,7 @@ fill-spec =
     Inv-loop
     μ-loop
     loop-holds
-    drawn-requires
+    next-requires
     low8-requires
     slice-write-s
     add-i

@@ -22,8 +22,8 @@ add-x c = search needs
 loop-holds : tie.Need-loop-holds Inv-loop μ-loop
 loop-holds c = search needs
 
-drawn-requires : tie.Need-drawn-requires Inv-loop μ-loop
-drawn-requires c κs = search needs
+next-requires : tie.Need-next-requires Inv-loop μ-loop
+next-requires c κs = search needs
 
 content-requires : tie.Need-content-requires Inv-loop μ-loop
 content-requires c κs = search needs
@@ -55,7 +55,7 @@ fill-spec =
     mul-x
     add-x
     loop-holds
-    drawn-requires
+    next-requires
     content-requires
     slice-write-s
     add-i

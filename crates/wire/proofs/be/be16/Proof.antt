@@ -1,7 +1,7 @@
 -- `wire::be::be16` meets its contract.
 -- Assumes nothing.
 use native.Mathlib.Omega.{arith}
-use Rattle.wire.specs.BytesLaws.{be-split}
+use Rattle.wire.specs.Laws.Bytes.{be-split}
 use borrow.Author.Needs.{needs}
 use Rattle.wire.proofs.be.be16.Statement.{statement}
 use Rattle.wire.proofs.be.be16.Tie as tie

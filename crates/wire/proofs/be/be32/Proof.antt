@@ -1,7 +1,7 @@
 -- `wire::be::be32` meets its contract.
 -- Assumes nothing.
 use native.Mathlib.Omega.{arith}
-use Rattle.wire.specs.BytesLaws.{be-split}
+use Rattle.wire.specs.Laws.Bytes.{be-split}
 use borrow.Author.Needs.{needs}
 use Rattle.wire.proofs.be.be32.Statement.{statement}
 use Rattle.wire.proofs.be.be32.Tie as tie

@@ -1,7 +1,7 @@
 -- `wire::be::be8` meets its contract.
 -- Assumes nothing.
 use mathlib.Core.Path.{sym}
-use Rattle.wire.specs.BytesLaws.{be-one}
+use Rattle.wire.specs.Laws.Bytes.{be-one}
 use borrow.Author.Needs.{needs}
 use Rattle.wire.proofs.be.be8.Statement.{statement}
 use Rattle.wire.proofs.be.be8.Tie as tie

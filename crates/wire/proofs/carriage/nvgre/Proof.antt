@@ -1,7 +1,7 @@
 -- `wire::carriage::nvgre` meets its contract.
 -- Assumes nothing.
 use mathlib.Core.Path.{_≡_, _∙_, sym}
-use Rattle.wire.specs.CarriageLaws.{nvgre-bad, nvgre-good}
+use Rattle.wire.specs.Laws.Carriage.{nvgre-bad, nvgre-good}
 use borrow.Author.Needs.{needs}
 use Rattle.wire.proofs.carriage.nvgre.Statement.{statement}
 use Rattle.wire.proofs.carriage.nvgre.Tie as tie

@@ -1,7 +1,7 @@
 -- `wire::carriage::read` meets its contract.
 -- Assumes nothing.
 use mathlib.Core.Path.{_≡_, _∙_, sym}
-use Rattle.wire.specs.CarriageLaws.{by-udp, by-gre, by-tcp, by-none}
+use Rattle.wire.specs.Laws.Carriage.{by-udp, by-gre, by-tcp, by-none}
 use borrow.Author.Needs.{needs}
 use Rattle.wire.proofs.carriage.read.Statement.{statement}
 use Rattle.wire.proofs.carriage.read.Tie as tie

@@ -1,7 +1,7 @@
 -- `wire::carriage::segment` meets its contract.
 -- Assumes nothing.
 use mathlib.Core.Path.{_≡_, _∙_, sym}
-use Rattle.wire.specs.CarriageLaws.{stt-bad, stt-good}
+use Rattle.wire.specs.Laws.Carriage.{stt-bad, stt-good}
 use borrow.Author.Needs.{needs}
 use Rattle.wire.proofs.carriage.segment.Statement.{statement}
 use Rattle.wire.proofs.carriage.segment.Tie as tie

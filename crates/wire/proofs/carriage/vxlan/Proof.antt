@@ -6,8 +6,8 @@ use native.Mathlib.Omega.{arith}
 use lib.ListN.{length, drop, length-drop}
 use lib.Seq.{take-all}
 use Rattle.wire.specs.Carriage.{vxlanIn}
-use Rattle.wire.specs.UdpLaws.{udp-room}
-use Rattle.wire.specs.CarriageLaws.{vxlan-no-udp, vxlan-udp}
+use Rattle.wire.specs.Laws.Udp.{udp-room}
+use Rattle.wire.specs.Laws.Carriage.{vxlan-no-udp, vxlan-udp}
 use borrow.Author.Needs.{needs}
 use Rattle.wire.proofs.carriage.vxlan.Statement.{statement}
 use Rattle.wire.proofs.carriage.vxlan.Tie as tie

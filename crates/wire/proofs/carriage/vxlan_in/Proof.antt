@@ -1,7 +1,7 @@
 -- `wire::carriage::vxlan_in` meets its contract.
 -- Assumes nothing.
 use mathlib.Core.Path.{_≡_, _∙_, sym}
-use Rattle.wire.specs.CarriageLaws.{vxlan-bad, vxlan-good}
+use Rattle.wire.specs.Laws.Carriage.{vxlan-bad, vxlan-good}
 use borrow.Author.Needs.{needs}
 use Rattle.wire.proofs.carriage.vxlan_in.Statement.{statement}
 use Rattle.wire.proofs.carriage.vxlan_in.Tie as tie

@@ -5,7 +5,7 @@ use mathlib.Core.List.{List}
 use Prim.Native.Nat.{ℕ}
 use native.Mathlib.Nat.{zero-add}
 use Rattle.wire.specs.Sum.{total, ones}
-use Rattle.wire.specs.WriteLaws.{ipv4-head-from}
+use Rattle.wire.specs.Laws.Write.{ipv4-head-from}
 use borrow.Author.Needs.{needs}
 use Rattle.wire.proofs.head.ipv4.Statement.{statement}
 use Rattle.wire.proofs.head.ipv4.Tie as tie

@@ -1,7 +1,7 @@
 -- `wire::put::put` meets its contract.
 -- Assumes nothing.
 use native.Mathlib.Omega.{arith}
-use Rattle.wire.specs.BytesLaws.{laid-tail}
+use Rattle.wire.specs.Laws.Bytes.{laid-tail}
 use borrow.Author.Needs.{needs}
 use Rattle.wire.proofs.put.put.Statement.{statement}
 use Rattle.wire.proofs.put.put.Tie as tie

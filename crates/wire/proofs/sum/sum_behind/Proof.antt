@@ -4,7 +4,7 @@ use mathlib.Core.Path.{_≡_, _∙_, ap}
 use native.Mathlib.Omega.{arith}
 use lib.ListN.{length}
 use Rattle.wire.specs.Sum.{ones}
-use Rattle.wire.specs.SumLaws.{pseudo-total}
+use Rattle.wire.specs.Laws.Sum.{pseudo-total}
 use borrow.Author.Needs.{needs}
 use Rattle.wire.proofs.sum.sum_behind.Statement.{statement}
 use Rattle.wire.proofs.sum.sum_behind.Tie as tie

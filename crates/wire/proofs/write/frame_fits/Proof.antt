@@ -4,7 +4,7 @@ use mathlib.Core.Path.{sym}
 use native.Mathlib.Omega.{arith}
 use Rattle.wire.specs.Checks.{deciding}
 use Rattle.wire.specs.Write.{fitChecks}
-use Rattle.wire.specs.WriteLaws.{fits-exit}
+use Rattle.wire.specs.Laws.Write.{fits-exit}
 use borrow.Author.Needs.{needs}
 use Rattle.wire.proofs.write.frame_fits.Statement.{statement}
 use Rattle.wire.proofs.write.frame_fits.Tie as tie

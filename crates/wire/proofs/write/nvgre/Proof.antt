@@ -1,7 +1,7 @@
 -- `wire::write::nvgre` meets its contract.
 -- Assumes nothing.
 use borrow.Author.Tests.{not-true, not-false}
-use Rattle.wire.specs.WriteLaws.{fits-says, refused, nvgre-done}
+use Rattle.wire.specs.Laws.Write.{fits-says, refused, nvgre-done}
 use borrow.Author.Needs.{needs}
 use Rattle.wire.proofs.write.nvgre.Statement.{statement}
 use Rattle.wire.proofs.write.nvgre.Tie as tie

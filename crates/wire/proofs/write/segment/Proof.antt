@@ -2,7 +2,7 @@
 -- Assumes nothing.
 use native.Mathlib.Omega.{arith}
 use borrow.Author.Tests.{not-true, not-false}
-use Rattle.wire.specs.WriteLaws.{segment-fits-says, refused, segment-done}
+use Rattle.wire.specs.Laws.Write.{segment-fits-says, refused, segment-done}
 use borrow.Author.Needs.{needs}
 use Rattle.wire.proofs.write.segment.Statement.{statement}
 use Rattle.wire.proofs.write.segment.Tie as tie

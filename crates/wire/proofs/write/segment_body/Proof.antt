@@ -1,7 +1,7 @@
 -- `wire::write::segment_body` meets its contract.
 -- Assumes nothing.
 use native.Mathlib.Omega.{arith}
-use Rattle.wire.specs.WriteLaws.{segment-sealed}
+use Rattle.wire.specs.Laws.Write.{segment-sealed}
 use borrow.Author.Needs.{needs}
 use Rattle.wire.proofs.write.segment_body.Statement.{statement}
 use Rattle.wire.proofs.write.segment_body.Tie as tie

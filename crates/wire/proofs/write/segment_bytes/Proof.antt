@@ -1,7 +1,7 @@
 -- `wire::write::segment_bytes` meets its contract.
 -- Assumes nothing.
 use native.Mathlib.Omega.{arith}
-use Rattle.wire.specs.WriteLaws.{segment-pieces}
+use Rattle.wire.specs.Laws.Write.{segment-pieces}
 use borrow.Author.Needs.{needs}
 use Rattle.wire.proofs.write.segment_bytes.Statement.{statement}
 use Rattle.wire.proofs.write.segment_bytes.Tie as tie

@@ -4,7 +4,7 @@ use mathlib.Core.Path.{sym}
 use native.Mathlib.Omega.{arith}
 use Rattle.wire.specs.Checks.{deciding}
 use Rattle.wire.specs.Write.{segmentFitChecks}
-use Rattle.wire.specs.WriteLaws.{segment-fits-exit}
+use Rattle.wire.specs.Laws.Write.{segment-fits-exit}
 use borrow.Author.Needs.{needs}
 use Rattle.wire.proofs.write.segment_fits.Statement.{statement}
 use Rattle.wire.proofs.write.segment_fits.Tie as tie

@@ -2,7 +2,7 @@
 -- Assumes nothing.
 use mathlib.Core.Path.{refl}
 use native.Mathlib.Omega.{arith}
-use Rattle.wire.specs.WriteLaws.{segment-landed}
+use Rattle.wire.specs.Laws.Write.{segment-landed}
 use borrow.Author.Needs.{needs}
 use Rattle.wire.proofs.write.segment_packet.Statement.{statement}
 use Rattle.wire.proofs.write.segment_packet.Tie as tie

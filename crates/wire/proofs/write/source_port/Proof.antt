@@ -1,7 +1,7 @@
 -- `wire::write::source_port` meets its contract.
 -- Assumes nothing.
 use native.Mathlib.Omega.{arith}
-use Rattle.wire.specs.WriteLaws.{port-from}
+use Rattle.wire.specs.Laws.Write.{port-from}
 use borrow.Author.Needs.{needs}
 use Rattle.wire.proofs.write.source_port.Statement.{statement}
 use Rattle.wire.proofs.write.source_port.Tie as tie

@@ -1,7 +1,7 @@
 -- `wire::write::vxlan` meets its contract.
 -- Assumes nothing.
 use borrow.Author.Tests.{not-true, not-false}
-use Rattle.wire.specs.WriteLaws.{fits-says, refused, vxlan-done}
+use Rattle.wire.specs.Laws.Write.{fits-says, refused, vxlan-done}
 use borrow.Author.Needs.{needs}
 use Rattle.wire.proofs.write.vxlan.Statement.{statement}
 use Rattle.wire.proofs.write.vxlan.Tie as tie

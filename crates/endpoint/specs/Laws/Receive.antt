@@ -1,0 +1,438 @@
+-- What the functions of `receive` give, over plain values, and the laws by which they add up to `stepOf`.
+-- Assumes nothing.
+use Prim.Native.Nat.{ℕ, _+_, _-_, _*_, _<_, _≤_, min}
+use mathlib.Core.Path.{_≡_, refl, sym, ap, _∙_}
+use mathlib.Core.Bool.{Bool, true, false, cond}
+use mathlib.Core.List.{List, []}
+use mathlib.Core.Option.{Option, none, some}
+use native.Mathlib.Omega.{arith}
+use lib.ListN.{length, getD, take, drop}
+use borrow.Author.Tests.{lt-ltb, le-ltb, le-leb, eq-eqb, ne-eqb}
+use lib.Dec.{ltb, leb, eqb}
+use Rattle.wire.specs.Bytes.{part}
+use Rattle.wire.specs.Laws.Bytes.{part-is, part-length}
+use Rattle.wire.specs.Laws.Ipv4.{ipv4-bounds}
+use Rattle.wire.specs.Laws.Carriage.{tunnel-within, segment-within}
+use Rattle.wire.specs.Ipv4.{ipv4Of}
+use Rattle.wire.specs.Carriage.{carriageOf}
+use Rattle.wire.specs.Stt.{sttOf}
+use Rattle.wire.specs.Frame.{frameOf}
+use Rattle.wire.specs.declared.refusal.Refusal.{Refusal}
+use Rattle.wire.specs.declared.ipv4.Ipv4.{Ipv4}
+use Rattle.wire.specs.declared.ipv4.Ipv4Read.{Ipv4Read}
+use Rattle.wire.specs.declared.ipv4.Ipv4Read.the-variants as I
+use Rattle.wire.specs.declared.segment.Segment.{Segment}
+use Rattle.wire.specs.declared.carriage.Tunnel.{Tunnel}
+use Rattle.wire.specs.declared.carriage.Carried.{Carried}
+use Rattle.wire.specs.declared.carriage.Carried.the-variants as C
+use Rattle.wire.specs.declared.stt.SttRead.{SttRead}
+use Rattle.wire.specs.declared.stt.SttRead.the-variants as T
+use Rattle.wire.specs.declared.frame.FrameRead.the-variants as F
+use Rattle.reassembly.specs.Slots.{Note, noRow}
+use Rattle.reassembly.specs.Laws.TakeFacts.{length-frame}
+use Rattle.reassembly.specs.Laws.Store.{handed, slot-inside}
+use Rattle.reassembly.specs.Take.{Seg, segOf, frameIn}
+use Rattle.reassembly.specs.Store.{bytesOf, takeIn, slotStart}
+use Rattle.reassembly.specs.Receive.{Seen as Made, stranger, plain, segment, Verdict, bad, good, spoken, told, partOfSlice, viewOf}
+use Rattle.reassembly.specs.Base.{caseB}
+use Rattle.reassembly.specs.SetUp.{Kept, peerOf}
+use Rattle.reassembly.specs.Laws.Take.{takenOf}
+use Rattle.reassembly.specs.declared.take.Taken.{Taken}
+use Rattle.reassembly.specs.Laws.TakeIn.{taken-row, taken-outcome, take-length, take-whole, slot-start, frame-part}
+use Rattle.reassembly.specs.declared.slot.Row.{Row}
+use Rattle.reassembly.specs.declared.take.Rejection.{Rejection}
+use Rattle.reassembly.specs.declared.take.Outcome.{Outcome}
+use Rattle.reassembly.specs.declared.take.Outcome.the-variants as O
+use Rattle.endpoint.specs.Answer.{placeOf, valuesOf}
+use Rattle.endpoint.specs.Search.{lowest, foundOf}
+use Rattle.endpoint.specs.Laws.Search.{lowest-some}
+use Rattle.endpoint.specs.declared.search.Found.{Found}
+use Rattle.endpoint.specs.declared.search.Found.the-variants as L
+use Rattle.endpoint.specs.Config.{Config, configOf, hasAddress, findPeer, binds}
+use Rattle.endpoint.specs.Receive.{answers, innerFrom, answerAt, tunnelFrom, carried?, peer?, headerOf, ours?, ip?, sender?, sourceOf, stt?, sttFrom, judgeOf, Step, rowAt, unchanged, stepped, stepOf}
+use Rattle.endpoint.specs.declared.answer.Drop.{Drop}
+use Rattle.endpoint.specs.declared.answer.Drop.the-variants as D
+use Rattle.endpoint.specs.declared.answer.Received.{Received}
+use Rattle.endpoint.specs.declared.answer.Received.the-variants as R
+use Rattle.endpoint.specs.declared.receive.InnerFrame.{InnerFrame}
+use Rattle.endpoint.specs.declared.receive.Due.{Due}
+use Rattle.endpoint.specs.declared.receive.Content.{Content}
+use Rattle.endpoint.specs.declared.receive.Content.the-variants as A
+use Rattle.endpoint.specs.declared.receive.Arrival.{Arrival}
+use Rattle.endpoint.specs.declared.receive.Offer.{Offer}
+use Rattle.endpoint.specs.declared.receive.Offer.the-variants as B
+use Rattle.endpoint.specs.declared.receive.Changed.{Changed}
+use Rattle.endpoint.specs.declared.config.Endpoint.{Endpoint}
+use Rattle.endpoint.specs.Stages.{carriedFrom, contentFrom, strangerWith, openPeer, openHeader, openIp, openOf, sttOffer, offerAt, offerOf, Lies, changedOf, takeOf, deliverOf, settleOf, openedBy, settledBy}
+
+-- ---- a search, as the code makes it
+
+pub found-none : (o : Option ℕ) → foundOf o ≡ L.Nothing → o ≡ none
+found-none none e = refl
+found-none (some i) e = let z : _≡_ {A = ℕ} 0 1 = cc in absurd (omega arith)
+
+pub found-some : (o : Option ℕ) (i : ℕ) → foundOf o ≡ L.At i → o ≡ some i
+found-some none i e = let z : _≡_ {A = ℕ} 0 1 = cc in absurd (omega arith)
+found-some (some j) i e = cc
+
+-- among as many as the call counted
+pub found-among : (test : ℕ → Bool) (n all : ℕ) (f : Found) → f ≡ foundOf (lowest test n) → n ≡ all → f ≡ foundOf (lowest test all)
+found-among test n all f q s = q ∙ ap (λ (x : ℕ). foundOf (lowest test x)) s
+
+-- ---- the ways out of what a listed peer's packet brings
+
+module _ (port : ℕ) (h : Ipv4) (k payload : List ℕ) (is : payload ≡ part k (h .start) (h .end)) where
+  pub content-refused : (r : Refusal) → carriageOf (h .protocol) (h .source) (h .destination) port payload ≡ C.Refused r → A.Refused (D.Format r) ≡ contentFrom port h k
+  unfolding contentFrom
+  content-refused r read = rw (← is, read)
+
+  pub content-tunnel : (t : Tunnel) → carriageOf (h .protocol) (h .source) (h .destination) port payload ≡ C.Tunnel t
+      → A.Frame (record { network = t .network; place = record { start = h .start + t .start; length = h .end - (h .start + t .start); «in_memory» = false }; kind = t .kind }) ≡ contentFrom port h k
+  unfolding contentFrom
+  content-tunnel t read = rw (← is, read)
+
+  pub content-segment : (g : Segment) → carriageOf (h .protocol) (h .source) (h .destination) port payload ≡ C.Segment g
+      → A.Segment (record { header = g; start = h .start + g .start; length = h .end - (h .start + g .start) }) ≡ contentFrom port h k
+  unfolding contentFrom
+  content-segment g read = rw (← is, read)
+
+-- ---- the ways out of opening
+
+module _ (addresses : List ℕ) (own port peers : ℕ) (k : List ℕ) (room : ℕ) where
+  pub open-memory : room < 55296 → strangerWith D.Memory ≡ openOf addresses own port peers k room
+  unfolding openOf
+  open-memory l = rw (lt-ltb room 55296 l)
+
+  module _ (enough : 55296 ≤ room) where
+    pub open-ip : (r : Refusal) (d : Drop) → ipv4Of k ≡ I.Refused r → d ≡ D.Format r → strangerWith d ≡ openOf addresses own port peers k room
+    unfolding openOf
+    open-ip r d q z = rw (le-ltb room 55296 enough, q, z)
+
+    module _ (h : Ipv4) (ip : ipv4Of k ≡ I.Packet h) where
+      pub open-destination : (h .destination ≡ own → ⊥) → strangerWith D.Destination ≡ openOf addresses own port peers k room
+      unfolding openOf
+      open-destination n = rw (le-ltb room 55296 enough, ip, ne-eqb (h .destination) own n)
+
+      module _ (ours : h .destination ≡ own) where
+        pub open-stranger : lowest (hasAddress addresses (h .source)) peers ≡ none → strangerWith D.Peer ≡ openOf addresses own port peers k room
+        unfolding openOf
+        open-stranger q = rw (le-ltb room 55296 enough, ip, eq-eqb (h .destination) own ours, q)
+
+        pub open-peer : (p : ℕ) (x : Content) → lowest (hasAddress addresses (h .source)) peers ≡ some p → x ≡ contentFrom port h k → record { peer = p; content = x } ≡ openOf addresses own port peers k room
+        unfolding openOf
+        open-peer p x q r = rw (le-ltb room 55296 enough, ip, eq-eqb (h .destination) own ours, q, r)
+
+-- ---- the ways out of a complete STT frame's check 11
+
+module _ (at : ℕ) (frame : List ℕ) where
+  pub offer-refused : (r : Refusal) (d : Drop) → sttOf frame ≡ T.Refused r → d ≡ D.Format r → B.Refused d ≡ offerAt at frame
+  unfolding offerAt
+  offer-refused r d e q = rw (e, q)
+
+  pub offer-header : (context : ℕ) → sttOf frame ≡ T.Header context
+      → B.Frame (record { network = context; place = record { start = at + 18; length = length frame - 18; «in_memory» = true }; kind = 3 }) ≡ offerAt at frame
+  unfolding offerAt
+  offer-header context e = rw e
+
+-- ---- the ways out of a segment
+
+pub lies-complete : (peer : ℕ) (o : Outcome) (size : ℕ) (m : List ℕ) (s : ℕ) → Lies peer o size m → o ≡ O.Complete s → (peer < 8) × ((s < 4) × ((size ≤ 1532) × (55296 ≤ length m)))
+unfolding Lies
+lies-complete peer (O.Rejected r) size m s l e = let z : _≡_ {A = ℕ} 0 1 = cc in absurd (omega arith)
+lies-complete peer O.Pending size m s l e = let z : _≡_ {A = ℕ} 0 1 = cc in absurd (omega arith)
+lies-complete peer O.NoMemory size m s l e = let z : _≡_ {A = ℕ} 0 1 = cc in absurd (omega arith)
+lies-complete peer (O.Complete t) size m s l e = let z : t ≡ s = cc in rw (← z) l
+
+module _ (peer : ℕ) (o : Outcome) (size : ℕ) (m : List ℕ) where
+  pub settled-rejected : (r : Rejection) → o ≡ O.Rejected r → B.Refused (D.Segment r) ≡ offerOf peer o size m
+  unfolding offerOf
+  settled-rejected r e = rw e
+
+  pub settled-pending : o ≡ O.Pending → B.Pending ≡ offerOf peer o size m
+  unfolding offerOf
+  settled-pending e = rw e
+
+  pub settled-memory : o ≡ O.NoMemory → B.Refused D.Memory ≡ offerOf peer o size m
+  unfolding offerOf
+  settled-memory e = rw e
+
+  pub settled-complete : (s : ℕ) → o ≡ O.Complete s → (frame : List ℕ) → frame ≡ part m ((4 * peer + s) * 1728) ((4 * peer + s) * 1728 + size)
+      → offerAt ((4 * peer + s) * 1728) frame ≡ offerOf peer o size m
+  unfolding offerOf
+  settled-complete s e frame f = rw (e, f)
+
+-- a segment that was taken: what its outcome tells of the memory
+lies-by : (peer : ℕ) (row : Row) (m : List ℕ) (g : Seg) (o : Outcome) → takeIn peer row m g .outcome ≡ o → Lies peer o (g .frame-length) (takeIn peer row m g .mem)
+unfolding Lies
+lies-by peer row m g (O.Rejected r) e = tt
+lies-by peer row m g O.Pending e = tt
+lies-by peer row m g O.NoMemory e = tt
+lies-by peer row m g (O.Complete s) e =
+    let w = take-whole peer s row m g e in
+    (w .is-peer, (w .is-slot, (w .fits .most, omega (arith, w .memory, take-length peer row m g))))
+
+pub lies : (peer : ℕ) (row : Row) (m : List ℕ) (g : Seg) → Lies peer (takeIn peer row m g .outcome) (g .frame-length) (takeIn peer row m g .mem)
+lies peer row m g = lies-by peer row m g (takeIn peer row m g .outcome) refl
+
+-- ---- the ways out of taking
+
+module _ (row : Row) (a : Arrival) (k m : List ℕ) where
+  pub pass-refused : (d : Drop) → a .content ≡ A.Refused d → (record { row = row; offer = B.Refused d } ≡ changedOf (takeOf row a k m)) × (m ≡ takeOf row a k m .mem)
+  unfolding takeOf
+  pass-refused d q = (rw q, rw q)
+
+  pub pass-frame : (f : InnerFrame) → a .content ≡ A.Frame f → (record { row = row; offer = B.Frame f } ≡ changedOf (takeOf row a k m)) × (m ≡ takeOf row a k m .mem)
+  unfolding takeOf
+  pass-frame f q = (rw q, rw q)
+
+  -- a segment that is due: what `take` gave, and the memory that it left
+  module _ (d : Due) (due : a .content ≡ A.Segment d) (bytes : List ℕ) (are : bytes ≡ partOfSlice k (d .start) (d .length)) (t : Taken) (m′ : List ℕ)
+      (took : t ≡ takenOf (takeIn (a .peer) row m (segOf (d .header) bytes))) (left : m′ ≡ takeIn (a .peer) row m (segOf (d .header) bytes) .mem) where
+    same-row : t .row ≡ takeIn (a .peer) row m (segOf (d .header) bytes) .row
+    same-row = ap (λ (x : Taken). x .row) took ∙ taken-row (takeIn (a .peer) row m (segOf (d .header) bytes))
+
+    same-outcome : t .outcome ≡ takeIn (a .peer) row m (segOf (d .header) bytes) .outcome
+    same-outcome = ap (λ (x : Taken). x .outcome) took ∙ taken-outcome (takeIn (a .peer) row m (segOf (d .header) bytes))
+
+    pub lies-taken : Lies (a .peer) (t .outcome) (d .header .«frame_length») m′
+    lies-taken = rw (same-outcome, left) (lies (a .peer) row m (segOf (d .header) bytes))
+
+    pub segment-out : (x : Offer) → x ≡ offerOf (a .peer) (t .outcome) (d .header .«frame_length») m′ → (record { row = t .row; offer = x } ≡ changedOf (takeOf row a k m)) × (m′ ≡ takeOf row a k m .mem)
+    unfolding takeOf
+    segment-out x e = (rw (due, e, same-row, same-outcome, left, are), rw (due, left, are))
+
+-- ---- the ways out of delivering
+
+module _ (networks kinds owners tenants : List ℕ) (n peer : ℕ) (o : Offer) (k m : List ℕ) where
+  pub deliver-refused : (d : Drop) → o ≡ B.Refused d → R.Dropped d ≡ deliverOf networks kinds owners tenants n peer o k m
+  unfolding deliverOf
+  deliver-refused d e = rw e
+
+  pub deliver-pending : o ≡ B.Pending → R.Pending ≡ deliverOf networks kinds owners tenants n peer o k m
+  unfolding deliverOf
+  deliver-pending e = rw e
+
+  module _ (f : InnerFrame) (is : o ≡ B.Frame f) where
+    pub deliver-unbound : lowest (binds networks kinds owners peer (f .kind) (f .network)) n ≡ none → R.Dropped D.Binding ≡ deliverOf networks kinds owners tenants n peer o k m
+    unfolding deliverOf innerFrom
+    deliver-unbound e = rw (is, e)
+
+    module _ (b : ℕ) (found : lowest (binds networks kinds owners peer (f .kind) (f .network)) n ≡ some b) (frame : List ℕ) (view : frame ≡ viewOf k m (placeOf (f .place))) where
+      pub deliver-bad : (r : Refusal) → frameOf frame ≡ F.Refused r → R.Dropped (D.Format r) ≡ deliverOf networks kinds owners tenants n peer o k m
+      unfolding deliverOf innerFrom
+      deliver-bad r e = rw (is, found, ← view, e)
+
+      pub deliver-good : frameOf frame ≡ F.Good → R.Delivered (record { tenant = getD tenants b 0; binding = b }) (f .place) ≡ deliverOf networks kinds owners tenants n peer o k m
+      unfolding deliverOf innerFrom
+      deliver-good e = rw (is, found, ← view, e)
+
+-- ---- views
+
+part-view : (k : List ℕ) (at end : ℕ) → at ≤ end → end ≤ length k → partOfSlice k at (end - at) ≡ part k at end
+part-view k at end l b =
+    let fits : leb (at + (end - at)) (length k) ≡ true = le-leb (at + (end - at)) (length k) (omega arith) in
+    rw fits (sym (part-is k at end))
+
+pub slot-view : (k m : List ℕ) (i n : ℕ) → 18 ≤ n → slotStart i + n ≤ length m
+    → viewOf k m (record { inMemory = true; start = slotStart i + 18; len = n - 18 }) ≡ drop 18 (frameIn bytesOf m i n)
+slot-view k m i n l f =
+    let fits : leb (slotStart i + 18 + (n - 18)) (length m) ≡ true = le-leb (slotStart i + 18 + (n - 18)) (length m) (omega arith) in
+    rw fits (sym (handed m i n l f))
+
+-- ---- a frame delivered, as the theory of runs has it
+
+-- VXLAN and NVGRE: it lies in the packet
+tunnel-out : (networks kinds owners tenants : List ℕ) (n peer kind network at end : ℕ) (k m : List ℕ) → at ≤ end → end ≤ length k
+    → deliverOf networks kinds owners tenants n peer (B.Frame (record { network = network; place = record { start = at; length = end - at; «in_memory» = false }; kind = kind })) k m
+    ≡ tunnelFrom networks kinds owners tenants n peer kind network at (part k at end)
+unfolding deliverOf tunnelFrom
+tunnel-out networks kinds owners tenants n peer kind network at end k m l b = rw (part-view k at end l b, part-length k at end b)
+
+-- STT: it lies in slot i
+spoken-out : (x : Verdict answers) (i n : ℕ) (frame : List ℕ) → answerAt x (record { start = slotStart i + 18; length = n - 18; «in_memory» = true }) ≡ spoken answers x i n frame .reply
+spoken-out (bad d) i n frame = refl
+spoken-out (good t) i n frame = refl
+
+module _ (c : Config) (p : ℕ) (k after : List ℕ) (i n : ℕ) (long : 18 ≤ n) (inside : slotStart i + n ≤ length after) where
+  abbrev whole : List ℕ
+  whole = frameIn bytesOf after i n
+
+  header-out : (x : SttRead) → deliverOf (c .networks) (c .kinds) (c .owners) (c .tenants) (c .bindings) p (sttOffer (slotStart i) n x) k after
+      ≡ spoken answers (stt? x (λ context. innerFrom (c .networks) (c .kinds) (c .owners) (c .tenants) (c .bindings) p 3 context (drop 18 whole))) i n whole .reply
+  unfolding deliverOf
+  header-out (T.Refused r) = refl
+  header-out (T.Header context) =
+      rw (slot-view k after i n long inside) (spoken-out (innerFrom (c .networks) (c .kinds) (c .owners) (c .tenants) (c .bindings) p 3 context (drop 18 whole)) i n whole)
+
+  judged-out : (note : Note) → deliverOf (c .networks) (c .kinds) (c .owners) (c .tenants) (c .bindings) p (offerAt (i * 1728) (part after (i * 1728) (i * 1728 + n))) k after
+      ≡ spoken answers (judgeOf c p note whole) i n whole .reply
+  unfolding judgeOf sttFrom offerAt
+  judged-out note =
+      let at : slotStart i ≡ i * 1728 = slot-start i in
+      let size : i * 1728 + n - i * 1728 ≡ n = omega arith in
+      let same : part after (i * 1728) (i * 1728 + n) ≡ whole =
+      part-is after (i * 1728) (i * 1728 + n) ∙ ap (λ (x : ℕ). take x (drop (i * 1728) after)) size ∙ ap (λ (x : ℕ). take n (drop x after)) (sym at) ∙ sym (frame-part after i n inside) in
+      ap (λ (f : List ℕ). deliverOf (c .networks) (c .kinds) (c .owners) (c .tenants) (c .bindings) p (sttOffer (i * 1728) (length f) (sttOf f)) k after) same
+      ∙ ap (λ (s : ℕ). deliverOf (c .networks) (c .kinds) (c .owners) (c .tenants) (c .bindings) p (sttOffer (i * 1728) s (sttOf whole)) k after) (length-frame bytesOf after i n)
+      ∙ ap (λ (a : ℕ). deliverOf (c .networks) (c .kinds) (c .owners) (c .tenants) (c .bindings) p (sttOffer a n (sttOf whole)) k after) (sym at)
+      ∙ header-out (sttOf whole)
+
+module _ (c : Config) (p : ℕ) (row : Row) (k m : List ℕ) (g : Seg) where
+  told-out : (o : Outcome) → takeIn p row m g .outcome ≡ o
+      → deliverOf (c .networks) (c .kinds) (c .owners) (c .tenants) (c .bindings) p (offerOf p o (g .frame-length) (takeIn p row m g .mem)) k (takeIn p row m g .mem)
+      ≡ told answers (judgeOf c) bytesOf p g (takeIn p row m g) o .reply
+  unfolding deliverOf offerOf
+  told-out (O.Rejected r) e = refl
+  told-out O.Pending e = refl
+  told-out O.NoMemory e = refl
+  told-out (O.Complete s) e =
+      let w = take-whole p s row m g e in
+      let n : ℕ = g .frame-length in
+      let after : List ℕ = takeIn p row m g .mem in
+      let inside : slotStart (4 * p + s) + n ≤ length after = slot-inside after p s n (omega (arith, w .memory, take-length p row m g)) (w .is-peer) (w .is-slot) (omega (arith, w .fits .most)) in
+      judged-out c p k after (4 * p + s) n (omega (arith, w .fits .least)) inside (takeIn p row m g .note)
+
+-- ---- what the stages make of a packet, and what the theory of runs does
+
+module _ (e : Endpoint) (m k : List ℕ) where
+  -- a packet that was opened, settled with its sender's row
+  abbrev staged : Arrival → Step
+  staged x = settledBy e x (rowAt e (x .peer)) k m
+
+  carried-adds : (h : Ipv4) → (h .start ≤ h .end) × (h .end ≤ length k) → (p : ℕ) (x : Carried)
+      → carriageOf (h .protocol) (h .source) (h .destination) (e .port) (part k (h .start) (h .end)) ≡ x
+      → staged (record { peer = p; content = carriedFrom (h .start) (h .end) x }) ≡ stepped e m (carried? (configOf e) p (h .start) (h .end) k x)
+  unfolding settleOf takeOf deliverOf configOf
+  carried-adds h b p (C.Refused r) q = refl
+  carried-adds h b p (C.Tunnel t) q =
+      let in-payload : t .start ≤ length (part k (h .start) (h .end)) = tunnel-within (h .protocol) (h .source) (h .destination) (e .port) (part k (h .start) (h .end)) t q in
+      ap (unchanged e p m)
+      (tunnel-out (e .networks) (e .kinds) (e .owners) (e .tenants) (min (e .«binding_count») 64) p (t .kind) (t .network) (h .start + t .start) (h .end) k m
+      (omega (arith, part-length k (h .start) (h .end) (b .1))) (b .1))
+  carried-adds h b p (C.Segment g) q =
+      let in-payload : g .start ≤ length (part k (h .start) (h .end)) = segment-within (h .protocol) (h .source) (h .destination) (e .port) (part k (h .start) (h .end)) g q in
+      let bytes : List ℕ = part k (h .start + g .start) (h .end) in
+      rw (
+        part-view k (h .start + g .start) (h .end) (omega (arith, part-length k (h .start) (h .end) (b .1))) (b .1),
+        told-out (configOf e) p (rowAt e p) k m (segOf g bytes) (takeIn p (rowAt e p) m (segOf g bytes) .outcome) refl,
+      )
+
+  peer-adds : (h : Ipv4) → (h .start ≤ h .end) × (h .end ≤ length k) → (o : Option ℕ) → staged (openPeer o (contentFrom (e .port) h k)) ≡ stepped e m (peer? (configOf e) h k o)
+  unfolding settleOf takeOf deliverOf contentFrom configOf
+  peer-adds h b none = refl
+  peer-adds h b (some p) = carried-adds h b p (carriageOf (h .protocol) (h .source) (h .destination) (e .port) (part k (h .start) (h .end))) refl
+
+  ours-adds : (h : Ipv4) → (h .start ≤ h .end) × (h .end ≤ length k) → (b : Bool)
+      → staged (cond b (openPeer (lowest (hasAddress (e .addresses) (h .source)) (min (e .«peer_count») 8)) (contentFrom (e .port) h k)) (strangerWith D.Destination)) ≡ stepped e m (ours? (configOf e) h k b)
+  unfolding settleOf takeOf deliverOf findPeer configOf
+  ours-adds h b true = peer-adds h b (findPeer (configOf e) (h .source))
+  ours-adds h b false = refl
+
+  ip-adds : (x : Ipv4Read) → ipv4Of k ≡ x → staged (openIp x (openHeader (e .addresses) (e .own) (e .port) (min (e .«peer_count») 8) k)) ≡ stepped e m (ip? (configOf e) k x)
+  unfolding settleOf takeOf deliverOf configOf
+  ip-adds (I.Refused r) q = refl
+  ip-adds (I.Packet h) q = ours-adds h (ipv4-bounds k h q) (eqb (h .destination) (e .own))
+
+  header-adds : staged (openIp (ipv4Of k) (openHeader (e .addresses) (e .own) (e .port) (min (e .«peer_count») 8) k)) ≡ stepped e m (headerOf (configOf e) k)
+  unfolding headerOf
+  header-adds = ip-adds (ipv4Of k) refl
+
+-- ---- what the layers promise to the theory of runs, for a configuration of at most eight peers
+
+place-in-packet : (networks kinds owners tenants : List ℕ) (n peer kind network at : ℕ) (frame : List ℕ)
+    → valuesOf (tunnelFrom networks kinds owners tenants n peer kind network at frame) .place .inMemory ≡ false
+unfolding tunnelFrom
+place-in-packet networks kinds owners tenants n peer kind network at frame = by-worth (innerFrom networks kinds owners tenants n peer kind network frame)
+  where
+    by-worth : (x : Verdict answers) → valuesOf (answerAt x (record { start = at; length = length frame; «in_memory» = false })) .place .inMemory ≡ false
+    by-worth (bad d) = refl
+    by-worth (good t) = refl
+
+module _ (c : Config) (few : c .peers ≤ 8) (k : List ℕ) where
+  found-few : (a p : ℕ) → findPeer c a ≡ some p → p < 8
+  unfolding findPeer
+  found-few a p q = omega (arith, lowest-some (hasAddress (c .addresses) a) (c .peers) p q .below)
+
+  carried-kept : (p start end : ℕ) → p < 8 → (x : Carried) → Kept answers (carried? c p start end k x)
+  carried-kept p start end l (C.Refused r) = (l, refl)
+  carried-kept p start end l (C.Tunnel t) = (l, place-in-packet (c .networks) (c .kinds) (c .owners) (c .tenants) (c .bindings) p (t .kind) (t .network) (start + t .start) (part k (start + t .start) end))
+  carried-kept p start end l (C.Segment g) = l
+
+  peer-kept : (h : Ipv4) (o : Option ℕ) → findPeer c (h .source) ≡ o → Kept answers (peer? c h k o)
+  peer-kept h none q = refl
+  peer-kept h (some p) q = carried-kept p (h .start) (h .end) (found-few (h .source) p q) (carriageOf (h .protocol) (h .source) (h .destination) (c .port) (part k (h .start) (h .end)))
+
+  ours-kept : (h : Ipv4) (b : Bool) → Kept answers (ours? c h k b)
+  ours-kept h true = peer-kept h (findPeer c (h .source)) refl
+  ours-kept h false = refl
+
+  ip-kept : (x : Ipv4Read) → Kept answers (ip? c k x)
+  ip-kept (I.Refused r) = refl
+  ip-kept (I.Packet h) = ours-kept h (eqb (h .destination) (c .own))
+
+  pub header-kept : Kept answers (headerOf c k)
+  unfolding headerOf
+  header-kept = ip-kept (ipv4Of k)
+
+  carried-whose : (p start end : ℕ) (x : Carried) → peerOf answers (carried? c p start end k x) ≡ some p
+  carried-whose p start end (C.Refused r) = refl
+  carried-whose p start end (C.Tunnel t) = refl
+  carried-whose p start end (C.Segment g) = refl
+
+  peer-whose : (h : Ipv4) (o : Option ℕ) → peerOf answers (peer? c h k o) ≡ o
+  peer-whose h none = refl
+  peer-whose h (some p) = carried-whose p (h .start) (h .end) (carriageOf (h .protocol) (h .source) (h .destination) (c .port) (part k (h .start) (h .end)))
+
+  ours-whose : (h : Ipv4) (b : Bool) → peerOf answers (ours? c h k b) ≡ cond b (findPeer c (h .source)) none
+  ours-whose h true = peer-whose h (findPeer c (h .source))
+  ours-whose h false = refl
+
+  ip-whose : (x : Ipv4Read) → peerOf answers (ip? c k x) ≡ sender? c x
+  ip-whose (I.Refused r) = refl
+  ip-whose (I.Packet h) = ours-whose h (eqb (h .destination) (c .own))
+
+  pub header-whose : peerOf answers (headerOf c k) ≡ sourceOf c k
+  unfolding headerOf sourceOf
+  header-whose = ip-whose (ipv4Of k)
+
+pub config-few : (e : Endpoint) → configOf e .peers ≤ 8
+unfolding configOf
+config-few e = omega arith
+
+-- ---- the stages in turn are the step
+
+stepped-below : (e : Endpoint) (m : List ℕ) (x : Made answers) → Kept answers x → stepped e m x .peer < 8
+stepped-below e m (stranger a) l = omega arith
+stepped-below e m (plain p a) l = l .0
+stepped-below e m (segment p g) l = l
+
+module _ (e : Endpoint) (k : List ℕ) where
+  peer-settled : (m : List ℕ) (x : Arrival) → staged e m k x .peer ≡ x .peer
+  unfolding settleOf
+  peer-settled m x = refl
+
+  pub open-below : (room : ℕ) → openedBy e k room .peer < 8
+  unfolding openOf
+  open-below room =
+      caseB (ltb room 55296)
+      (λ b. rw b (omega arith))
+      (λ b. rw (b, ← peer-settled [] (openIp (ipv4Of k) (openHeader (e .addresses) (e .own) (e .port) (min (e .«peer_count») 8) k)), header-adds e [] k) (stepped-below e [] (headerOf (configOf e) k) (header-kept (configOf e) (config-few e) k)))
+
+  module _ (m : List ℕ) where
+    pub stages-step : staged e m k (openedBy e k (length m)) ≡ stepOf e m k
+    unfolding openOf stepOf settleOf takeOf deliverOf
+    stages-step = caseB (ltb (length m) 55296) (λ b. rw b) (λ b. rw b (header-adds e m k))
+
+    pub step-below : stepOf e m k .peer < 8
+    step-below = rw (← stages-step, peer-settled m (openedBy e k (length m))) (open-below (length m))
+
+    -- with the row as the code reads it
+    pub settled-is : (x : Arrival) → x ≡ openedBy e k (length m) → settledBy e x (getD (e .rows) (x .peer) noRow) k m ≡ stepOf e m k
+    settled-is x q = rw q stages-step
+
+-- taking and delivering, as the code does one after the other
+module _ (networks kinds owners tenants : List ℕ) (n : ℕ) (x : Arrival) (row : Row) (k m : List ℕ) (c : Changed) (m′ : List ℕ) (a : Received)
+    (took : c ≡ changedOf (takeOf row x k m)) (left : m′ ≡ takeOf row x k m .mem) (gave : a ≡ deliverOf networks kinds owners tenants n (x .peer) (c .offer) k m′) where
+  pub settled-out : record { peer = x .peer; row = c .row; answer = a; mem = m′ } ≡ settleOf networks kinds owners tenants n x row k m
+  unfolding settleOf
+  settled-out = rw (gave, took, left)

@@ -1,0 +1,84 @@
+-- A worked run, computed through the definitions of every layer: what the set-up of PossibleRun holds, what becomes of each packet of its run, and what each frame is worth.
+use mathlib.Core.Path.{_≡_, refl}
+use mathlib.Core.Bool.{true, false}
+use lib.ListN.{replicate}
+use Rattle.wire.specs.Bytes.{be, beAt, part}
+use Rattle.wire.specs.Sum.{total, ones, pseudo}
+use Rattle.wire.specs.Ipv4.{ipv4Checks, ipv4At, ipv4Of}
+use Rattle.wire.specs.Udp.{udpSum, udpChecks, udpOf}
+use Rattle.wire.specs.Vxlan.{vxlanChecks, vxlanOf}
+use Rattle.wire.specs.Segment.{segmentChecks, segmentAt, segmentOf}
+use Rattle.wire.specs.Stt.{sttChecks, sttOf}
+use Rattle.wire.specs.Frame.{frameChecks, frameOf}
+use Rattle.wire.specs.Carriage.{vxlanIn, vxlanUdpOf, sttIpOf, carriageOf}
+use Rattle.reassembly.specs.Base.{allBelow, table}
+use Rattle.reassembly.specs.Slots.{Note, noMark}
+use Rattle.reassembly.specs.Receive.{stranger, plain, segment, good}
+use Rattle.reassembly.specs.Mix.{partOf, states}
+use Rattle.reassembly.specs.Laws.MixTest.{mixes}
+use Rattle.reassembly.specs.Laws.OneByOne.{turns}
+use Rattle.endpoint.specs.Search.{from, lowest}
+use Rattle.endpoint.specs.Config.{configOf, hasAddress, findPeer, binds, findBinding, fresh, startChecks, startOf, addPeerChecks, withAddress, addPeerOf, isNetwork, addBindingChecks, withBinding, addBindingOf, added, addedAll, setUp}
+use Rattle.endpoint.specs.Receive.{innerFrom, tunnelFrom, headerOf, sttFrom, judgeOf}
+use Rattle.endpoint.specs.declared.answer.Drop.the-variants as D
+use Rattle.endpoint.specs.declared.answer.Received.the-variants as R
+use Rattle.endpoint.specs.Laws.PossibleRun.{ready, listed, frame-a, frame-b, frames, vxlan-packet, rival-packet, stray-packet, mixed, turn}
+
+-- ---- the set-up
+
+pub ready-config : configOf ready ≡ listed
+unfolding configOf from lowest hasAddress findPeer binds findBinding fresh startChecks startOf addPeerChecks withAddress addPeerOf isNetwork addBindingChecks withBinding addBindingOf added addedAll setUp
+ready-config = refl
+
+-- ---- the segments of peer 0's two frames: each packet is sound, and states its frame's length, its offset and its identifier
+
+pub heard-a0 : headerOf listed (partOf frame-a 0 .packet) ≡ segment 0 (states frame-a 0)
+unfolding headerOf ipv4Checks ipv4At ipv4Of be beAt part total ones pseudo segmentChecks segmentAt segmentOf sttIpOf carriageOf from lowest hasAddress findPeer
+heard-a0 = refl
+
+pub heard-a1 : headerOf listed (partOf frame-a 1 .packet) ≡ segment 0 (states frame-a 1)
+unfolding headerOf ipv4Checks ipv4At ipv4Of be beAt part total ones pseudo segmentChecks segmentAt segmentOf sttIpOf carriageOf from lowest hasAddress findPeer
+heard-a1 = refl
+
+pub heard-b0 : headerOf listed (partOf frame-b 0 .packet) ≡ segment 0 (states frame-b 0)
+unfolding headerOf ipv4Checks ipv4At ipv4Of be beAt part total ones pseudo segmentChecks segmentAt segmentOf sttIpOf carriageOf from lowest hasAddress findPeer
+heard-b0 = refl
+
+pub heard-b1 : headerOf listed (partOf frame-b 1 .packet) ≡ segment 0 (states frame-b 1)
+unfolding headerOf ipv4Checks ipv4At ipv4Of be beAt part total ones pseudo segmentChecks segmentAt segmentOf sttIpOf carriageOf from lowest hasAddress findPeer
+heard-b1 = refl
+
+-- ---- what the frames are worth: Context ID 77 is binding 0, tenant 7; the other is binding 1, tenant 8
+
+pub worth-a : (note : Note) → judgeOf listed 0 note (frame-a .content) ≡ good (record { tenant = 7; binding = 0 })
+unfolding judgeOf sttFrom sttChecks sttOf beAt innerFrom from lowest binds frameChecks frameOf
+worth-a note = refl
+
+pub worth-b : (note : Note) → judgeOf listed 0 note (frame-b .content) ≡ good (record { tenant = 8; binding = 1 })
+unfolding judgeOf sttFrom sttChecks sttOf beAt innerFrom from lowest binds frameChecks frameOf
+worth-b note = refl
+
+-- ---- other senders' packets
+
+-- delivered: the frame of 14 bytes behind 36
+pub heard-vxlan : headerOf listed vxlan-packet ≡ plain 1 (R.Delivered (record { tenant = 9; binding = 2 }) (record { start = 36; length = 14; «in_memory» = false }))
+unfolding headerOf ipv4Checks ipv4At ipv4Of be beAt part total ones udpSum udpChecks udpOf vxlanChecks vxlanOf vxlanIn vxlanUdpOf carriageOf from lowest hasAddress findPeer binds innerFrom tunnelFrom frameChecks frameOf
+heard-vxlan = refl
+
+pub heard-rival : headerOf listed rival-packet ≡ segment 1 (record { identifier = 1001; frame-length = 32; offset = 0; bytes = replicate 10 255; mark = noMark })
+unfolding headerOf ipv4Checks ipv4At ipv4Of be beAt part total ones pseudo segmentChecks segmentAt segmentOf sttIpOf carriageOf from lowest hasAddress findPeer
+heard-rival = refl
+
+pub heard-stray : headerOf listed stray-packet ≡ stranger (R.Dropped D.Peer)
+unfolding headerOf ipv4Checks ipv4At ipv4Of be beAt part total ones pseudo segmentChecks segmentAt segmentOf sttIpOf carriageOf from lowest hasAddress findPeer
+heard-stray = refl
+
+-- ---- the run is a mixing, as far as it can be told without the packets
+
+pub mixes-frames : mixes frames mixed ≡ true
+unfolding allBelow
+mixes-frames = refl
+
+pub turns-frames : turns 0 frames ≡ turn
+unfolding table
+turns-frames = refl

@@ -1,0 +1,150 @@
+-- A receive in three stages, as the code makes it: a packet is opened, a segment is taken, a frame is delivered. `ReceiveLaws.stages-step` says that they add up to `Receive.stepOf`.
+-- Assumes nothing.
+use Prim.Native.Nat.{ℕ, _+_, _-_, _*_, _<_, _≤_, min}
+use mathlib.Core.Bool.{true, false, cond}
+use mathlib.Core.List.{List}
+use mathlib.Core.Option.{Option, none, some}
+use lib.ListN.{length}
+use lib.Dec.{ltb, eqb}
+use Rattle.wire.specs.Bytes.{part}
+use Rattle.wire.specs.Ipv4.{ipv4Of}
+use Rattle.wire.specs.Carriage.{carriageOf}
+use Rattle.wire.specs.Stt.{sttOf}
+use Rattle.wire.specs.declared.ipv4.Ipv4.{Ipv4}
+use Rattle.wire.specs.declared.ipv4.Ipv4Read.{Ipv4Read}
+use Rattle.wire.specs.declared.ipv4.Ipv4Read.the-variants as I
+use Rattle.wire.specs.declared.carriage.Carried.{Carried}
+use Rattle.wire.specs.declared.carriage.Carried.the-variants as C
+use Rattle.wire.specs.declared.stt.SttRead.{SttRead}
+use Rattle.wire.specs.declared.stt.SttRead.the-variants as T
+use Rattle.reassembly.specs.Take.{segOf, Effect}
+use Rattle.reassembly.specs.Store.{bytesOf, takeIn}
+use Rattle.reassembly.specs.Receive.{partOfSlice, viewOf}
+use Rattle.reassembly.specs.declared.slot.Row.{Row}
+use Rattle.reassembly.specs.declared.take.Outcome.{Outcome}
+use Rattle.reassembly.specs.declared.take.Outcome.the-variants as O
+use Rattle.endpoint.specs.Answer.{placeOf}
+use Rattle.endpoint.specs.Search.{lowest}
+use Rattle.endpoint.specs.Config.{hasAddress}
+use Rattle.endpoint.specs.Receive.{answerAt, innerFrom, Step}
+use Rattle.endpoint.specs.declared.answer.Drop.{Drop}
+use Rattle.endpoint.specs.declared.answer.Drop.the-variants as D
+use Rattle.endpoint.specs.declared.answer.Received.{Received}
+use Rattle.endpoint.specs.declared.answer.Received.the-variants as R
+use Rattle.endpoint.specs.declared.config.Endpoint.{Endpoint}
+use Rattle.endpoint.specs.declared.receive.Due.{Due}
+use Rattle.endpoint.specs.declared.receive.Content.{Content}
+use Rattle.endpoint.specs.declared.receive.Content.the-variants as A
+use Rattle.endpoint.specs.declared.receive.Arrival.{Arrival}
+use Rattle.endpoint.specs.declared.receive.Offer.{Offer}
+use Rattle.endpoint.specs.declared.receive.Offer.the-variants as B
+use Rattle.endpoint.specs.declared.receive.Changed.{Changed}
+
+-- the cause, where a reader refused
+abbrev pub ipDrop : Ipv4Read → Drop
+ipDrop (I.Packet h) = D.Memory
+ipDrop (I.Refused r) = D.Format r
+
+abbrev pub sttDrop : SttRead → Drop
+sttDrop (T.Header context) = D.Memory
+sttDrop (T.Refused r) = D.Format r
+
+-- ---- a packet is opened: check 2, then 3 to 10, and 11 for VXLAN and NVGRE. `room` is the memory's length, and `peers` of the addresses are listed
+
+-- what a listed peer's packet brings, by what it carries
+abbrev pub carriedFrom : (start end : ℕ) → Carried → Content
+carriedFrom start end (C.Refused r) = A.Refused (D.Format r)
+carriedFrom start end (C.Tunnel t) =
+    A.Frame (record { network = t .network; place = record { start = start + t .start; length = end - (start + t .start); «in_memory» = false }; kind = t .kind })
+carriedFrom start end (C.Segment g) = A.Segment (record { header = g; start = start + g .start; length = end - (start + g .start) })
+
+unfoldable pub contentFrom : (port : ℕ) → Ipv4 → List ℕ → Content
+contentFrom port h k = carriedFrom (h .start) (h .end) (carriageOf (h .protocol) (h .source) (h .destination) port (part k (h .start) (h .end)))
+
+-- a packet of no listed peer
+abbrev pub strangerWith : Drop → Arrival
+strangerWith d = record { peer = 0; content = A.Refused d }
+
+abbrev pub openPeer : Option ℕ → Content → Arrival
+openPeer none content = strangerWith D.Peer
+openPeer (some p) content = record { peer = p; content = content }
+
+abbrev pub openHeader : (addresses : List ℕ) (own port peers : ℕ) → List ℕ → Ipv4 → Arrival
+openHeader addresses own port peers k h =
+    cond (eqb (h .destination) own) (openPeer (lowest (hasAddress addresses (h .source)) peers) (contentFrom port h k)) (strangerWith D.Destination)
+
+abbrev pub openIp : Ipv4Read → (Ipv4 → Arrival) → Arrival
+openIp (I.Refused r) next = strangerWith (D.Format r)
+openIp (I.Packet h) next = next h
+
+unfoldable pub openOf : (addresses : List ℕ) (own port peers : ℕ) → (packet : List ℕ) → (room : ℕ) → Arrival
+openOf addresses own port peers k room = cond (ltb room 55296) (strangerWith D.Memory) (openIp (ipv4Of k) (openHeader addresses own port peers k))
+
+-- ---- a segment is taken: 14 to 17, then 11 where the frame is complete
+
+-- a complete STT frame that lies in the memory from `at` on
+abbrev pub sttOffer : (at size : ℕ) → SttRead → Offer
+sttOffer at size (T.Refused r) = B.Refused (D.Format r)
+sttOffer at size (T.Header context) = B.Frame (record { network = context; place = record { start = at + 18; length = size - 18; «in_memory» = true }; kind = 3 })
+
+unfoldable pub offerAt : (at : ℕ) → List ℕ → Offer
+offerAt at frame = sttOffer at (length frame) (sttOf frame)
+
+-- what there is to deliver, by what taking gave
+unfoldable pub offerOf : (peer : ℕ) → Outcome → (size : ℕ) → (memory : List ℕ) → Offer
+offerOf peer (O.Rejected r) size m = B.Refused (D.Segment r)
+offerOf peer O.Pending size m = B.Pending
+offerOf peer O.NoMemory size m = B.Refused D.Memory
+offerOf peer (O.Complete s) size m = offerAt ((4 * peer + s) * 1728) (part m ((4 * peer + s) * 1728) ((4 * peer + s) * 1728 + size))
+
+-- a complete frame lies in the memory
+unfoldable pub Lies : (peer : ℕ) → Outcome → (size : ℕ) → List ℕ → Type 0
+Lies peer (O.Rejected r) size m = Unit {0}
+Lies peer O.Pending size m = Unit {0}
+Lies peer O.NoMemory size m = Unit {0}
+Lies peer (O.Complete s) size m = (peer < 8) × ((s < 4) × ((size ≤ 1532) × (55296 ≤ length m)))
+
+-- the row and the memory that taking leaves, and what there is to deliver
+pub record Change : Type 0 where
+  pub row : Row
+  pub offer : Offer
+  pub mem : List ℕ
+
+abbrev pub changedOf : Change → Changed
+changedOf c = record { row = c .row; offer = c .offer }
+
+abbrev pub takenFrom : (peer : ℕ) → Row → (packet memory : List ℕ) → Due → Change
+takenFrom peer row k m d =
+    let o : Effect bytesOf = takeIn peer row m (segOf (d .header) (partOfSlice k (d .start) (d .length))) in
+    record { row = o .row; offer = offerOf peer (o .outcome) (d .header .«frame_length») (o .mem); mem = o .mem }
+
+abbrev pub takeContent : (peer : ℕ) → Row → (packet memory : List ℕ) → Content → Change
+takeContent peer row k m (A.Refused d) = record { row = row; offer = B.Refused d; mem = m }
+takeContent peer row k m (A.Frame f) = record { row = row; offer = B.Frame f; mem = m }
+takeContent peer row k m (A.Segment d) = takenFrom peer row k m d
+
+unfoldable pub takeOf : Row → Arrival → (packet memory : List ℕ) → Change
+takeOf row a k m = takeContent (a .peer) row k m (a .content)
+
+-- ---- a frame is delivered: 12, then 13. `networks`, `kinds`, `owners` and `tenants` are the bindings' columns, of which n are listed
+
+unfoldable pub deliverOf : (networks kinds owners tenants : List ℕ) (n peer : ℕ) → Offer → (packet memory : List ℕ) → Received
+deliverOf networks kinds owners tenants n peer (B.Refused d) k m = R.Dropped d
+deliverOf networks kinds owners tenants n peer B.Pending k m = R.Pending
+deliverOf networks kinds owners tenants n peer (B.Frame f) k m =
+    answerAt (innerFrom networks kinds owners tenants n peer (f .kind) (f .network) (viewOf k m (placeOf (f .place)))) (f .place)
+
+-- ---- the last two in turn, with the sender's row
+
+unfoldable pub settleOf : (networks kinds owners tenants : List ℕ) (n : ℕ) → Arrival → Row → (packet memory : List ℕ) → Step
+settleOf networks kinds owners tenants n x row k m =
+    let c : Change = takeOf row x k m in
+    record { peer = x .peer; row = c .row; answer = deliverOf networks kinds owners tenants n (x .peer) (c .offer) k (c .mem); mem = c .mem }
+
+-- ---- with an endpoint's own columns
+
+abbrev pub openedBy : Endpoint → (packet : List ℕ) → (room : ℕ) → Arrival
+openedBy e k room = openOf (e .addresses) (e .own) (e .port) (min (e .«peer_count») 8) k room
+
+abbrev pub settledBy : Endpoint → Arrival → Row → (packet memory : List ℕ) → Step
+settledBy e x row k m = settleOf (e .networks) (e .kinds) (e .owners) (e .tenants) (min (e .«binding_count») 64) x row k m

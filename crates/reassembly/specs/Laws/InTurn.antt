@@ -1,0 +1,62 @@
+-- One after another (document 01, "Whose packet it is"): a run of the same segment packets alone, whole frame by whole frame. It is a mixing.
+use mathlib.Core.Path.{_≡_, refl, sym, ap, subst, _∙_}
+use mathlib.Core.Logic.{_⊎_, inl, inr, _≢_}
+use mathlib.Core.Bool.{Bool, true, false, cond, _&&_}
+use mathlib.Core.List.{List, [], _∷_, _++_, map}
+use Prim.Native.Nat.{ℕ, zero, suc, _+_, _-_, _*_, _≤_, _<_}
+use native.Mathlib.Omega.{arith}
+use lib.ListN.{length, getD}
+use lib.Dec.{ltb, leb, eqb}
+use Rattle.reassembly.specs.Base.{caseB}
+use Rattle.reassembly.specs.Receive.{Answers, Seen, Event, receive, tick}
+use Rattle.reassembly.specs.Mix.{Frame, Item, given, other, frameOf, segmentsOf, times, isSegment, ticks, tickItem, pendingAt, howMany, Free, AllFree, Mixing}
+use Rattle.reassembly.specs.Laws.MixFacts.{ticks-append}
+
+-- only segments, none else
+abbrev pub Given1 : Item → Type 0
+Given1 (given f j) = Unit {0}
+Given1 (other e) = ⊥
+
+abbrev pub Only : List Item → Type 0
+Only [] = Unit {0}
+Only (x ∷ xs) = Given1 x × Only xs
+
+-- one after another: the same segment packets alone, whole frame by whole frame
+pub record InTurn (frames : List Frame) (items : List Item) : Type 0 where
+  pub once : (f j : ℕ) → times f j items ≡ cond (isSegment frames f j) 1 0
+  pub only : Only items
+  pub one : (before : List Item) (now : Item) (after : List Item) → items ≡ before ++ (now ∷ after) → (f g : ℕ) → f < length frames → g < length frames
+      → pendingAt before now after f ≡ true → pendingAt before now after g ≡ true → f ≡ g
+
+-- a test that holds at one number below n at most
+at-most-one : (n : ℕ) (t : ℕ → Bool) → ((f g : ℕ) → f < n → g < n → t f ≡ true → t g ≡ true → f ≡ g) → howMany n t ≤ 1
+at-most-one zero t u = omega arith
+at-most-one (suc n) t u =
+    caseB (t n)
+    (λ e. rw e (omega (arith, none-below n t (λ f l. caseB (t f) (λ q. absurd (omega (arith, u f n (omega arith) (omega arith) q e))) (λ q. q)))))
+    (λ e. rw e (omega (arith, at-most-one n t (λ f g lf lg. u f g (omega arith) (omega arith)))))
+  where
+    none-below : (n : ℕ) (t : ℕ → Bool) → ((f : ℕ) → f < n → t f ≡ false) → howMany n t ≡ 0
+    none-below zero t h = refl
+    none-below (suc n) t h = rw (h n (omega arith)) (omega (arith, none-below n t (λ f l. h f (omega arith))))
+
+only-ticks : (xs : List Item) → Only xs → ticks xs ≡ 0
+only-ticks [] o = refl
+only-ticks (given f j ∷ xs) o = omega (arith, only-ticks xs (o .1))
+only-ticks (other e ∷ xs) o = absurd (o .0)
+
+only-free : (W : Answers) (header : List ℕ → Seen W) (p : ℕ) (xs : List Item) → Only xs → AllFree W header p xs
+only-free W header p [] o = tt
+only-free W header p (given f j ∷ xs) o = (tt, only-free W header p xs (o .1))
+only-free W header p (other e ∷ xs) o = absurd (o .0)
+
+pub in-turn : (W : Answers) (header : List ℕ → Seen W) (p : ℕ) (frames : List Frame) (items : List Item) → InTurn frames items → Mixing W header p frames items
+in-turn W header p frames items h =
+    record {
+      once = h .once;
+      rest = only-free W header p items (h .only);
+      apart = λ before now after is f g lf lg wf wg q. h .one before now after is f g lf lg wf wg;
+      four = λ before now after is. omega (arith, at-most-one (length frames) (pendingAt before now after) (λ f g lf lg wf wg. h .one before now after is f g lf lg wf wg));
+      soon = λ before middle after f j k is.
+          omega (arith, only-ticks items (h .only), ap ticks is, ticks-append before (given f j ∷ (middle ++ (given f k ∷ after))), ticks-append middle (given f k ∷ after));
+    }

@@ -1,0 +1,12 @@
+-- What stands here is there for proofs: laws of the definitions beside this folder, and the proofs of the statements.
+pub mod Bytes
+pub mod Sum
+pub mod Ipv4
+pub mod Udp
+pub mod Vxlan
+pub mod Nvgre
+pub mod Segment
+pub mod Stt
+pub mod Carriage
+pub mod Write
+pub mod WriteIs

@@ -1,0 +1,88 @@
+-- The reader of STT frames is sound and complete for the format, and blind to what document 01 ignores.
+-- Assumes nothing.
+use Prim.Native.Nat.{ℕ, zero, suc, _+_, _-_, _*_, _/_, _%_, _^_, _<_, _≤_}
+use mathlib.Core.Path.{_≡_, refl, sym, ap, subst, _∙_}
+use mathlib.Core.Logic.{_≢_}
+use mathlib.Core.Bool.{Bool, true, false, not}
+use mathlib.Core.List.{List, [], _∷_, _++_}
+use native.Mathlib.Omega.{arith}
+use borrow.Author.Tests.{eqb-false}
+use lib.ListN.{length, drop}
+use lib.Dec.{eqb}
+use Rattle.wire.specs.Bytes.{Bytes, be, beAt, _then_}
+use Rattle.wire.specs.Laws.Bytes.{as-fields, be-value, be-lt}
+use Rattle.wire.specs.Checks.{Passed, pass, passed, tests, passing}
+use Rattle.wire.specs.Stt.{stt, IsStt, sttChecks, sttOf}
+use Rattle.wire.specs.declared.stt.SttRead.the-variants as T
+
+record ReadsBack (flags context : ℕ) (frame s : List ℕ) : Type 0 where
+  version-is : beAt s 0 1 ≡ 0
+  flags-is : beAt s 1 1 ≡ flags
+  context-is : beAt s 8 8 ≡ context
+  frame-is : drop 18 s ≡ frame
+  long : length s ≡ 18 + length frame
+
+reads-back : (flags l4 reserved mss tag context padding : ℕ) (frame : List ℕ) → flags < 256 → context < 256 ^ 8
+    → ReadsBack flags context frame (stt 0 flags l4 reserved mss tag context padding frame)
+unfolding stt be beAt
+reads-back flags l4 reserved mss tag context padding frame h1 h2 = record {
+  version-is = refl;
+  flags-is = be-value 1 flags h1;
+  context-is = be-value 8 context h2;
+  frame-is = refl;
+  long = omega arith;
+}
+
+pub complete : {context : ℕ} {frame s : List ℕ} → IsStt context frame s → (sttOf s ≡ T.Header context) × (drop 18 s ≡ frame) × (length s ≡ 18 + length frame)
+unfolding sttOf sttChecks
+complete {context} {frame} {s} w =
+    let r : ReadsBack (w .flags) context frame s =
+    rw (w .is) (reads-back (w .flags) (w .l4) (w .reserved) (w .mss) (w .tag) context (w .padding) frame (w .flags-fit) (w .context-fits)) in
+    let n : beAt s 1 1 % 4 ≢ 3 = rw (r .flags-is) (w .not-both) in
+    (pass T.Refused (sttChecks s) _ (omega (arith, passing, r .version-is, r .long)) ∙ rw (r .context-is), r .frame-is, r .long)
+
+-- the bytes are a frame of version 0
+as-stt : (s : List ℕ) → Bytes s → 18 ≤ length s → beAt s 0 1 ≡ 0
+    → s ≡ stt 0 (beAt s 1 1) (beAt s 2 1) (beAt s 3 1) (beAt s 4 2) (beAt s 6 2) (beAt s 8 8) (beAt s 16 2) (drop 18 s)
+unfolding stt
+as-stt s b h v = as-fields s b (1 ∷ 1 ∷ 1 ∷ 1 ∷ 2 ∷ 2 ∷ 8 ∷ 2 ∷ []) 0 h ∙ ap (λ (x : ℕ). be 1 x then be 1 (beAt s 1 1) then be 1 (beAt s 2 1) then be 1 (beAt s 3 1) then be 2 (beAt s 4 2) then be 2 (beAt s 6 2) then be 8 (beAt s 8 8) then be 2 (beAt s 16 2) then drop 18 s) v
+
+pub record Accepted (s : List ℕ) (context : ℕ) : Type 0 where
+  pub is : IsStt context (drop 18 s) s
+  pub within : 18 ≤ length s
+
+pub sound : (s : List ℕ) → Bytes s → (context : ℕ) → sttOf s ≡ T.Header context → Accepted s context
+unfolding sttOf sttChecks stt
+sound s b context eq =
+    let p = passed T.Refused (sttChecks s) (T.Header (beAt s 8 8)) (T.Header context) (λ r e. let z : _≡_ {A = ℕ} 0 1 = cc in omega arith) eq in
+    let e : beAt s 8 8 ≡ context = cc (p .1) in
+    let h : 18 ≤ length s = omega (arith, tests) in
+    let v : beAt s 0 1 ≡ 0 = omega (arith, tests) in
+    record {
+      is = record {
+        flags = beAt s 1 1;
+        l4 = beAt s 2 1;
+        reserved = beAt s 3 1;
+        mss = beAt s 4 2;
+        tag = beAt s 6 2;
+        padding = beAt s 16 2;
+        is = rw e at (as-stt s b h v);
+        flags-fit = omega (arith, be-lt s b 1 1);
+        not-both = eqb-false (beAt s 1 1 % 4) 3 (p .0 .1 .1 .0);
+        context-fits = rw (← e) (be-lt s b 8 8);
+      };
+      within = h;
+    }
+
+-- ---- what is ignored: the answer depends on the length, the version, flags 0x01 and 0x02 and the Context ID alone, not on the other flags, the hints, the tag or the padding
+
+pub ignores : (s t : List ℕ) → length s ≡ length t → beAt s 0 1 ≡ beAt t 0 1 → beAt s 1 1 % 4 ≡ beAt t 1 1 % 4 → beAt s 8 8 ≡ beAt t 8 8 → sttOf s ≡ sttOf t
+unfolding sttOf sttChecks
+ignores s t l v f c = rw (l, v, f, c)
+
+-- what is read as a header is one, for any list
+pub stt-room : (s : List ℕ) (context : ℕ) → sttOf s ≡ T.Header context → 18 ≤ length s
+unfolding sttOf sttChecks
+stt-room s context eq =
+    let p = passed T.Refused (sttChecks s) (T.Header (beAt s 8 8)) (T.Header context) (λ r e. let z : _≡_ {A = ℕ} 0 1 = cc in omega arith) eq in
+    omega (arith, tests)
