@@ -18,6 +18,8 @@ use Rattle.endpoint.specs.declared.answer.Added.{Added}
 use Rattle.endpoint.specs.declared.answer.Added.the-variants as A
 use Rattle.endpoint.specs.declared.answer.Start.{Start}
 use Rattle.endpoint.specs.declared.answer.Start.the-variants as S
+use Rattle.endpoint.specs.declared.answer.Tick.{Tick}
+use Rattle.endpoint.specs.declared.answer.Tick.the-variants as T
 use Rattle.endpoint.specs.declared.answer.WrapRefusal.{WrapRefusal}
 use Rattle.endpoint.specs.declared.answer.WrapRefusal.the-variants as X
 use Rattle.endpoint.specs.declared.answer.Packet.{Packet}
@@ -57,9 +59,21 @@ abbrev pub addedCode : Added → ℕ
 addedCode (A.Number n) = 0
 addedCode (A.Refused r) = configCode r
 
+-- what an adding call gives back: its number, and the number of the new peer or binding. A refusal carries none
+pub record AddedValues : Type 0 where
+  pub number : ℕ
+  pub entry : Option ℕ
+
+abbrev pub addedValuesOf : Added → AddedValues
+addedValuesOf (A.Number n) = record { number = 0; entry = some n }
+addedValuesOf (A.Refused r) = record { number = configCode r; entry = none }
+
 abbrev pub startCode : Start → ℕ
 startCode S.Done = 0
 startCode (S.Refused r) = configCode r
+
+abbrev pub tickCode : Tick → ℕ
+tickCode T.Done = 0
 
 abbrev pub wrapRefusalCode : WrapRefusal → ℕ
 wrapRefusalCode X.Binding = 23

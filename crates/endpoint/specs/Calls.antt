@@ -1,25 +1,25 @@
 -- The calls, as their contracts give them, are the steps of the theory of runs: a receive is `receives`, a tick is `next .. tick`, a set-up has every slot free.
 -- So what is proved of `runs` is proved of every list of these calls, each given the endpoint and the memory that the last one left.
 -- Assumes nothing.
-use Prim.Native.Nat.{ℕ, _+_, _<_, _≤_, min}
-use mathlib.Core.Path.{_≡_, refl, sym, ap, ap₂, _∙_}
-use mathlib.Core.Bool.{Bool, true, false, cond}
+use Prim.Native.Nat.{ℕ}
+use mathlib.Core.Path.{_≡_, refl, ap, _∙_}
 use mathlib.Core.List.{List, [], _∷_}
 use lib.ListN.{length, getD, set}
 use lib.Seq.{set-getD}
 use lib.Dec.{ltb}
-use Rattle.reassembly.specs.Base.{caseB}
+use Rattle.reassembly.specs.Laws.Base.{caseB}
 use Rattle.reassembly.specs.Slots.{noRow}
 use Rattle.reassembly.specs.Receive.{Seen, stranger, plain, segment, Event, receive, tick}
-use Rattle.reassembly.specs.SetUp.{World, Endpoint as Ends, Said, receives, saidOf, next, runs, Promised}
+use Rattle.reassembly.specs.SetUp.{World, Said, receives, saidOf, next, runs, Promised}
 use Rattle.reassembly.specs.declared.slot.Row.{Row}
 use Rattle.endpoint.specs.Config.{Config, configOf, tickOf}
 use Rattle.endpoint.specs.Laws.Config.{rows-tick, config-tick}
-use Rattle.endpoint.specs.Receive.{answers, layers, headerOf, Step, rowAt, unchanged, stepped, stepOf, withRow, worldOf}
+use Rattle.endpoint.specs.Receive.{answers, layers, headerOf, Step, rowAt, stepped, stepOf, withRow, worldOf}
 use Rattle.endpoint.specs.Laws.Receive.{header-kept, header-whose, config-few}
 use Rattle.endpoint.specs.declared.answer.Drop.the-variants as D
 use Rattle.endpoint.specs.declared.answer.Received.the-variants as R
 use Rattle.endpoint.specs.declared.config.Endpoint.{Endpoint}
+pub use Rattle.endpoint.specs.Run.{Left, called, calls}
 
 -- ---- a row put back
 
@@ -59,25 +59,10 @@ receive-is e m k =
 
 -- ---- a tick
 
-pub tick-is : (e : Endpoint) (m : List ℕ) → worldOf (tickOf e) m ≡ next answers Config layers (worldOf e m) tick
+pub tick-is : (e : Endpoint) (m : List ℕ) → worldOf (tickOf e .endpoint) m ≡ next answers Config layers (worldOf e m) tick
 tick-is e m = rw (config-tick e, rows-tick e)
 
 -- ---- a run
-
--- the endpoint and the memory that a list of calls leaves
-pub record Left : Type 0 where
-  pub endpoint : Endpoint
-  pub mem : List ℕ
-
-abbrev pub called : Left → Event → Left
-called w tick = record { endpoint = tickOf (w .endpoint); mem = w .mem }
-called w (receive k) =
-    let s : Step = stepOf (w .endpoint) (w .mem) k in
-    record { endpoint = withRow (w .endpoint) (s .peer) (s .row); mem = s .mem }
-
-abbrev pub calls : Left → List Event → Left
-calls w [] = w
-calls w (e ∷ es) = calls (called w e) es
 
 called-is : (w : Left) (e : Event) → worldOf (called w e .endpoint) (called w e .mem) ≡ next answers Config layers (worldOf (w .endpoint) (w .mem)) e
 called-is w tick = tick-is (w .endpoint) (w .mem)

@@ -14,9 +14,11 @@ use Rattle.endpoint.specs.declared.answer.ConfigRefusal.{ConfigRefusal}
 use Rattle.endpoint.specs.declared.answer.ConfigRefusal.the-variants as C
 use Rattle.endpoint.specs.declared.answer.Added.the-variants as A
 use Rattle.endpoint.specs.declared.answer.Start.the-variants as S
+use Rattle.endpoint.specs.declared.answer.Tick.the-variants as T
 use Rattle.endpoint.specs.declared.config.Endpoint.{Endpoint}
 use Rattle.endpoint.specs.declared.config.Configured.{Configured}
 use Rattle.endpoint.specs.declared.config.Started.{Started}
+use Rattle.endpoint.specs.declared.tick.Ticked.{Ticked}
 
 -- ---- the configuration that an endpoint holds: all of it but the rows of slots
 
@@ -130,6 +132,7 @@ unfoldable pub startChecks : (own port mtu : ℕ) → List (Check ConfigRefusal)
 startChecks own port mtu =
     addressChecks own
     ++ ((eqb port 0 ⇒ C.OutOfRange)
+    ∷ (ltb 65535 port ⇒ C.OutOfRange)
     ∷ (ltb mtu 576 ⇒ C.OutOfRange)
     ∷ (ltb 1600 mtu ⇒ C.OutOfRange)
     ∷ [])
@@ -183,10 +186,11 @@ isNetwork kind network =
     || ((eqb kind 2 && (leb 4096 network && ltb network 16777215))
     || eqb kind 3)
 
-unfoldable pub addBindingChecks : Endpoint → (peer kind network : ℕ) → List (Check ConfigRefusal)
-addBindingChecks e peer kind network =
+unfoldable pub addBindingChecks : Endpoint → (peer kind network tenant : ℕ) → List (Check ConfigRefusal)
+addBindingChecks e peer kind network tenant =
     (leb (configOf e .peers) peer ⇒ C.OutOfRange)
     ∷ (not (isNetwork kind network) ⇒ C.OutOfRange)
+    ∷ (ltb 65535 tenant ⇒ C.OutOfRange)
     ∷ (isSome (findBinding (configOf e) peer kind network) ⇒ C.AlreadyListed)
     ∷ (leb 64 (e .«binding_count») ⇒ C.Full)
     ∷ []
@@ -208,13 +212,13 @@ withBinding e n peer kind network tenant = record {
 
 unfoldable pub addBindingOf : Endpoint → (peer kind network tenant : ℕ) → Configured
 addBindingOf e peer kind network tenant =
-    first (refusedAdd e) (addBindingChecks e peer kind network)
+    first (refusedAdd e) (addBindingChecks e peer kind network tenant)
     (record { endpoint = withBinding e (e .«binding_count») peer kind network tenant; answer = A.Number (e .«binding_count») })
 
--- ---- a tick (document 01, "Reassembly memory"): every pending frame grows older by 1, and those that reach 4 are freed. It changes nothing else
+-- ---- a tick (document 01, "Reassembly memory"): every pending frame grows older by 1, and those that reach 4 are freed. It changes nothing else, and always succeeds
 
-unfoldable pub tickOf : Endpoint → Endpoint
-tickOf e = withRows e (map olderRow (e .rows))
+unfoldable pub tickOf : Endpoint → Ticked
+tickOf e = record { endpoint = withRows e (map olderRow (e .rows)); answer = T.Done }
 
 -- ---- a set-up is what a start and any adding calls leave, refused ones too (document 01, "Whose packet it is")
 

@@ -1,124 +1,196 @@
--- DEMAND 1, of a receive: any packet, memory, endpoint and settings get one answer of the numbered table, and a refusal changes nothing, but for the one exception.
--- That processing ends, and that the call's answer, endpoint and memory are these for every input, is what the contract of `receive` says (`stepOf`).
--- Assumes nothing.
-use Prim.Native.Nat.{ℕ, zero, suc, _+_, _*_, _<_, _≤_}
-use mathlib.Core.Path.{_≡_, refl, _∙_}
-use mathlib.Core.Logic.{_⊎_, inl, inr}
-use mathlib.Core.Bool.{Bool, true, false, cond}
+-- DEMAND 1 (document 00): any packet, memory, settings or tick get one answer of the numbered table, and a refusal changes nothing, but for the one exception.
+-- One record, `Demand1`, for every call: start, adding, receive, tick, view and wrap, for every endpoint, memory, packet and number. The calls are those of the contracts (src/), which say
+-- that answer, endpoint, memory and output are these definitions' for every input, and that each call ends. Which number is given when is the table's (Table.antt).
+-- Only definitions; proved in Laws/Demand1.antt (`demand-one`).
+use Prim.Native.Nat.{ℕ, _+_, _<_, _≤_}
+use mathlib.Core.Path.{_≡_}
+use mathlib.Core.Logic.{_⊎_, _≢_}
+use mathlib.Core.Bool.{Bool, true, false, _||_}
 use mathlib.Core.List.{List, [], _∷_}
-use native.Mathlib.Omega.{arith}
-use lib.ListN.{length, set}
-use lib.Seq.{set-getD}
-use lib.Dec.{ltb}
-use lib.ListN.{List·getD-map}
-use Rattle.wire.specs.Refusal.{codeOf}
-use Rattle.wire.specs.declared.refusal.Refusal.{Refusal}
-use Rattle.wire.specs.declared.refusal.Refusal.the-variants as F
-use Rattle.reassembly.specs.Base.{caseB}
-use Rattle.reassembly.specs.Slots.{noRow}
-use Rattle.reassembly.specs.Take.{Seg, rejectionCode, slotNo, frameIn}
-use Rattle.reassembly.specs.Laws.TakeFacts.{rejection-codes}
-use Rattle.reassembly.specs.Store.{bytesOf, takeIn}
-use Rattle.reassembly.specs.Laws.TakeIn.{take-refused, take-no-memory}
-use Rattle.reassembly.specs.Receive.{Seen, stranger, plain, segment, Verdict, bad, good, spoken, told}
-use Rattle.reassembly.specs.declared.slot.Row.{Row}
-use Rattle.reassembly.specs.declared.take.Outcome.{Outcome}
-use Rattle.reassembly.specs.declared.take.Outcome.the-variants as O
-use Rattle.endpoint.specs.Answer.{dropCode, valuesOf}
-use Rattle.endpoint.specs.Config.{configOf}
-use Rattle.endpoint.specs.Receive.{answers, headerOf, judgeOf, Step, rowAt, unchanged, stepped, stepOf, withRow}
-use Rattle.endpoint.specs.declared.answer.Target.{Target}
-use Rattle.endpoint.specs.declared.answer.Drop.{Drop}
-use Rattle.endpoint.specs.declared.answer.Drop.the-variants as D
-use Rattle.endpoint.specs.declared.answer.Received.{Received}
-use Rattle.endpoint.specs.declared.answer.Received.the-variants as R
+use mathlib.Core.Option.{none, some}
+use lib.ListN.{length, getD, replicate}
+use lib.Dec.{eqb}
+use denote.Ref.{RefT}
+use Rattle.wire.specs.Bytes.{Bytes}
+use Rattle.reassembly.specs.Slots.{free, noRow}
+use Rattle.reassembly.specs.Take.{Seg}
+use Rattle.reassembly.specs.EveryRun.{mapAt, bitOf, Touches}
+use Rattle.reassembly.specs.declared.slot.Slot.{Slot}
+use Rattle.endpoint.specs.Answer.{placeOf, Values, valuesOf, startCode, AddedValues, addedValuesOf, tickCode, WrapValues, wrapValuesOf}
+use Rattle.endpoint.specs.Config.{Config, configOf, startOf, addPeerOf, addBindingOf, tickOf}
+use Rattle.endpoint.specs.View.{Viewed, ViewRule}
+use Rattle.endpoint.specs.Receive.{Step, stepOf, receiptOf}
+use Rattle.endpoint.specs.Wrap.{Wrote, wrapOf}
+use Rattle.endpoint.specs.Formats.{CarriesSegment}
+use Rattle.endpoint.specs.declared.answer.Place.{Place}
 use Rattle.endpoint.specs.declared.config.Endpoint.{Endpoint}
+use Rattle.endpoint.specs.declared.config.Configured.{Configured}
+use Rattle.endpoint.specs.declared.config.Started.{Started}
+use Rattle.endpoint.specs.declared.receive.Receipt.{Receipt}
 
--- ---- one answer of the table: 0 or 1, or a refusal's, 2 to 17
+-- ---- words
 
-pub record IsRefusal (n : ℕ) : Type 0 where
-  pub least : 2 ≤ n
-  pub most : n ≤ 17
+-- n is one of these numbers
+infix 45 _among_
+abbrev pub _among_ : ℕ → List ℕ → Bool
+n among [] = false
+n among (x ∷ xs) = eqb n x || n among xs
 
-format-code : (r : Refusal) → IsRefusal (codeOf r)
-format-code F.Truncated = record { least = omega arith; most = omega arith }
-format-code F.Version = record { least = omega arith; most = omega arith }
-format-code F.HeaderLength = record { least = omega arith; most = omega arith }
-format-code F.TotalLength = record { least = omega arith; most = omega arith }
-format-code F.HeaderChecksum = record { least = omega arith; most = omega arith }
-format-code F.Fragment = record { least = omega arith; most = omega arith }
-format-code F.Protocol = record { least = omega arith; most = omega arith }
-format-code F.Port = record { least = omega arith; most = omega arith }
-format-code F.Short = record { least = omega arith; most = omega arith }
-format-code F.UdpLength = record { least = omega arith; most = omega arith }
-format-code F.TcpLength = record { least = omega arith; most = omega arith }
-format-code F.DataOffset = record { least = omega arith; most = omega arith }
-format-code F.UdpChecksum = record { least = omega arith; most = omega arith }
-format-code F.TcpChecksum = record { least = omega arith; most = omega arith }
-format-code F.VxlanFlag = record { least = omega arith; most = omega arith }
-format-code F.GreFlags = record { least = omega arith; most = omega arith }
-format-code F.GreVersion = record { least = omega arith; most = omega arith }
-format-code F.GreTypeHigh = record { least = omega arith; most = omega arith }
-format-code F.GreTypeLow = record { least = omega arith; most = omega arith }
-format-code F.SttVersion = record { least = omega arith; most = omega arith }
-format-code F.SttFlags = record { least = omega arith; most = omega arith }
-format-code F.FrameLength = record { least = omega arith; most = omega arith }
-format-code F.FrameTag = record { least = omega arith; most = omega arith }
+-- slot s of peer p
+abbrev pub slotAt : Endpoint → (p s : ℕ) → Slot
+slotAt e p s = getD (getD (e .rows) p noRow .slots) s free
 
-pub drop-code : (d : Drop) → IsRefusal (dropCode d)
-drop-code D.Memory = record { least = omega arith; most = omega arith }
-drop-code (D.Format r) = format-code r
-drop-code D.Destination = record { least = omega arith; most = omega arith }
-drop-code D.Peer = record { least = omega arith; most = omega arith }
-drop-code D.Binding = record { least = omega arith; most = omega arith }
-drop-code (D.Segment r) = record { least = omega (arith, rejection-codes r .0); most = rejection-codes r .1 }
+-- entry n of the list becomes x, and every other entry stays
+pub record Entered (n x : ℕ) (l l′ : List ℕ) : Type 0 where
+  pub size : length l′ ≡ length l
+  pub new : n < length l → getD l′ n 0 ≡ x
+  pub others : (i : ℕ) → i ≢ n → getD l′ i 0 ≡ getD l i 0
 
--- ---- a refusal changes nothing
+pub record SameSettings (e e′ : Endpoint) : Type 0 where
+  pub own : e′ .own ≡ e .own
+  pub port : e′ .port ≡ e .port
+  pub mtu : e′ .mtu ≡ e .mtu
 
-pub record Nothing (e : Endpoint) (m : List ℕ) (s : Step) : Type 0 where
-  pub endpoint : withRow e (s .peer) (s .row) ≡ e
-  pub memory : s .mem ≡ m
+pub record SamePeers (e e′ : Endpoint) : Type 0 where
+  pub count : e′ .«peer_count» ≡ e .«peer_count»
+  pub addresses : e′ .addresses ≡ e .addresses
 
--- the exception: the packet carries a segment that makes its frame complete, and the frame is found bad (11, 12 or 13)
-pub record FoundBad (e : Endpoint) (m k : List ℕ) (d : Drop) : Type 0 where
+pub record SameBindings (e e′ : Endpoint) : Type 0 where
+  pub count : e′ .«binding_count» ≡ e .«binding_count»
+  pub owners : e′ .owners ≡ e .owners
+  pub kinds : e′ .kinds ≡ e .kinds
+  pub networks : e′ .networks ≡ e .networks
+  pub tenants : e′ .tenants ≡ e .tenants
+
+-- settings and listing: all of an endpoint but its slots
+pub record SameConfiguration (e e′ : Endpoint) : Type 0 where
+  pub settings : SameSettings e e′
+  pub peers : SamePeers e e′
+  pub bindings : SameBindings e e′
+
+-- ---- start: 0 or 18
+
+-- these settings, no listing, every other number 0 and every slot free
+pub record Blank (own port mtu : ℕ) (e : Endpoint) : Type 0 where
+  pub own-is : e .own ≡ own
+  pub port-is : e .port ≡ port
+  pub mtu-is : e .mtu ≡ mtu
+  pub no-peer : e .«peer_count» ≡ 0
+  pub no-binding : e .«binding_count» ≡ 0
+  pub addresses : e .addresses ≡ replicate 8 0
+  pub owners : e .owners ≡ replicate 64 0
+  pub kinds : e .kinds ≡ replicate 64 0
+  pub networks : e .networks ≡ replicate 64 0
+  pub tenants : e .tenants ≡ replicate 64 0
+  pub slots : e .rows ≡ replicate 8 (record { slots = replicate 4 (record { identifier = 0; «frame_length» = 0; age = 0; pending = false }) })
+
+pub record StartRule (own port mtu : ℕ) (r : Started) : Type 0 where
+  pub number : startCode (r .answer) among (0 ∷ 18 ∷ []) ≡ true
+  pub done : startCode (r .answer) ≡ 0 → Blank own port mtu (r .endpoint)
+  -- every number is 0
+  pub refused : startCode (r .answer) ≢ 0 → Blank 0 0 0 (r .endpoint)
+
+-- ---- adding: 0, 18, 19 or 20
+
+-- the address stands at the number that is answered, which was the count; the count grows by 1; nothing else moves
+pub record PeerAdded (e : Endpoint) (address : ℕ) (v : AddedValues) (e′ : Endpoint) : Type 0 where
+  pub entry : v .entry ≡ some (e .«peer_count»)
+  pub count : e′ .«peer_count» ≡ e .«peer_count» + 1
+  pub addresses : Entered (e .«peer_count») address (e .addresses) (e′ .addresses)
+  pub settings : SameSettings e e′
+  pub bindings : SameBindings e e′
+  pub slots : e′ .rows ≡ e .rows
+
+pub record BindingAdded (e : Endpoint) (peer kind network tenant : ℕ) (v : AddedValues) (e′ : Endpoint) : Type 0 where
+  pub entry : v .entry ≡ some (e .«binding_count»)
+  pub count : e′ .«binding_count» ≡ e .«binding_count» + 1
+  pub owners : Entered (e .«binding_count») peer (e .owners) (e′ .owners)
+  pub kinds : Entered (e .«binding_count») kind (e .kinds) (e′ .kinds)
+  pub networks : Entered (e .«binding_count») network (e .networks) (e′ .networks)
+  pub tenants : Entered (e .«binding_count») tenant (e .tenants) (e′ .tenants)
+  pub settings : SameSettings e e′
+  pub peers : SamePeers e e′
+  pub slots : e′ .rows ≡ e .rows
+
+-- `Added`: what a good call leaves
+pub record AddRule (e : Endpoint) (Added : AddedValues → Endpoint → Type 0) (r : Configured) : Type 0 where
+  pub number : addedValuesOf (r .answer) .number among (0 ∷ 18 ∷ 19 ∷ 20 ∷ []) ≡ true
+  pub done : addedValuesOf (r .answer) .number ≡ 0 → Added (addedValuesOf (r .answer)) (r .endpoint)
+  pub refused : addedValuesOf (r .answer) .number ≢ 0 → (r .endpoint ≡ e) × (addedValuesOf (r .answer) .entry ≡ none)
+
+-- ---- receive: 0 to 17
+
+-- what a refusal and answer 1 carry: no tenant, no binding, the empty place
+pub record Empties (v : Values) : Type 0 where
+  pub no-tenant : v .tenant ≡ none
+  pub no-binding : v .binding ≡ none
+  pub start : v .place .start ≡ 0
+  pub size : v .place .len ≡ 0
+  pub in-packet : v .place .inMemory ≡ false
+
+-- endpoint and memory are as they came
+pub record Unchanged (e : Endpoint) (m : List ℕ) (e′ : Endpoint) (m′ : List ℕ) : Type 0 where
+  pub endpoint : e′ ≡ e
+  pub memory : m′ ≡ m
+
+-- THE EXCEPTION: 11, 12 or 13, on the segment that makes its STT frame complete. It is stored, and its slot is given back
+pub record FoundBad (e : Endpoint) (m packet : List ℕ) (number : ℕ) (e′ : Endpoint) (m′ : List ℕ) : Type 0 where
+  pub is : number among (11 ∷ 12 ∷ 13 ∷ []) ≡ true
+  -- the packet carries the segment g of peer p
   pub p : ℕ
   pub g : Seg
-  pub carried : headerOf (configOf e) k ≡ segment p g
-  pub slot : ℕ
-  pub complete : takeIn p (rowAt e p) m g .outcome ≡ O.Complete slot
-  pub bad-frame : judgeOf (configOf e) p (takeIn p (rowAt e p) m g .note) (frameIn bytesOf (takeIn p (rowAt e p) m g .mem) (slotNo p slot) (g .frame-length)) ≡ bad d
+  pub carried : Bytes packet → CarriesSegment (configOf e) packet p g
+  -- its bytes are at their place in slot s and their bits are set; its place and the slot's map apart, no byte of the memory changed
+  pub s : ℕ
+  pub is-peer : p < 8
+  pub is-slot : s < 4
+  pub new : Bool
+  pub stored : Touches p s new g m m′
+  -- the frame is complete: every byte below its length is received
+  pub complete : (i : ℕ) → i < g .frame-length → bitOf m′ (mapAt p s) i ≡ true
+  -- the slot is free; every other slot is as it came, and the configuration
+  pub freed : slotAt e′ p s .pending ≡ false
+  pub other-slots : (q t : ℕ) → (q ≢ p) ⊎ (t ≢ s) → slotAt e′ q t ≡ slotAt e q t
+  pub configuration : SameConfiguration e e′
 
-pub same-row : (e : Endpoint) (p : ℕ) → withRow e p (rowAt e p) ≡ e
-same-row e p = rw (set-getD (e .rows) p noRow)
+pub record ReceiveRule (e : Endpoint) (m packet : List ℕ) (v : Values) (e′ : Endpoint) (m′ : List ℕ) : Type 0 where
+  pub number : v .number ≤ 17
+  pub empties : v .number ≢ 0 → Empties v
+  -- a refusal is every number but 0 and 1
+  pub refused : v .number ≢ 0 → v .number ≢ 1 → Unchanged e m e′ m′ ⊎ FoundBad e m packet (v .number) e′ m′
+  -- 11, 12 or 13 on an STT segment is always the exception
+  pub found-bad : (p : ℕ) (g : Seg) → CarriesSegment (configOf e) packet p g → v .number among (11 ∷ 12 ∷ 13 ∷ []) ≡ true → FoundBad e m packet (v .number) e′ m′
+  -- and no receive changes the configuration
+  pub configuration : SameConfiguration e e′
 
-unchanged-nothing : (e : Endpoint) (p : ℕ) (m : List ℕ) (a : Received) → Nothing e m (unchanged e p m a)
-unchanged-nothing e p m a = record { endpoint = same-row e p; memory = refl }
+-- ---- a tick: 0. It is given no memory and no output; the ages of the pending frames grow by 1, and those that reach 4 give their slots back
 
-same-nothing : (e : Endpoint) (p : ℕ) (m : List ℕ) (a : Received) (row : Row) (n : List ℕ) → row ≡ rowAt e p → n ≡ m → Nothing e m (record { peer = p; row = row; answer = a; mem = n })
-same-nothing e p m a row n q r = record { endpoint = rw q (same-row e p); memory = r }
+pub record TickRule (e : Endpoint) (number : ℕ) (e′ : Endpoint) : Type 0 where
+  pub is : number ≡ 0
+  pub younger : (p s : ℕ) → slotAt e p s .pending ≡ true → slotAt e p s .age + 1 < 4
+      → slotAt e′ p s ≡ record { identifier = slotAt e p s .identifier; «frame_length» = slotAt e p s .«frame_length»; age = slotAt e p s .age + 1; pending = true }
+  pub given-up : (p s : ℕ) → slotAt e p s .pending ≡ true → 4 ≤ slotAt e p s .age + 1 → slotAt e′ p s .pending ≡ false
+  pub idle : (p s : ℕ) → slotAt e p s .pending ≡ false → slotAt e′ p s ≡ slotAt e p s
+  pub configuration : SameConfiguration e e′
 
-spoken-bad : (x : Verdict answers) (i n : ℕ) (frame : List ℕ) (d : Drop) → spoken answers x i n frame .reply ≡ R.Dropped d → x ≡ bad d
-spoken-bad (bad b) i n frame d e = cc
-spoken-bad (good t) i n frame d e = let z : _≡_ {A = ℕ} 0 1 = cc in absurd (omega arith)
+-- ---- wrap: 0, 13, 21, 22 or 23. It only reads the endpoint
 
-module _ (e : Endpoint) (m k : List ℕ) (d : Drop) where
-  taken-refusal : (p : ℕ) (g : Seg) → headerOf (configOf e) k ≡ segment p g → (o : Outcome) → takeIn p (rowAt e p) m g .outcome ≡ o
-      → told answers (judgeOf (configOf e)) bytesOf p g (takeIn p (rowAt e p) m g) o .reply ≡ R.Dropped d
-      → Nothing e m (stepped e m (segment p g)) ⊎ FoundBad e m k d
-  taken-refusal p g h (O.Rejected r) q t = let x = take-refused p (rowAt e p) m g r q in inl (same-nothing e p m _ _ _ (x .0) (x .1))
-  taken-refusal p g h O.NoMemory q t = let x = take-no-memory p (rowAt e p) m g q in inl (same-nothing e p m _ _ _ (x .0) (x .1))
-  taken-refusal p g h O.Pending q t = let z : _≡_ {A = ℕ} 0 1 = cc in absurd (omega arith)
-  taken-refusal p g h (O.Complete s) q t =
-      inr (record { p = p; g = g; carried = h; slot = s; complete = q; bad-frame = spoken-bad _ _ _ _ d t })
+pub record WrapRule (output : List ℕ) (v : WrapValues) (output′ : List ℕ) : Type 0 where
+  pub number : v .number among (0 ∷ 13 ∷ 21 ∷ 22 ∷ 23 ∷ []) ≡ true
+  pub refused : v .number ≢ 0 → (output′ ≡ output) × ((v .length-is ≡ 0) × (v .segments ≡ 0))
+  -- what is written touches only the packet's bytes
+  pub size : length output′ ≡ length output
+  pub beyond : (i : ℕ) → v .length-is ≤ i → getD output′ i 0 ≡ getD output i 0
 
-  seen-refusal : (x : Seen answers) → headerOf (configOf e) k ≡ x → stepped e m x .answer ≡ R.Dropped d → Nothing e m (stepped e m x) ⊎ FoundBad e m k d
-  seen-refusal (stranger a) h t = inl (unchanged-nothing e 0 m a)
-  seen-refusal (plain p a) h t = inl (unchanged-nothing e p m a)
-  seen-refusal (segment p g) h t = taken-refusal p g h (takeIn p (rowAt e p) m g .outcome) refl t
+-- ---- THE STATEMENT
 
-  pub refusal : stepOf e m k .answer ≡ R.Dropped d → Nothing e m (stepOf e m k) ⊎ FoundBad e m k d
-  unfolding stepOf
-  refusal t =
-      caseB (ltb (length m) 55296)
-      (λ b. rw b (inl (unchanged-nothing e 0 m (R.Dropped D.Memory))))
-      (λ b. rw b (seen-refusal (headerOf (configOf e) k) refl (rw b at t)))
+pub record Demand1 : Type 0 where
+  pub start : (own port mtu : ℕ) → StartRule own port mtu (startOf own port mtu)
+  pub add-peer : (e : Endpoint) (address : ℕ) → AddRule e (PeerAdded e address) (addPeerOf e address)
+  pub add-binding : (e : Endpoint) (peer kind network tenant : ℕ) → AddRule e (BindingAdded e peer kind network tenant) (addBindingOf e peer kind network tenant)
+  pub receive : (e : Endpoint) (memory packet : List ℕ)
+      → ReceiveRule e memory packet (valuesOf (stepOf e memory packet .answer)) (receiptOf e (stepOf e memory packet) .endpoint) (stepOf e memory packet .mem)
+  pub tick : (e : Endpoint) → TickRule e (tickCode (tickOf e .answer)) (tickOf e .endpoint)
+  pub view : (packet memory : RefT (List ℕ)) (place : Place) (r : RefT (List ℕ)) → Viewed packet memory (placeOf place) r → ViewRule packet memory place r
+  pub wrap : (e : Endpoint) (binding : ℕ) (frame : List ℕ) (segment identifier : ℕ) (output : List ℕ)
+      → WrapRule output (wrapValuesOf (wrapOf e binding frame segment identifier output .answer)) (wrapOf e binding frame segment identifier output .output)

@@ -23,7 +23,7 @@ use Rattle.wire.specs.Frame.{IsFrame}
 use Rattle.wire.specs.Write.{vxlanBody, vxlanPacket, nvgreBody, nvgrePacket, sttFrame, segmentBytes, segmentBody, segmentPacket}
 use Rattle.wire.specs.Laws.Write.{vxlan-is, vxlan-length-is, nvgre-is, nvgre-length-is, stt-is, stt-length, segment-is, segment-length-is, segment-bytes-is}
 use Rattle.wire.specs.Laws.WriteIs.{part-short, part-join, part-all, wrote-is}
-use Rattle.reassembly.specs.Base.{either}
+use Rattle.reassembly.specs.Laws.Base.{either}
 use Rattle.endpoint.specs.Config.{configOf}
 use Rattle.endpoint.specs.Wrap.{segmentsOf, segmentSize, packetOf, exceeds, kindAt, networkAt, peerAt, packetAt, wrapOf}
 use Rattle.endpoint.specs.Laws.Wrap.{Says, written-says, written-when, Ready, Listed, ready-listed, ByKind, vxlan, nvgre, stt, by-kind, packet-vxlan, packet-nvgre, packet-stt, one-vxlan, one-nvgre, many-stt, starts-within, ends-past}

@@ -5,12 +5,12 @@ pub mod View
 pub mod Receive
 pub mod Stages
 pub mod Wrap
+pub mod Run
 pub mod Calls
 pub mod Formats
 pub mod Demand1
 pub mod Demand2
 pub mod Demand3
-pub mod Demand2Runs
 pub mod Reached
 pub mod Demand2Writing
 pub mod RoundTrip

@@ -29,7 +29,7 @@ pub data Call : Type 0 where
 abbrev pub left : Endpoint → Call → Endpoint
 left e (add a) = added e a
 left e (got m k) = withRow e (stepOf e m k .peer) (stepOf e m k .row)
-left e ticked = tickOf e
+left e ticked = tickOf e .endpoint
 
 unfoldable pub leftBy : Endpoint → List Call → Endpoint
 leftBy e [] = e
@@ -78,9 +78,9 @@ peer-checks e s address a =
     let found : isSome (findPeer (configOf e) address) ≡ isSome (findPeer (configOf s) address) = ap (λ (c : Config). isSome (findPeer c address)) (a .config) in
     cc (port-of e s (a .config), own-of e s (a .config), a .peers)
 
-binding-checks : (e s : Endpoint) (peer kind network : ℕ) → Alike e s → addBindingChecks e peer kind network ≡ addBindingChecks s peer kind network
+binding-checks : (e s : Endpoint) (peer kind network tenant : ℕ) → Alike e s → addBindingChecks e peer kind network tenant ≡ addBindingChecks s peer kind network tenant
 unfolding addBindingChecks
-binding-checks e s peer kind network a = rw (a .config, a .bindings)
+binding-checks e s peer kind network tenant a = rw (a .config, a .bindings)
 
 -- the configuration with one more peer, and with one more binding
 abbrev withPeerIn : Config → (n address : ℕ) → Config
@@ -150,8 +150,8 @@ added-alike e s (addPeer address) h =
     (relates BothAlike (refusedAdd e) (refusedAdd s) (addPeerChecks e address) (peerAdded e address) (peerAdded s address) (λ r. h) (peer-alike e s address h))
 added-alike e s (addBinding peer kind network tenant) h =
     subst (λ (cs : List (Check ConfigRefusal)). Alike (addBindingOf e peer kind network tenant .endpoint) (first (refusedAdd s) cs (bindingAdded s peer kind network tenant) .endpoint))
-    (binding-checks e s peer kind network h)
-    (relates BothAlike (refusedAdd e) (refusedAdd s) (addBindingChecks e peer kind network) (bindingAdded e peer kind network tenant) (bindingAdded s peer kind network tenant) (λ r. h)
+    (binding-checks e s peer kind network tenant h)
+    (relates BothAlike (refusedAdd e) (refusedAdd s) (addBindingChecks e peer kind network tenant) (bindingAdded e peer kind network tenant) (bindingAdded s peer kind network tenant) (λ r. h)
     (binding-alike e s peer kind network tenant h))
 
 -- ---- the numbers stay of their types

@@ -57,6 +57,11 @@ pub enum Start {
     Refused(ConfigRefusal),
 }
 
+// A tick always succeeds: 0.
+pub enum Tick {
+    Done,
+}
+
 // Why nothing is written.
 pub enum WrapRefusal {
     // 23: no such binding

@@ -1,12 +1,13 @@
 // Document 01's number for each answer ("The numbered answers"), as specs/Answer.antt gives it.
 ghost use mathlib.Core.Path.{_≡_};
 ghost use Rattle.reassembly.specs.Take.{rejectionCode};
-ghost use Rattle.endpoint.specs.Answer.{dropCode, configCode, addedCode, startCode, valuesOf, wrapRefusalCode};
+ghost use Rattle.endpoint.specs.Answer.{dropCode, configCode, addedCode, startCode, tickCode, valuesOf, wrapRefusalCode};
 use crate::answer::Added;
 use crate::answer::ConfigRefusal;
 use crate::answer::Drop;
 use crate::answer::Received;
 use crate::answer::Start;
+use crate::answer::Tick;
 use crate::answer::WrapRefusal;
 use reassembly::take::Rejection;
 
@@ -71,6 +72,14 @@ pub fn start_code(answer: Start) -> u8
     match answer {
         Start::Done => 0,
         Start::Refused(r) => config_code(r),
+    }
+}
+
+pub fn tick_code(answer: Tick) -> u8
+    ensures { λ n. ⌜ n ≡ tickCode answer ⌝ }
+{
+    match answer {
+        Tick::Done => 0,
     }
 }
 

@@ -1,6 +1,11 @@
 // The configuration (document 01: listing): settings, peers and bindings.
 ghost use mathlib.Core.Path.{_≡_};
-ghost use Rattle.endpoint.specs.Config.{isNetwork, startOf, refusedStart, addPeerOf, addBindingOf, refusedAdd, freeRow, fresh};
+ghost use mathlib.Core.List.{[]};
+ghost use Rattle.endpoint.specs.Answer.{startCode, addedValuesOf};
+ghost use Rattle.wire.specs.Table.{numbered};
+ghost use Rattle.endpoint.specs.Table.{startRows, addPeerRows, addBindingRows};
+ghost use Rattle.endpoint.specs.Demand1.{StartRule, AddRule, PeerAdded, BindingAdded};
+ghost use Rattle.endpoint.specs.Config.{isNetwork, startOf, refusedStart, addPeerOf, addBindingOf, freeRow, fresh, lent};
 use crate::answer::Added;
 use crate::answer::ConfigRefusal;
 use crate::answer::Start;
@@ -81,8 +86,10 @@ fn refused_start() -> Started
 }
 
 // Starts an endpoint: our own address, the port on which STT is expected, and the largest outer packet that is written.
-pub fn start(own: u32, port: u16, mtu: u16) -> Started
+pub fn start(own: u32, port: u32, mtu: u32) -> Started
     ensures { λ r. ⌜ r ≡ startOf own port mtu ⌝ }
+    ensures { λ r. ⌜ startCode (r .answer) ≡ numbered (startRows own port mtu) ⌝ }
+    ensures { λ r. ⌜ StartRule own port mtu r ⌝ }
 {
     let first = own / 16777216;
     if first == 0 {
@@ -94,6 +101,9 @@ pub fn start(own: u32, port: u16, mtu: u16) -> Started
     if port == 0 {
         return refused_start();
     }
+    if 65535 < port {
+        return refused_start();
+    }
     if mtu < 576 {
         return refused_start();
     }
@@ -101,57 +111,70 @@ pub fn start(own: u32, port: u16, mtu: u16) -> Started
         return refused_start();
     }
     Started {
-        endpoint: blank(own, port, mtu),
+        endpoint: blank(own, port as u16, mtu as u16),
         answer: Start::Done,
     }
 }
 
-// A refused call leaves the endpoint as it came.
-fn unchanged(e: Endpoint, refusal: ConfigRefusal) -> Configured
-    ensures { λ r. ⌜ r ≡ refusedAdd e refusal ⌝ }
+// Lists a peer in the addresses and the count that are lent. The port of a refused start is 0: nothing is added to it.
+pub fn list_peer(
+    addresses: &mut [u32; 8],
+    count: &mut u16,
+    own: u32,
+    port: u16,
+    address: u32,
+) -> Added
+    ensures { λ r. ⌜ r ≡ addPeerOf (lent [] [] [] [] (now (addresses .entry)) own port 0 (now (count .entry)) 0) address .answer ⌝ }
+    ensures { λ _. ⌜ now (addresses .exit) ≡ addPeerOf (lent [] [] [] [] (now (addresses .entry)) own port 0 (now (count .entry)) 0) address .endpoint .addresses ⌝ }
+    ensures { λ _. ⌜ now (count .exit) ≡ addPeerOf (lent [] [] [] [] (now (addresses .entry)) own port 0 (now (count .entry)) 0) address .endpoint .«peer_count» ⌝ }
 {
-    Configured {
-        endpoint: e,
-        answer: Added::Refused(refusal),
-    }
-}
-
-// Lists a peer. The port of a refused start is 0: nothing is added to it.
-pub fn add_peer(e: Endpoint, address: u32) -> Configured
-    ensures { λ r. ⌜ r ≡ addPeerOf e address ⌝ }
-{
-    if e.port == 0 {
-        return unchanged(e, ConfigRefusal::OutOfRange);
+    if port == 0 {
+        return Added::Refused(ConfigRefusal::OutOfRange);
     }
     let first = address / 16777216;
     if first == 0 {
-        return unchanged(e, ConfigRefusal::OutOfRange);
+        return Added::Refused(ConfigRefusal::OutOfRange);
     }
     if 224 <= first {
-        return unchanged(e, ConfigRefusal::OutOfRange);
+        return Added::Refused(ConfigRefusal::OutOfRange);
     }
-    if address == e.own {
-        return unchanged(e, ConfigRefusal::OutOfRange);
+    if address == own {
+        return Added::Refused(ConfigRefusal::OutOfRange);
     }
-    let n = e.peer_count as usize;
-    let listed = find_peer(&e.addresses, least(n, 8), address);
+    let number = *count;
+    let n = number as usize;
+    let listed = find_peer(addresses, least(n, 8), address);
     if let Found::At(_) = listed {
-        return unchanged(e, ConfigRefusal::AlreadyListed);
+        return Added::Refused(ConfigRefusal::AlreadyListed);
     }
     if 8 <= n {
-        return unchanged(e, ConfigRefusal::Full);
+        return Added::Refused(ConfigRefusal::Full);
     }
+    addresses[n] = address;
+    *count = number + 1;
+    Added::Number(number)
+}
+
+// Lists a peer.
+pub fn add_peer(e: Endpoint, address: u32) -> Configured
+    ensures { λ r. ⌜ r ≡ addPeerOf e address ⌝ }
+    ensures { λ r. ⌜ addedValuesOf (r .answer) .number ≡ numbered (addPeerRows e address) ⌝ }
+    ensures { λ r. ⌜ AddRule e (PeerAdded e address) r ⌝ }
+{
+    let mut addresses = e.addresses;
+    let mut count = e.peer_count;
+    let answer = list_peer(&mut addresses, &mut count, e.own, e.port, address);
     let mut next = e;
-    next.addresses[n] = address;
-    next.peer_count = e.peer_count + 1;
+    next.addresses = addresses;
+    next.peer_count = count;
     Configured {
         endpoint: next,
-        answer: Added::Number(e.peer_count),
+        answer: answer,
     }
 }
 
 // The ids of a kind: VXLAN has 24 bits, NVGRE (RFC 7637, 3.3) reserves the first 4,096 and the last of its 24 bits, STT has 64.
-fn is_network(kind: u8, network: u64) -> bool
+fn is_network(kind: u32, network: u64) -> bool
     ensures { λ r. ⌜ r ≡ isNetwork kind network ⌝ }
 {
     if kind == 1 {
@@ -166,42 +189,93 @@ fn is_network(kind: u8, network: u64) -> bool
     kind == 3
 }
 
-// Binds a network of a listed peer to a tenant.
-pub fn add_binding(e: Endpoint, peer: u16, kind: u8, network: u64, tenant: u16) -> Configured
-    ensures { λ r. ⌜ r ≡ addBindingOf e peer kind network tenant ⌝ }
+// Lists a binding in the columns and the count that are lent.
+pub fn list_binding(
+    networks: &mut [u64; 64],
+    kinds: &mut [u8; 64],
+    owners: &mut [u8; 64],
+    tenants: &mut [u16; 64],
+    count: &mut u16,
+    peer_count: u16,
+    peer: u32,
+    kind: u32,
+    network: u64,
+    tenant: u32,
+) -> Added
+    ensures { λ r. ⌜ r ≡ addBindingOf (lent (now (networks .entry)) (now (kinds .entry)) (now (owners .entry)) (now (tenants .entry)) [] 0 0 0 «peer_count» (now (count .entry))) peer kind network tenant .answer ⌝ }
+    ensures { λ _. ⌜ now (networks .exit) ≡ addBindingOf (lent (now (networks .entry)) (now (kinds .entry)) (now (owners .entry)) (now (tenants .entry)) [] 0 0 0 «peer_count» (now (count .entry))) peer kind network tenant .endpoint .networks ⌝ }
+    ensures { λ _. ⌜ now (kinds .exit) ≡ addBindingOf (lent (now (networks .entry)) (now (kinds .entry)) (now (owners .entry)) (now (tenants .entry)) [] 0 0 0 «peer_count» (now (count .entry))) peer kind network tenant .endpoint .kinds ⌝ }
+    ensures { λ _. ⌜ now (owners .exit) ≡ addBindingOf (lent (now (networks .entry)) (now (kinds .entry)) (now (owners .entry)) (now (tenants .entry)) [] 0 0 0 «peer_count» (now (count .entry))) peer kind network tenant .endpoint .owners ⌝ }
+    ensures { λ _. ⌜ now (tenants .exit) ≡ addBindingOf (lent (now (networks .entry)) (now (kinds .entry)) (now (owners .entry)) (now (tenants .entry)) [] 0 0 0 «peer_count» (now (count .entry))) peer kind network tenant .endpoint .tenants ⌝ }
+    ensures { λ _. ⌜ now (count .exit) ≡ addBindingOf (lent (now (networks .entry)) (now (kinds .entry)) (now (owners .entry)) (now (tenants .entry)) [] 0 0 0 «peer_count» (now (count .entry))) peer kind network tenant .endpoint .«binding_count» ⌝ }
 {
-    let peers = least(e.peer_count as usize, 8);
     let owner = peer as usize;
-    if peers <= owner {
-        return unchanged(e, ConfigRefusal::OutOfRange);
+    if least(peer_count as usize, 8) <= owner {
+        return Added::Refused(ConfigRefusal::OutOfRange);
     }
     if !is_network(kind, network) {
-        return unchanged(e, ConfigRefusal::OutOfRange);
+        return Added::Refused(ConfigRefusal::OutOfRange);
     }
-    let n = e.binding_count as usize;
+    if 65535 < tenant {
+        return Added::Refused(ConfigRefusal::OutOfRange);
+    }
+    let number = *count;
+    let n = number as usize;
+    let narrow = kind as u8;
     let listed = find_binding(
-        &e.networks,
-        &e.kinds,
-        &e.owners,
+        networks,
+        kinds,
+        owners,
         least(n, 64),
         owner,
-        kind,
+        narrow,
         network,
     );
     if let Found::At(_) = listed {
-        return unchanged(e, ConfigRefusal::AlreadyListed);
+        return Added::Refused(ConfigRefusal::AlreadyListed);
     }
     if 64 <= n {
-        return unchanged(e, ConfigRefusal::Full);
+        return Added::Refused(ConfigRefusal::Full);
     }
+    networks[n] = network;
+    kinds[n] = narrow;
+    owners[n] = peer as u8;
+    tenants[n] = tenant as u16;
+    *count = number + 1;
+    Added::Number(number)
+}
+
+// Binds a network of a listed peer to a tenant.
+pub fn add_binding(e: Endpoint, peer: u32, kind: u32, network: u64, tenant: u32) -> Configured
+    ensures { λ r. ⌜ r ≡ addBindingOf e peer kind network tenant ⌝ }
+    ensures { λ r. ⌜ addedValuesOf (r .answer) .number ≡ numbered (addBindingRows e peer kind network tenant) ⌝ }
+    ensures { λ r. ⌜ AddRule e (BindingAdded e peer kind network tenant) r ⌝ }
+{
+    let mut networks = e.networks;
+    let mut kinds = e.kinds;
+    let mut owners = e.owners;
+    let mut tenants = e.tenants;
+    let mut count = e.binding_count;
+    let answer = list_binding(
+        &mut networks,
+        &mut kinds,
+        &mut owners,
+        &mut tenants,
+        &mut count,
+        e.peer_count,
+        peer,
+        kind,
+        network,
+        tenant,
+    );
     let mut next = e;
-    next.networks[n] = network;
-    next.kinds[n] = kind;
-    next.owners[n] = peer as u8;
-    next.tenants[n] = tenant;
-    next.binding_count = e.binding_count + 1;
+    next.networks = networks;
+    next.kinds = kinds;
+    next.owners = owners;
+    next.tenants = tenants;
+    next.binding_count = count;
     Configured {
         endpoint: next,
-        answer: Added::Number(e.binding_count),
+        answer: answer,
     }
 }

@@ -2,6 +2,11 @@
 ghost use mathlib.Core.Path.{_≡_};
 ghost use Prim.Native.Nat.{_+_, _≤_, min};
 ghost use lib.ListN.{length};
+ghost use Rattle.wire.specs.Bytes.{Bytes};
+ghost use Rattle.endpoint.specs.Answer.{valuesOf};
+ghost use Rattle.wire.specs.Table.{numbered};
+ghost use Rattle.endpoint.specs.Table.{receiveRows};
+ghost use Rattle.endpoint.specs.Demand1.{ReceiveRule};
 ghost use Rattle.endpoint.specs.Receive.{stepOf, receiptOf};
 ghost use Rattle.endpoint.specs.Stages.{ipDrop, sttDrop, strangerWith, contentFrom, openOf, offerAt, Lies, offerOf, takeOf, changedOf, deliverOf};
 use crate::answer::Drop;
@@ -286,10 +291,13 @@ pub fn deliver<'a, 'r>(
     }
 }
 
-// Receives a packet. The memory is lent; a delivered STT frame lies there until the next receive.
+// Receives a packet. The memory is lent; a delivered STT frame lies there until the next receive. Promised: answer, endpoint and memory are the
+// definition's; document 01's number is the table's; and demand 1.
 pub fn receive(e: Endpoint, packet: &[u8], memory: &mut [u8]) -> Receipt
     ensures { λ r. ⌜ r ≡ receiptOf e (stepOf e (now (memory .entry)) (now (packet .entry))) ⌝ }
     ensures { λ _. ⌜ now (memory .exit) ≡ stepOf e (now (memory .entry)) (now (packet .entry)) .mem ⌝ }
+    ensures { λ r. ⌜ (Bytes (now (packet .entry)) → valuesOf (r .answer) .number ≡ numbered (receiveRows e (now (memory .entry)) (now (packet .entry)))) ⌝ }
+    ensures { λ r. ⌜ ReceiveRule e (now (memory .entry)) (now (packet .entry)) (valuesOf (r .answer)) (r .endpoint) (now (memory .exit)) ⌝ }
 {
     let arrival = open(
         &e.addresses,

@@ -1,7 +1,8 @@
 // The view of a delivered frame (document 01, "Reassembly memory", its last paragraph): the second call, which hands a frame back as a part of
 // the packet or of the reassembly memory. Nothing is copied.
+ghost use mathlib.Core.Path.{_≡_};
 ghost use Rattle.endpoint.specs.Answer.{placeOf};
-ghost use Rattle.endpoint.specs.View.{Part, Viewed};
+ghost use Rattle.endpoint.specs.View.{Part, Viewed, cutWithin, cutOf};
 use crate::answer::Place;
 
 // The part of `s` from `start` on with `length` bytes; where `s` has not so many, the empty part at the packet's start. Any two numbers may come
@@ -36,4 +37,33 @@ where
     ensures { λ r. ⌜ Viewed (packet .entry) (memory .entry) (placeOf place) r ⌝ }
 {
     view_one(packet, memory, place)
+}
+
+// The place, if it fits a slice of `room` bytes; else the empty place, in the packet. The sum of its numbers may wrap: it is not formed.
+fn cut_within(room: usize, place: Place) -> Place
+    ensures { λ r. ⌜ r ≡ cutWithin room place ⌝ }
+{
+    let empty = Place {
+        start: 0,
+        length: 0,
+        in_memory: false,
+    };
+    if room < place.length {
+        return empty;
+    }
+    if room - place.length < place.start {
+        return empty;
+    }
+    place
+}
+
+// The part that `view` gives, as numbers: for a packet and a memory of these lengths, which of the two it is cut from, where it begins, and how many
+// bytes it has. For a caller behind a boundary that no reference crosses: it only adds a pointer.
+pub fn cut(packet_length: usize, memory_length: usize, place: Place) -> Place
+    ensures { λ r. ⌜ r ≡ cutOf «packet_length» «memory_length» place ⌝ }
+{
+    if place.in_memory {
+        return cut_within(memory_length, place);
+    }
+    cut_within(packet_length, place)
 }

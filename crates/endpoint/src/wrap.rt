@@ -3,6 +3,11 @@ ghost use mathlib.Core.Path.{_≡_};
 ghost use mathlib.Core.List.{[]};
 ghost use Prim.Native.Nat.{_+_, _*_, _<_, _≤_};
 ghost use lib.ListN.{length};
+ghost use Rattle.endpoint.specs.Answer.{wrapValuesOf};
+ghost use Rattle.endpoint.specs.Reached.{Reached};
+ghost use Rattle.wire.specs.Table.{numbered};
+ghost use Rattle.endpoint.specs.Table.{wrapRows};
+ghost use Rattle.endpoint.specs.Demand1.{WrapRule};
 ghost use Rattle.endpoint.specs.Config.{lent};
 ghost use Rattle.endpoint.specs.Wrap.{segmentsOf, exceeds, wrapOf};
 ghost use Rattle.endpoint.specs.Laws.WrapExits.{packetOn, Put, pieceOf, sendOf};
@@ -162,7 +167,7 @@ pub fn wrap_on<'a>(
     port: u16,
     mtu: u16,
     binding_count: u16,
-    binding: u16,
+    binding: u32,
     frame: &[u8],
     segment: u32,
     identifier: u32,
@@ -192,10 +197,11 @@ pub fn wrap_on<'a>(
 }
 
 // Writes the packet that carries the frame out on the binding, or that carries its segment of this number, at the front of the output. The identifier is
-// the STT frame's: the segments of a frame are asked for one a call, all under the same one. The endpoint is only read.
+// the STT frame's: the segments of a frame are asked for one a call, all under the same one. The endpoint is only read. Promised: answer and output are
+// the definition's; document 01's number is the table's; and demand 1.
 pub fn wrap(
     e: Endpoint,
-    binding: u16,
+    binding: u32,
     frame: &[u8],
     segment: u32,
     identifier: u32,
@@ -203,6 +209,8 @@ pub fn wrap(
 ) -> Wrapped
     ensures { λ r. ⌜ r ≡ wrapOf e binding (now (frame .entry)) segment identifier (now (output .entry)) .answer ⌝ }
     ensures { λ _. ⌜ now (output .exit) ≡ wrapOf e binding (now (frame .entry)) segment identifier (now (output .entry)) .output ⌝ }
+    ensures { λ r. ⌜ (Reached e → wrapValuesOf r .number ≡ numbered (wrapRows e binding (now (frame .entry)) segment (now (output .entry)))) ⌝ }
+    ensures { λ r. ⌜ WrapRule (now (output .entry)) (wrapValuesOf r) (now (output .exit)) ⌝ }
 {
     wrap_on(
         &e.networks,

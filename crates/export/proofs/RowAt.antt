@@ -30,7 +30,7 @@ use denote.Struct.Members.{Member}
 use denote.Struct.Parts.{PartsBack}
 use denote.Struct.Pick.{restAt, record-field-out, record-field-back}
 use Rattle.reassembly.specs.Slots.{noRow}
-use Rattle.reassembly.specs.Base.{map-set}
+use Rattle.reassembly.specs.Laws.Base.{map-set}
 use Rattle.endpoint.specs.Receive.{rowAt, withRow}
 use Rattle.reassembly.specs.declared.slot.Row.{Row}
 use Rattle.endpoint.specs.declared.config.Endpoint.{Endpoint}

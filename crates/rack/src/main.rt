@@ -20,7 +20,7 @@ fn with_peer(e: Endpoint, address: u32) -> Endpoint {
 }
 
 // Binds a network of a peer to a tenant.
-fn with_binding(e: Endpoint, peer: u16, kind: u8, network: u64, tenant: u16) -> Endpoint {
+fn with_binding(e: Endpoint, peer: u32, kind: u32, network: u64, tenant: u32) -> Endpoint {
     let made = config::add_binding(e, peer, kind, network, tenant);
     let answer = made.answer;
     text(b"binding ");

@@ -5,7 +5,7 @@ use endpoint::code;
 use program::print::decimal;
 use program::print::text;
 
-pub(crate) fn kind(k: u8) {
+pub(crate) fn kind(k: u32) {
     match k {
         1 => text(b"VXLAN"),
         2 => text(b"NVGRE"),

@@ -8,7 +8,8 @@ use native.Mathlib.Omega.{arith}
 use lib.ListN.{length, take, drop, getD, set, replicate, length-drop, length-replicate, take-append-drop}
 use lib.Seq.{take-all, take-length, drop-length, drop-drop, sets, sets-eq, length-sets, length-take-le, getD-drop}
 use borrow.Rule.Slice.PartMut.{midOf, putMid, post-is}
-use Rattle.reassembly.specs.Base.{someBelow, allBelow, someBelow-ext, allBelow-ext}
+use Rattle.reassembly.specs.Base.{someBelow, allBelow}
+use Rattle.reassembly.specs.Laws.Base.{someBelow-ext, allBelow-ext}
 use Rattle.reassembly.specs.Laws.Store.{setBits-behind}
 use Rattle.reassembly.specs.Store.{isOn, bitAt, setBits, slotStart, mapStart, clearAt, putAt, receivedAt}
 

@@ -1,8 +1,12 @@
 -- What stands here is there for proofs: laws of the definitions beside this folder, and the proofs of the statements.
+pub mod Search
+pub mod Base
+pub mod Slots
 pub mod TakeFacts
 pub mod Memory
 pub mod Sim
 pub mod Store
+pub mod Table
 pub mod Ghost
 pub mod CutFacts
 pub mod MixFacts
@@ -13,11 +17,18 @@ pub mod Claim
 pub mod Log
 pub mod RulesTake
 pub mod RulesTouch
-pub mod Rules
+pub mod EveryRun
 pub mod MixTest
 pub mod Tried
 pub mod Map
 pub mod Take
 pub mod TakeIn
+pub mod TakeTouch
 pub mod RulesTried
 pub mod StoreBytes
+pub mod Runs
+pub mod NonInterference
+pub mod Mixed
+pub mod HandBack
+pub mod Carried
+pub mod MadeUp

@@ -1,13 +1,14 @@
 -- Demand 3, second half, its words (document 01, "Whose packet it is"): a cut, a mixing, pending, ticks. Only definitions.
 use mathlib.Core.Path.{_≡_}
-use mathlib.Core.Bool.{Bool, true, false, cond, _&&_}
-use mathlib.Core.List.{List, [], _∷_, _++_, map}
-use Prim.Native.Nat.{ℕ, zero, suc, _+_, _≤_, _<_}
-use lib.ListN.{length, getD, take}
-use lib.Dec.{ltb, leb, eqb}
+use mathlib.Core.Bool.{Bool, true, cond, _&&_}
+use mathlib.Core.List.{List, [], _∷_, _++_}
+use Prim.Native.Nat.{_-_, ℕ, zero, suc, _+_, _≤_, _<_}
+use lib.ListN.{length, getD, take, drop}
+use lib.Dec.{ltb, eqb}
 use Rattle.reassembly.specs.Slots.{Note, Mark, noNote, noMark}
-use Rattle.reassembly.specs.Take.{Seg, noteAfter}
-use Rattle.reassembly.specs.Receive.{Answers, Verdict, bad, good, Seen, stranger, plain, segment, Event, receive, tick}
+use Rattle.reassembly.specs.Take.{Seg, noteAfter, slotNo}
+use Rattle.reassembly.specs.Receive.{Answers, Verdict, good, Seen, stranger, plain, segment, Event, receive, tick, Answer, bare}
+use Rattle.reassembly.specs.Store.{slotStart}
 
 -- one segment of a cut: the packet that carries it, its bytes of the frame, and its mark
 pub record Part : Type 0 where
@@ -138,3 +139,29 @@ pub record Mixing (W : Answers) (header : List ℕ → Seen W) (p : ℕ) (frames
   pub four : (before : List Item) (now : Item) (after : List Item) → items ≡ before ++ (now ∷ after) → howMany (length frames) (pendingAt before now after) ≤ 4
   -- each is complete before its fourth tick
   pub soon : (before middle after : List Item) (f j k : ℕ) → items ≡ before ++ (given f j ∷ (middle ++ (given f k ∷ after))) → ticks middle ≤ 3
+
+-- only segments, none else
+abbrev pub Given1 : Item → Type 0
+Given1 (given f j) = Unit {0}
+Given1 (other e) = ⊥
+
+abbrev pub Only : List Item → Type 0
+Only [] = Unit {0}
+Only (x ∷ xs) = Given1 x × Only xs
+
+-- one after another: the same segment packets alone, whole frame by whole frame
+pub record InTurn (frames : List Frame) (items : List Item) : Type 0 where
+  pub once : (f j : ℕ) → times f j items ≡ cond (isSegment frames f j) 1 0
+  pub only : Only items
+  pub one : (before : List Item) (now : Item) (after : List Item) → items ≡ before ++ (now ∷ after) → (f g : ℕ) → f < length frames → g < length frames
+      → pendingAt before now after f ≡ true → pendingAt before now after g ≡ true → f ≡ g
+
+-- what an answer to a segment of frame f must be, where `later` segments of it come after this one in the run
+pub record Right (W : Answers) (p : ℕ) (fr : Frame) (verdict : W .Good) (later : ℕ) (a : Answer W) : Type 0 where
+  -- not the last: 1
+  pub waits : 0 < later → a ≡ bare W (W .pending)
+  -- the last: 0, with what the verdict names (tenant and binding of its Context ID), in one of the peer's slots, with its bytes from 18 on
+  pub slot : ℕ
+  pub is-slot : slot < 4
+  pub delivers : later ≡ 0 → a .reply ≡ W .gives verdict (slotStart (slotNo p slot) + 18) (length (fr .content) - 18)
+  pub bytes : later ≡ 0 → a .bytes ≡ drop 18 (fr .content)

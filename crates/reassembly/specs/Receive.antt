@@ -1,13 +1,13 @@
 -- One receive, one tick, and a run of them, over any memory that is asked as `Ops` says.
 -- Parameters: what an answer is and carries (`Answers`); the header layer, which says whose packet it is and what it carries; and the judgement of a complete frame, which is applied here, above taking.
-use mathlib.Core.Path.{_≡_, refl}
+use mathlib.Core.Path.{_≡_}
 use mathlib.Core.Bool.{Bool, true, false, cond}
-use mathlib.Core.List.{List, [], _∷_, _++_, map}
-use Prim.Native.Nat.{ℕ, zero, suc, _+_, _-_, _*_, _≤_, _<_}
-use lib.ListN.{length, getD, take, drop, set}
-use lib.Dec.{ltb, leb, eqb}
-use Rattle.reassembly.specs.Slots.{Slot, Row, Note, noRow, olderRow}
-use Rattle.reassembly.specs.Take.{slotNo, Seg, Ops, Rejection, Outcome, Rejected, Pending, Complete, NoMemory, Effect, frameIn, takeSegment}
+use mathlib.Core.List.{List, []}
+use Prim.Native.Nat.{ℕ, _+_, _-_}
+use lib.ListN.{length, take, drop}
+use lib.Dec.{leb}
+use Rattle.reassembly.specs.Slots.{Note}
+use Rattle.reassembly.specs.Take.{slotNo, Seg, Ops, Rejection, Outcome, Rejected, Pending, Complete, NoMemory, Effect, frameIn}
 use Rattle.reassembly.specs.Store.{slotStart}
 
 -- where an inner frame lies: a part of the packet or of the reassembly memory
@@ -58,11 +58,6 @@ pub data Event : Type 0 where
   receive : List ℕ → Event
   tick : Event
 
--- the rows and the memory
-pub record State (O : Ops) : Type 0 where
-  pub rows : List Row
-  pub mem : O .S
-
 -- peer p's row, among the eight: a frame's key is its peer and its identifier
 abbrev pub rowOf : ℕ → ℕ
 rowOf p = p
@@ -75,10 +70,6 @@ module _ (W : Answers) where
 
   abbrev pub bare : W .A → Answer
   bare a = record { reply = a; bytes = [] }
-
-  -- an answer that names a part of the packet has its bytes from there
-  abbrev pub fill : List ℕ → Answer → Answer
-  fill k a = cond (W .place (a .reply) .inMemory) a (record { reply = a .reply; bytes = partOfSlice k (W .place (a .reply) .start) (W .place (a .reply) .len) })
 
   -- what checks 11 to 13 say of a complete frame
   pub data Verdict : Type 0 where
@@ -107,24 +98,3 @@ module _ (W : Answers) where
         let frame : List ℕ = frameIn O (o .mem) (slotNo p s) (g .frame-length) in
         spoken (judge p (o .note) frame) (slotNo p s) (g .frame-length) frame
     told p g o NoMemory = bare (W .tooSmall)
-
-    pub record Out : Type 0 where
-      pub answer : Answer
-      pub state : State O
-
-    abbrev pub react : State O → Seen → Out
-    react e (stranger a) = record { answer = bare a; state = e }
-    react e (plain p a) = record { answer = bare a; state = e }
-    react e (segment p g) =
-        let o : Effect O = takeSegment O p (getD (e .rows) (rowOf p) noRow) (e .mem) g in
-        record { answer = told p g o (o .outcome); state = record { rows = set (e .rows) (rowOf p) (o .row); mem = o .mem } }
-
-    module _ (header : List ℕ → Seen) where
-      abbrev pub after : State O → Event → State O
-      after e tick = record { rows = map olderRow (e .rows); mem = e .mem }
-      after e (receive k) = react e (header k) .state
-
-      -- the state that a list of events leaves
-      abbrev pub run : State O → List Event → State O
-      run e [] = e
-      run e (ev ∷ evs) = run (after e ev) evs

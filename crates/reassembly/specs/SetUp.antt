@@ -1,21 +1,16 @@
--- THE CLAIM (demand 3; document 01, "Whose packet it is"): one statement about runs from a set-up, over the bytes of the memory.
--- A user supplies what an answer is (`Answers`), and the layers that read a configuration: header, judgement and source (`Layers`). Only definitions; proved in ClaimProof.
+-- A RUN (document 01, "Whose packet it is"): a set-up, receives and ticks over the bytes of one lent memory, and a peer's answers. Only definitions; what is claimed of runs stands in Claim.antt and EveryRun.antt.
+-- A user supplies what an answer is (`Answers`), and the layers that read a configuration: header, judgement and source (`Layers`).
 use mathlib.Core.Path.{_≡_}
-use mathlib.Core.Bool.{Bool, true, false, cond, _&&_}
+use mathlib.Core.Bool.{Bool, true, false, cond}
 use mathlib.Core.List.{List, [], _∷_, _++_, map}
 use mathlib.Core.Option.{Option, none, some}
-use Prim.Native.Nat.{ℕ, zero, suc, _+_, _*_, _≤_, _<_}
+use Prim.Native.Nat.{ℕ, _+_, _<_}
 use lib.ListN.{length, getD, set, replicate}
 use lib.Dec.{ltb, eqb}
-use Rattle.reassembly.specs.Slots.{Row, Note, noRow, olderRow}
-use Rattle.reassembly.specs.Take.{Seg, Effect}
+use Rattle.reassembly.specs.Slots.{Row, Note, noRow, olderRow, emptyRows}
+use Rattle.reassembly.specs.Take.{Effect}
 use Rattle.reassembly.specs.Store.{bytesOf, takeIn}
-use Rattle.reassembly.specs.Receive.{nowhere, rowOf, viewOf, Answers, Answer, bare, Verdict, Seen, stranger, plain, segment, Event, receive, tick, told}
-use Rattle.reassembly.specs.Runs.{strike}
-use Rattle.reassembly.specs.NonInterference.{emptyRows}
-use Rattle.reassembly.specs.Mix.{Frame, partOf, frameOf, Cut, Item, given, other, event, segmentsOf, Mixing}
-use Rattle.reassembly.specs.Mixed.{Right}
-use Rattle.reassembly.specs.Laws.InTurn.{InTurn}
+use Rattle.reassembly.specs.Receive.{nowhere, rowOf, viewOf, Answers, Answer, Verdict, Seen, stranger, plain, segment, Event, receive, tick, told}
 
 -- what reads a configuration: what a packet is taken for; what checks 11 to 13 say of a complete frame from this peer, of whose segments this was noted;
 -- and the peer whose packet it is: it passes checks 3 to 6 and its source is that peer
@@ -43,15 +38,14 @@ pub record Promised (W : Answers) (Config : Type 0) (U : Layers W Config) (c : C
   pub kept : (k : List ℕ) → Kept W (U .header c k)
   pub whose : (k : List ℕ) → peerOf W (U .header c k) ≡ U .source c k
 
--- two deliveries of one frame: both are answer 0 with the same verdict and length, and the same bytes; the places may differ
-pub record SameFrame (W : Answers) (a b : Answer W) : Type 0 where
-  pub verdict : W .Good
-  pub len : ℕ
-  pub place : ℕ
-  pub place′ : ℕ
-  pub first : a .reply ≡ W .gives verdict place len
-  pub second : b .reply ≡ W .gives verdict place′ len
-  pub bytes : a .bytes ≡ b .bytes
+-- other senders' packets struck out, where `own` says of a packet that it is the peer's
+abbrev pub keeps : (List ℕ → Bool) → Event → Bool
+keeps own tick = true
+keeps own (receive k) = own k
+
+abbrev pub strike : (List ℕ → Bool) → List Event → List Event
+strike own [] = []
+strike own (e ∷ es) = cond (keeps own e) (e ∷ strike own es) (strike own es)
 
 -- the endpoint: its configuration, and its eight rows
 pub record Endpoint (Config : Type 0) : Type 0 where
@@ -120,44 +114,3 @@ module _ (W : Answers) (Config : Type 0) (U : Layers W Config) where
   abbrev pub answersOf : ℕ → World Config → List Event → List (Answer W)
   answersOf p w [] = []
   answersOf p w (e ∷ es) = saidTo p w e ++ answersOf p (next w e) es
-
-  -- the answer to segment j of frame f, after the items `before`; how often a segment of frame f is answered 0
-  abbrev pub answerIn : World Config → List Frame → List Item → ℕ → ℕ → Answer W
-  answerIn w frames before f j = heard (runs w (map (event frames) before)) (partOf (frameOf frames f) j .packet)
-
-  abbrev pub delivery : List Frame → ℕ → World Config → Item → ℕ
-  delivery frames f w (given g j) = cond (eqb g f && W .delivered (heard w (partOf (frameOf frames g) j .packet) .reply)) 1 0
-  delivery frames f w (other e) = 0
-
-  abbrev pub deliveries : List Frame → ℕ → World Config → List Item → ℕ
-  deliveries frames f w [] = 0
-  deliveries frames f w (x ∷ xs) = delivery frames f w x + deliveries frames f (next w (event frames x)) xs
-
-  -- frames of peer p's, each cut into segments that its sound packets carry, and good for a listed network
-  abbrev pub Cuts : Config → ℕ → List Frame → Type 0
-  Cuts c p frames = (f : ℕ) → f < length frames → Cut W (U .header c) (U .judge c) p (frameOf frames f)
-
-  -- ---- THE CLAIM, of an endpoint that is a set-up, for peer p. A run starts with the endpoint and any memory of 55,296 bytes or more
-  pub record Claim (e : Endpoint Config) (p : ℕ) : Type 0 where
-    -- two runs from one set-up, over memories of one length and any contents, that are the same list once other senders' packets are struck out, give the peer the same answers
-    pub same : (m m′ : List ℕ) → 55296 ≤ length m → length m ≡ length m′ → (es es′ : List Event) → strike (from (e .config) p) es ≡ strike (from (e .config) p) es′
-        → answersOf p (record { ends = e; mem = m }) es ≡ answersOf p (record { ends = e; mem = m′ }) es′
-    -- an answer's bytes are those that the second call hands back at any time before the next receive: any number of ticks may come between
-    pub whenever : (m : List ℕ) (es : List Event) (k : List ℕ) (n : ℕ) → handedBack n (runs (record { ends = e; mem = m }) es) k ≡ heard (runs (record { ends = e; mem = m }) es) k .bytes
-    -- in a mixing of cuts of good frames, a segment that is not its frame's last in the run is answered 1; the last is answered 0, with the frame's verdict (tenant and binding) and inner frame
-    pub delivers : (frames : List Frame) (cuts : Cuts (e .config) p frames) (items : List Item) → Mixing W (U .header (e .config)) p frames items
-        → (m : List ℕ) → 55296 ≤ length m → (before after′ : List Item) (f j : ℕ) (lf : f < length frames) → items ≡ before ++ (given f j ∷ after′)
-        → Right W p (frameOf frames f) (cuts f lf .verdict) (segmentsOf f after′) (answerIn (record { ends = e; mem = m }) frames before f j)
-    -- so each frame is delivered once in the run: not twice, and not never
-    pub once : (frames : List Frame) → Cuts (e .config) p frames → (items : List Item) → Mixing W (U .header (e .config)) p frames items
-        → (m : List ℕ) → 55296 ≤ length m → (f : ℕ) → f < length frames → deliveries frames f (record { ends = e; mem = m }) items ≡ 1
-    -- and nothing else is delivered from the memory: no other answer to the peer in a mixing names it
-    pub nothing-else : (frames : List Frame) (items : List Item) → Mixing W (U .header (e .config)) p frames items
-        → (m : List ℕ) → 55296 ≤ length m → (before after′ : List Item) (k : List ℕ) → items ≡ before ++ (other (receive k) ∷ after′) → from (e .config) p k ≡ true
-        → W .place (heard (runs (record { ends = e; mem = m }) (map (event frames) before)) k .reply) .inMemory ≡ false
-    -- and a run of the same segment packets alone, whole frame by whole frame, delivers the same
-    pub one-after-another : (frames : List Frame) → Cuts (e .config) p frames → (items items′ : List Item)
-        → Mixing W (U .header (e .config)) p frames items → InTurn frames items′ → (m m′ : List ℕ) → 55296 ≤ length m → length m ≡ length m′
-        → (before after′ before″ after″ : List Item) (f j k : ℕ) → f < length frames
-        → items ≡ before ++ (given f j ∷ after′) → segmentsOf f after′ ≡ 0 → items′ ≡ before″ ++ (given f k ∷ after″) → segmentsOf f after″ ≡ 0
-        → SameFrame W (answerIn (record { ends = e; mem = m }) frames before f j) (answerIn (record { ends = e; mem = m′ }) frames before″ f k)

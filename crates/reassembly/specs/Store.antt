@@ -1,16 +1,15 @@
 -- The reassembly memory as bytes (document 01, "Reassembly memory"): slot k starts at byte 1,728 k, with 1,536 bytes of frame and a map of 192 bytes,
 -- whose bit i mod 8, lowest first, of byte i div 8 says that byte i is received. And what `take` gives over it.
-use mathlib.Core.Path.{_≡_, refl}
-use mathlib.Core.Bool.{Bool, true, false, cond, _&&_}
-use mathlib.Core.List.{List, [], _∷_, _++_}
-use Prim.Native.Nat.{ℕ, zero, suc, _+_, _-_, _*_, _/_, _%_, _^_, _≤_, _<_}
+use mathlib.Core.Bool.{Bool, cond, _&&_}
+use mathlib.Core.List.{List}
+use Prim.Native.Nat.{ℕ, zero, suc, _+_, _*_, _/_, _%_, _^_, _≤_}
 use lib.ListN.{length, getD, set, replicate}
 use lib.Seq.{sets}
 use lib.Dec.{ltb, leb, eqb}
 use lib.Bits.{bitOr}
-use borrow.Author.Tests.{lt-ltb, le-leb}
-use Rattle.reassembly.specs.Slots.{Row, noNote}
-use Rattle.reassembly.specs.Take.{Ops, Seg, Outcome, NoMemory, Effect, takeSegment}
+use Rattle.reassembly.specs.Slots.{Row, noNote, free}
+use Rattle.reassembly.specs.Take.{Ops, Seg, NoMemory, Effect, takeSegment, complete, Complete, Pending}
+use Rattle.reassembly.specs.declared.take.Taken.{Taken}
 
 -- bit j of the number x
 unfoldable pub isOn : ℕ → ℕ → Bool
@@ -65,6 +64,12 @@ hasSlots p m = ltb p 8 && leb 55296 (length m)
 unfoldable pub takeIn : ℕ → Row → List ℕ → Seg → Effect bytesOf
 takeIn p row m g = cond (hasSlots p m) (takeSegment bytesOf p row m g) (record { row = row; outcome = NoMemory; note = noNote; mem = m })
 
-pub take-in : (p : ℕ) (row : Row) (m : List ℕ) (g : Seg) → p < 8 → 55296 ≤ length m → takeIn p row m g ≡ takeSegment bytesOf p row m g
-unfolding hasSlots takeIn
-take-in p row m g l o = rw (lt-ltb p 8 l, le-leb 55296 (length m) o)
+-- what the code gives back of it: the row and the outcome
+unfoldable pub takenOf : Effect bytesOf → Taken
+takenOf e = record { row = e .row; outcome = e .outcome }
+
+unfoldable pub finished : ℕ → ℕ → Row → List ℕ → ℕ → Taken
+finished p s row m n =
+    cond (complete bytesOf m (4 * p + s) n)
+    (record { row = record { slots = set (row .slots) s free }; outcome = Complete s })
+    (record { row = row; outcome = Pending })

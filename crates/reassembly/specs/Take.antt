@@ -1,13 +1,12 @@
 -- Taking a segment (document 01, "The numbered answers" and "Reassembly memory"): 14, then 15 and 16 if the identifier is pending, otherwise 17; then the segment is taken.
 -- No judgement of a frame is known here. What is asked of the memory is a parameter (`Ops`).
-use mathlib.Core.Path.{_≡_, refl, sym, ap, _∙_}
-use mathlib.Core.Bool.{Bool, true, false, cond, not, _&&_, _||_}
-use mathlib.Core.List.{List, [], _∷_, map}
+use mathlib.Core.Path.{_≡_}
+use mathlib.Core.Bool.{Bool, true, false, cond, _||_}
+use mathlib.Core.List.{List}
 use mathlib.Core.Option.{Option, none, some}
-use Prim.Native.Nat.{ℕ, zero, suc, _+_, _*_, _≤_, _<_}
+use Prim.Native.Nat.{ℕ, _+_, _*_, _≤_, _<_}
 use lib.ListN.{length, getD, set}
-use lib.Seq.{set-getD}
-use lib.Dec.{ltb, leb, eqb}
+use lib.Dec.{ltb, eqb}
 use Rattle.wire.specs.declared.segment.Segment.{Segment}
 pub use Rattle.reassembly.specs.declared.take.Rejection.{Rejection}
 pub use Rattle.reassembly.specs.declared.take.Rejection.the-variants.{Empty, FrameLength, PastEnd, OtherLength, AlreadyReceived, NoSlot}
@@ -15,6 +14,8 @@ pub use Rattle.reassembly.specs.declared.take.Outcome.{Outcome}
 pub use Rattle.reassembly.specs.declared.take.Outcome.the-variants.{Rejected, Pending, Complete, NoMemory}
 use Rattle.reassembly.specs.Base.{someBelow, allBelow, table}
 use Rattle.reassembly.specs.Slots.{Slot, Row, Note, Mark, noNote, noMark, noted, noteOf, free, pendingSlot, first, bears, isFree}
+use Rattle.reassembly.specs.declared.take.Decision.{Decision}
+use Rattle.reassembly.specs.declared.take.Decision.the-variants.{Reject, Further, Open}
 
 -- a segment: what its header states, the bytes that it carries, and its mark
 pub record Seg : Type 0 where
@@ -35,6 +36,13 @@ rejectionCode PastEnd = 14
 rejectionCode OtherLength = 15
 rejectionCode AlreadyReceived = 16
 rejectionCode NoSlot = 17
+
+-- check 14 passes
+pub record Fits (g : Seg) : Type 0 where
+  pub some-byte : 0 < length (g .bytes)
+  pub least : 32 ≤ g .frame-length
+  pub most : g .frame-length ≤ 1532
+  pub inside : g .offset + length (g .bytes) ≤ g .frame-length
 
 -- what is asked of the reassembly memory: is byte i of slot k received, and which is it; the slot with its map cleared; a segment put to its place
 -- (`Ok`: it is large enough)
@@ -69,6 +77,27 @@ chosen row g =
     (cond (ltb (g .frame-length) (g .offset + length (g .bytes))) (reject PastEnd)
     (choose row g (first (bears (g .identifier)) row))))
 
+-- slot s holds the segment's frame
+pub record Old (row : List Slot) (g : Seg) (s : ℕ) : Type 0 where
+  pub fits : Fits g
+  pub is-slot : s < 4
+  pub pending : getD row s free .pending ≡ true
+  pub identifier : getD row s free .identifier ≡ g .identifier
+  pub size : getD row s free .«frame_length» ≡ g .frame-length
+
+-- no slot bears the segment's identifier, and slot s is free
+pub record Fresh (row : List Slot) (g : Seg) (s : ℕ) : Type 0 where
+  pub fits : Fits g
+  pub is-slot : s < 4
+  pub is-free : getD row s free .pending ≡ false
+  pub strange : (t : ℕ) → t < 4 → bears (g .identifier) (getD row t free) ≡ false
+
+-- the code's own words for a decision
+unfoldable pub decisionOf : Choice → Decision
+decisionOf (reject r) = Reject r
+decisionOf (old s) = Further s
+decisionOf (fresh s) = Open s
+
 -- ---- the effect
 
 -- slot s of peer p, among the 32
@@ -82,9 +111,6 @@ testedBytes g = length (g .bytes)
 -- what a further segment of a pending frame stores: all its bytes
 abbrev pub storedBytes : Seg → List ℕ
 storedBytes g = g .bytes
-
-pub stored-length : (g : Seg) → length (storedBytes g) ≡ length (g .bytes)
-stored-length g = refl
 
 abbrev pub noteAfter : Note → Seg → Note
 noteAfter t g = noted t (g .offset) (g .mark)
@@ -138,10 +164,3 @@ module _ (O : Ops) where
   -- peer p's segment
   unfoldable pub takeSegment : ℕ → Row → O .S → Seg → Effect
   takeSegment p row m g = placed p (row .slots) m g (chosen (row .slots) g)
-
--- where nothing is noted (the base), a further segment leaves the row: for code that writes no slot then
-pub further-row : (row : List Slot) (s : ℕ) (g : Seg) → getD row s free .pending ≡ true → set row s (furtherSlot (getD row s free) g) ≡ row
-further-row row s g e = ap (λ (v : Slot). set row s v) (same (getD row s free) e) ∙ set-getD row s free
-  where
-    same : (v : Slot) → v .pending ≡ true → furtherSlot v g ≡ v
-    same v e = ap (λ (b : Bool). record { identifier = v .identifier; «frame_length» = v .«frame_length»; age = v .age; pending = b }) (sym e)

@@ -1,7 +1,6 @@
 // The slots of a peer's row (document 01, "Reassembly memory").
 ghost use mathlib.Core.Path.{_≡_};
-ghost use Rattle.reassembly.specs.Slots.{free, first, bears, isFree};
-ghost use Rattle.reassembly.specs.Laws.Take.{foundOf};
+ghost use Rattle.reassembly.specs.Slots.{free, first, bears, isFree, foundOf};
 
 // A slot holds a pending frame or is free. The paper leaves open what numbers a free slot has: here they are all 0.
 #[repr(C)]

@@ -3,10 +3,8 @@
 ghost use mathlib.Core.Path.{_≡_};
 ghost use Prim.Native.Nat.{_+_, _<_, _≤_};
 ghost use lib.ListN.{length};
-ghost use Rattle.reassembly.specs.Take.{segOf, chosen, placed, old, fresh};
-ghost use Rattle.reassembly.specs.Laws.TakeFacts.{Old, Fresh};
-ghost use Rattle.reassembly.specs.Store.{bytesOf, takeIn};
-ghost use Rattle.reassembly.specs.Laws.Take.{decisionOf, takenOf, finished};
+ghost use Rattle.reassembly.specs.Take.{segOf, chosen, placed, old, fresh, Old, Fresh, decisionOf};
+ghost use Rattle.reassembly.specs.Store.{bytesOf, takeIn, takenOf, finished};
 use crate::memory;
 use crate::slot;
 use crate::slot::Found;
@@ -111,10 +109,10 @@ pub(crate) fn decide(row: Row, segment: Segment, bytes: &[u8]) -> Decision
         return Decision::Further(s);
     }
     let free = slot::find_free(row);
-    let Found::At(s) = free else {
+    let Found::At(lowest) = free else {
         return Decision::Reject(Rejection::NoSlot);
     };
-    Decision::Open(s)
+    Decision::Open(lowest)
 }
 
 // A further segment of the frame that is pending in slot s: 16, or it is stored.

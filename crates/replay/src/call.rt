@@ -5,7 +5,6 @@ use crate::record;
 use endpoint::answer::Place;
 use endpoint::config;
 use endpoint::config::Endpoint;
-use program::number::low8;
 use program::print::text;
 
 // The endpoint, how many bytes of the memory are lent, and the last packet's length. `done`: nothing more is to be read.
@@ -47,8 +46,8 @@ fn with(state: State, e: Endpoint) -> State {
 
 fn start(state: State, f: &[u8]) -> State {
     let own = number::low32(number::at(f, 0, 4));
-    let port = number::low16(number::at(f, 4, 6));
-    let mtu = number::low16(number::at(f, 6, 8));
+    let port = number::low32(number::at(f, 4, 6));
+    let mtu = number::low32(number::at(f, 6, 8));
     let made = config::start(own, port, mtu);
     let answer = made.answer;
     line::started(answer);
@@ -66,10 +65,10 @@ fn peer(state: State, f: &[u8]) -> State {
 }
 
 fn binding(state: State, f: &[u8]) -> State {
-    let owner = number::low16(number::at(f, 0, 2));
-    let kind = low8(number::at(f, 2, 3));
+    let owner = number::low32(number::at(f, 0, 2));
+    let kind = number::low32(number::at(f, 2, 3));
     let network = number::at(f, 3, 11);
-    let tenant = number::low16(number::at(f, 11, 13));
+    let tenant = number::low32(number::at(f, 11, 13));
     let made = config::add_binding(state.endpoint, owner, kind, network, tenant);
     let answer = made.answer;
     line::added(b"binding ", answer);
@@ -95,8 +94,10 @@ fn lend(state: State, f: &[u8], memory: &mut [u8]) -> State {
 }
 
 fn tick(state: State) -> State {
-    let e = endpoint::tick::tick(state.endpoint);
-    text(b"tick 0\n");
+    let made = endpoint::tick::tick(state.endpoint);
+    let answer = made.answer;
+    line::ticked(answer);
+    let e = made.endpoint;
     with(state, e)
 }
 
@@ -158,7 +159,7 @@ fn wrap_in(state: State, length: usize, f: &[u8], output: &mut [u8]) -> State {
         return broken(state);
     }
     number::fill_same(output, 170);
-    let binding = number::low16(number::at(f, 0, 2));
+    let binding = number::low32(number::at(f, 0, 2));
     let segment = number::low32(number::at(f, 2, 6));
     let identifier = number::low32(number::at(f, 6, 10));
     let frame = &f[12..length];

@@ -4,6 +4,7 @@ use endpoint::answer::Place;
 use endpoint::answer::Received;
 use endpoint::answer::Start;
 use endpoint::answer::Target;
+use endpoint::answer::Tick;
 use endpoint::answer::Wrapped;
 use endpoint::code;
 use program::number::hash;
@@ -13,6 +14,12 @@ use program::print::text;
 pub(crate) fn started(answer: Start) {
     text(b"start ");
     decimal(code::start_code(answer) as u64);
+    text(b"\n");
+}
+
+pub(crate) fn ticked(answer: Tick) {
+    text(b"tick ");
+    decimal(code::tick_code(answer) as u64);
     text(b"\n");
 }
 

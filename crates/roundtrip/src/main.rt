@@ -9,7 +9,7 @@ use endpoint::config::Endpoint;
 use tally::Tally;
 
 // An endpoint at `own` with one peer, bound to VXLAN 22, NVGRE 4,096 and STT 77.
-fn set_up(own: u32, peer: u32, mtu: u16) -> Endpoint {
+fn set_up(own: u32, peer: u32, mtu: u32) -> Endpoint {
     let started = config::start(own, 7471, mtu);
     let with_peer = config::add_peer(started.endpoint, peer);
     let vxlan = config::add_binding(with_peer.endpoint, 0, 1, 22, 7);
@@ -22,7 +22,7 @@ fn set_up(own: u32, peer: u32, mtu: u16) -> Endpoint {
 fn carry(
     t: Tally,
     sender: Endpoint,
-    binding: u16,
+    binding: u32,
     frame: &[u8],
     out: &mut [u8],
     memory: &mut [u8],
@@ -42,7 +42,7 @@ fn carry(
 fn one_size(
     t: Tally,
     sender: Endpoint,
-    binding: u16,
+    binding: u32,
     frame: &mut [u8],
     out: &mut [u8],
     memory: &mut [u8],
@@ -52,7 +52,7 @@ fn one_size(
     carry(t, sender, binding, frame, out, memory)
 }
 
-fn sizes(mtu: u16, binding: u16, frame: &mut [u8], out: &mut [u8], memory: &mut [u8]) {
+fn sizes(mtu: u32, binding: u32, frame: &mut [u8], out: &mut [u8], memory: &mut [u8]) {
     let sender = set_up(167772161, 167772162, mtu);
     let mut t = tally::begin(set_up(167772162, 167772161, mtu));
     let mut size: usize = 14;
@@ -66,7 +66,7 @@ fn sizes(mtu: u16, binding: u16, frame: &mut [u8], out: &mut [u8], memory: &mut 
     tally::write(t, mtu, binding);
 }
 
-fn kinds(mtu: u16, frame: &mut [u8], out: &mut [u8], memory: &mut [u8]) {
+fn kinds(mtu: u32, frame: &mut [u8], out: &mut [u8], memory: &mut [u8]) {
     sizes(mtu, 0, frame, out, memory);
     sizes(mtu, 1, frame, out, memory);
     sizes(mtu, 2, frame, out, memory);

@@ -19,7 +19,7 @@ fn content(i: usize, x: u64) -> u8 {
 }
 
 // x := 16 size + binding, then for each byte x := 1,103,515,245 x + 12,345 modulo 2^32; the byte is x div 65,536 modulo 256.
-pub(crate) fn fill(s: &mut [u8], size: usize, binding: u16) {
+pub(crate) fn fill(s: &mut [u8], size: usize, binding: u32) {
     let mut x = (size % 65536) as u64 * 16 + binding as u64;
     let mut i = 0;
     while i < s.len() {

@@ -26,7 +26,7 @@ pub(crate) fn begin(receiver: Endpoint) -> Tally {
 }
 
 // How many segments the frame has; one attempt where it is refused.
-pub(crate) fn segments(sender: Endpoint, binding: u16, frame: &[u8], out: &mut [u8]) -> usize {
+pub(crate) fn segments(sender: Endpoint, binding: u32, frame: &[u8], out: &mut [u8]) -> usize {
     let answer = endpoint::wrap::wrap(sender, binding, frame, 0, 0, out);
     match answer {
         Wrapped::Refused(_) => 1,
@@ -57,7 +57,7 @@ fn arrive(t: Tally, packet: &[u8], frame: &[u8], memory: &mut [u8]) -> Tally {
 pub(crate) fn step(
     t: Tally,
     sender: Endpoint,
-    binding: u16,
+    binding: u32,
     k: u32,
     frame: &[u8],
     out: &mut [u8],
@@ -86,7 +86,7 @@ fn item(name: &[u8], n: u64) {
     decimal(n);
 }
 
-pub(crate) fn write(t: Tally, mtu: u16, binding: u16) {
+pub(crate) fn write(t: Tally, mtu: u32, binding: u32) {
     item(b"mtu ", mtu as u64);
     item(b" kind ", number::more(binding as u64));
     item(b" packets ", t.packets);

@@ -8,5 +8,7 @@ pub mod Nvgre
 pub mod Segment
 pub mod Stt
 pub mod Carriage
+pub mod Table
 pub mod Write
 pub mod WriteIs
+pub mod Refusal

@@ -10,5 +10,6 @@ pub mod Segment
 pub mod Stt
 pub mod Frame
 pub mod Carriage
+pub mod Table
 pub mod Write
 pub mod Laws

@@ -13,7 +13,7 @@ use lib.Seq.{getD-set-same, getD-set-other}
 use lib.Dec.{eqb}
 use borrow.Author.Tests.{eq-eqb, ne-eqb, le-leb, leb-false, eqb-true, eqb-false, not-false}
 use Rattle.wire.specs.Checks.{Check, _⇒_, first, Passed}
-use Rattle.reassembly.specs.Base.{caseB, either, clash}
+use Rattle.reassembly.specs.Laws.Base.{caseB, either, clash}
 use Rattle.reassembly.specs.Slots.{olderRow}
 use Rattle.endpoint.specs.declared.answer.ConfigRefusal.the-variants as C
 use Rattle.endpoint.specs.declared.answer.Start.the-variants as S
@@ -26,7 +26,7 @@ use Rattle.endpoint.specs.Laws.ConfigExits.{peerAdded, bindingAdded, add
 
 -- ---- what a call leaves: the endpoint as it came, or the one with the addition
 
-cases : {R A : Type 0} (P : A → Type 0) (refused : R → A) (checks : List (Check R)) (accepted : A)
+pub cases : {R A : Type 0} (P : A → Type 0) (refused : R → A) (checks : List (Check R)) (accepted : A)
     → ((r : R) → P (refused r)) → (Passed checks → P accepted) → P (first refused checks accepted)
 cases P refused [] accepted f g = g tt
 cases P refused ((true ⇒ r) ∷ checks) accepted f g = f r
@@ -42,10 +42,10 @@ unfolding addPeerOf
 add-peer-cases P e address f g = cases (λ (x : Configured). P (x .endpoint)) (refusedAdd e) (addPeerChecks e address) (peerAdded e address) (λ r. f) g
 
 pub add-binding-cases : (P : Endpoint → Type 0) (e : Endpoint) (peer kind network tenant : ℕ) → P e
-    → (Passed (addBindingChecks e peer kind network) → P (withBinding e (e .«binding_count») peer kind network tenant)) → P (addBindingOf e peer kind network tenant .endpoint)
+    → (Passed (addBindingChecks e peer kind network tenant) → P (withBinding e (e .«binding_count») peer kind network tenant)) → P (addBindingOf e peer kind network tenant .endpoint)
 unfolding addBindingOf
 add-binding-cases P e peer kind network tenant f g =
-    cases (λ (x : Configured). P (x .endpoint)) (refusedAdd e) (addBindingChecks e peer kind network) (bindingAdded e peer kind network tenant) (λ r. f) g
+    cases (λ (x : Configured). P (x .endpoint)) (refusedAdd e) (addBindingChecks e peer kind network tenant) (bindingAdded e peer kind network tenant) (λ r. f) g
 
 -- ---- a refused start (document 01, "Listing and numbers"): adding to it is 18, and leaves it as it is
 
@@ -63,11 +63,11 @@ pub rows-fresh : (own port mtu : ℕ) → fresh own port mtu .rows ≡ replicate
 unfolding fresh
 rows-fresh own port mtu = refl
 
-pub rows-tick : (e : Endpoint) → tickOf e .rows ≡ map olderRow (e .rows)
+pub rows-tick : (e : Endpoint) → tickOf e .endpoint .rows ≡ map olderRow (e .rows)
 unfolding tickOf
 rows-tick e = refl
 
-pub config-tick : (e : Endpoint) → configOf (tickOf e) ≡ configOf e
+pub config-tick : (e : Endpoint) → configOf (tickOf e .endpoint) ≡ configOf e
 unfolding configOf tickOf
 config-tick e = refl
 
@@ -202,16 +202,16 @@ module _ (e : Endpoint) (peer kind network tenant : ℕ) where
       let miss = lowest-none (binds (e .networks) (e .kinds) (e .owners) peer kind network) (min (e .«binding_count») 64) (none-of (findBinding (configOf e) peer kind network) h) i (omega arith) in
       differ (sym (binds-hit (e .networks) (e .kinds) (e .owners) peer kind network i m k o) ∙ miss)
 
-  binding-added-valid : Valid e → Passed (addBindingChecks e peer kind network) → Valid (withBinding e (e .«binding_count») peer kind network tenant)
+  binding-added-valid : Valid e → Passed (addBindingChecks e peer kind network tenant) → Valid (withBinding e (e .«binding_count») peer kind network tenant)
   unfolding addBindingChecks withBinding fresh configOf addressAt
   binding-added-valid v p =
       let n : ℕ = e .«binding_count» in
       let owner : peer < min (e .«peer_count») 8 = leb-false (min (e .«peer_count») 8) peer (p .0) in
-      let room : e .«binding_count» < 64 = leb-false 64 (e .«binding_count») (p .1 .1 .1 .0) in
+      let room : e .«binding_count» < 64 = leb-false 64 (e .«binding_count») (p .1 .1 .1 .1 .0) in
       let wn : length (e .networks) ≡ 64 = v .networks-length in
       let wk : length (e .kinds) ≡ 64 = v .kinds-length in
       let wo : length (e .owners) ≡ 64 = v .owners-length in
-      let other = unlisted-binding v (p .1 .1 .0) in
+      let other = unlisted-binding v (p .1 .1 .1 .0) in
       record {
         settings = either (v .settings) (λ s. inl s) (λ q. let z : e .«peer_count» ≡ 0 = ap (λ (x : Endpoint). x .«peer_count») q in absurd (omega arith));
         rows = v .rows;
@@ -249,14 +249,14 @@ module _ (e : Endpoint) (peer kind network tenant : ℕ) where
           → getD (set (e .owners) (e .«binding_count») peer) i 0 ≡ getD (set (e .owners) (e .«binding_count») peer) j 0
           → getD (set (e .kinds) (e .«binding_count») kind) i 0 ≡ getD (set (e .kinds) (e .«binding_count») kind) j 0
           → getD (set (e .networks) (e .«binding_count») network) i 0 ≡ getD (set (e .networks) (e .«binding_count») network) j 0
-          → Valid e → Passed (addBindingChecks e peer kind network) → ⊥
+          → Valid e → Passed (addBindingChecks e peer kind network tenant) → ⊥
       clashes i j x y o k m v p =
           let n : ℕ = e .«binding_count» in
-          let room : e .«binding_count» < 64 = leb-false 64 (e .«binding_count») (p .1 .1 .1 .0) in
+          let room : e .«binding_count» < 64 = leb-false 64 (e .«binding_count») (p .1 .1 .1 .1 .0) in
           let wn : length (e .networks) ≡ 64 = v .networks-length in
           let wk : length (e .kinds) ≡ 64 = v .kinds-length in
           let wo : length (e .owners) ≡ 64 = v .owners-length in
-          unlisted-binding v (p .1 .1 .0) i x
+          unlisted-binding v (p .1 .1 .1 .0) i x
           (sym (at-before (e .owners) n peer i x) ∙ o ∙ at-last (e .owners) n peer j (omega arith) y)
           (sym (at-before (e .kinds) n kind i x) ∙ k ∙ at-last (e .kinds) n kind j (omega arith) y)
           (sym (at-before (e .networks) n network i x) ∙ m ∙ at-last (e .networks) n network j (omega arith) y)

@@ -1,15 +1,18 @@
 -- The calls that make the configuration, as the proofs of the code cite them: exit by exit, lookup and range.
 -- Assumes nothing.
 use mathlib.Core.Path.{_≡_, refl, sym, ap, subst⁻¹, _∙_}
-use mathlib.Core.Bool.{Bool, true, false, _||_}
+use mathlib.Core.Bool.{Bool, true, false, not, _||_}
 use mathlib.Core.List.{List, [], _∷_}
 use mathlib.Core.Option.{Option, none, some}
 use Prim.Native.Nat.{ℕ, zero, suc, _+_, _<_, _≤_, min}
 use native.Mathlib.Nat.{zero-add, suc-add}
 use lib.ListN.{take, drop}
 use lib.Dec.{ltb, eqb}
-use borrow.Author.Tests.{le-leb, lt-leb, ne-eqb}
-use Rattle.wire.specs.Checks.{Check, _⇒_, At, given, decided, Passed}
+use native.Mathlib.Omega.{arith}
+use borrow.Author.Tests.{le-leb, lt-leb, ne-eqb, eqb-true}
+use Rattle.reassembly.specs.Laws.Base.{caseB, clash}
+use Rattle.wire.specs.Checks.{Check, _⇒_, first, At, given, decided, Passed}
+use Rattle.endpoint.specs.declared.answer.Added.{Added}
 use Rattle.endpoint.specs.declared.answer.Added.the-variants as A
 use Rattle.endpoint.specs.declared.answer.Start.the-variants as S
 use Rattle.endpoint.specs.declared.search.Found.{Found}
@@ -17,7 +20,7 @@ use Rattle.endpoint.specs.declared.search.Found.the-variants as F
 use Rattle.endpoint.specs.declared.config.Endpoint.{Endpoint}
 use Rattle.endpoint.specs.declared.config.Configured.{Configured}
 use Rattle.endpoint.specs.Search.{lowest, foundOf}
-use Rattle.endpoint.specs.Config.{configOf, hasAddress, findPeer, binds, findBinding, isSome, fresh, startChecks, refusedStart, startOf, refusedAdd, addPeerChecks, withAddress, addPeerOf, isNetwork, addBindingChecks, withBinding, addBindingOf}
+use Rattle.endpoint.specs.Config.{configOf, hasAddress, findPeer, binds, findBinding, isSome, fresh, startChecks, refusedStart, startOf, refusedAdd, addPeerChecks, withAddress, addPeerOf, isNetwork, addBindingChecks, withBinding, addBindingOf, lent}
 
 -- ---- ordered checks: behind k that are passed
 
@@ -46,10 +49,121 @@ module _ (e : Endpoint) (peer kind network tenant : ℕ) where
   abbrev pub bindingAdded : Configured
   bindingAdded = record { endpoint = withBinding e (e .«binding_count») peer kind network tenant; answer = A.Number (e .«binding_count») }
 
-  pub add-binding-exit : (n : ℕ) → At (addBindingChecks e peer kind network) n
-      → addBindingOf e peer kind network tenant ≡ given (refusedAdd e) (addBindingChecks e peer kind network) bindingAdded n
+  pub add-binding-exit : (n : ℕ) → At (addBindingChecks e peer kind network tenant) n
+      → addBindingOf e peer kind network tenant ≡ given (refusedAdd e) (addBindingChecks e peer kind network tenant) bindingAdded n
   unfolding addBindingOf
-  add-binding-exit n p = decided (refusedAdd e) (addBindingChecks e peer kind network) bindingAdded n p
+  add-binding-exit n p = decided (refusedAdd e) (addBindingChecks e peer kind network tenant) bindingAdded n p
+
+-- ---- an adding call reads and changes its own columns and count: what it makes of an endpoint of which only these are told makes up the whole call
+
+pull : {R A B : Type 0} (g : A → B) (refused : R → A) (checks : List (Check R)) (accepted : A)
+    → g (first refused checks accepted) ≡ first (λ (r : R). g (refused r)) checks (g accepted)
+pull g refused [] accepted = refl
+pull g refused ((true ⇒ r) ∷ checks) accepted = refl
+pull g refused ((false ⇒ r) ∷ checks) accepted = pull g refused checks accepted
+
+-- an endpoint of which only this is told
+abbrev pub peersOf : (addresses : List ℕ) (own port count : ℕ) → Endpoint
+peersOf addresses own port count = lent [] [] [] [] addresses own port 0 count 0
+
+abbrev pub bindingsOf : (networks kinds owners tenants : List ℕ) (peers count : ℕ) → Endpoint
+bindingsOf networks kinds owners tenants peers count = lent networks kinds owners tenants [] 0 0 0 peers count
+
+-- the endpoint e with these peers, and with these bindings
+abbrev pub withPeers : Endpoint → (addresses : List ℕ) (count : ℕ) → Endpoint
+withPeers e addresses count = record {
+  networks = e .networks;
+  rows = e .rows;
+  addresses = addresses;
+  own = e .own;
+  tenants = e .tenants;
+  port = e .port;
+  mtu = e .mtu;
+  «peer_count» = count;
+  «binding_count» = e .«binding_count»;
+  kinds = e .kinds;
+  owners = e .owners;
+}
+
+abbrev pub withBindings : Endpoint → (networks kinds owners tenants : List ℕ) (count : ℕ) → Endpoint
+withBindings e networks kinds owners tenants count = record {
+  networks = networks;
+  rows = e .rows;
+  addresses = e .addresses;
+  own = e .own;
+  tenants = tenants;
+  port = e .port;
+  mtu = e .mtu;
+  «peer_count» = e .«peer_count»;
+  «binding_count» = count;
+  kinds = kinds;
+  owners = owners;
+}
+
+-- what `list_peer` says of its answer and of what it leaves, and how that makes up the whole call
+module _ (addresses : List ℕ) (own port count address : ℕ) where
+  abbrev PeersAfter : Configured
+  PeersAfter = addPeerOf (peersOf addresses own port count) address
+
+  abbrev pub ListedPeer : Added → List ℕ → ℕ → Type 0
+  ListedPeer a xs n = (a ≡ PeersAfter .answer) × ((xs ≡ PeersAfter .endpoint .addresses) × (n ≡ PeersAfter .endpoint .«peer_count»))
+
+  -- its exit number n
+  pub list-peer-exit : (n : ℕ) → At (addPeerChecks (peersOf addresses own port count) address) n
+      → let c = given (refusedAdd (peersOf addresses own port count)) (addPeerChecks (peersOf addresses own port count) address) (peerAdded (peersOf addresses own port count) address) n in
+      ListedPeer (c .answer) (c .endpoint .addresses) (c .endpoint .«peer_count»)
+  list-peer-exit n p =
+      let q = sym (add-peer-exit (peersOf addresses own port count) address n p) in
+      (ap (λ (c : Configured). c .answer) q, (ap (λ (c : Configured). c .endpoint .addresses) q, ap (λ (c : Configured). c .endpoint .«peer_count») q))
+
+pub add-peer-out : (e : Endpoint) (address : ℕ) (a : Added) (xs : List ℕ) (n : ℕ) → ListedPeer (e .addresses) (e .own) (e .port) (e .«peer_count») address a xs n
+    → record { endpoint = withPeers e xs n; answer = a } ≡ addPeerOf e address
+unfolding addPeerOf addPeerChecks withAddress findPeer configOf
+add-peer-out e address a xs n w =
+    let s : Endpoint = peersOf (e .addresses) (e .own) (e .port) (e .«peer_count») in
+    rw (w .0, w .1 .0, w .1 .1)
+    (pull (λ (c : Configured). record { endpoint = withPeers e (c .endpoint .addresses) (c .endpoint .«peer_count»); answer = c .answer }) (refusedAdd s) (addPeerChecks s address) (peerAdded s address))
+
+module _ (networks kinds owners tenants : List ℕ) (peers count peer kind network tenant : ℕ) where
+  abbrev Told : Endpoint
+  Told = bindingsOf networks kinds owners tenants peers count
+
+  abbrev BindingsAfter : Configured
+  BindingsAfter = addBindingOf Told peer kind network tenant
+
+  abbrev pub ListedBinding : Added → (ns ks os ts : List ℕ) → ℕ → Type 0
+  ListedBinding a ns ks os ts n =
+      (a ≡ BindingsAfter .answer)
+      × ((ns ≡ BindingsAfter .endpoint .networks)
+      × ((ks ≡ BindingsAfter .endpoint .kinds)
+      × ((os ≡ BindingsAfter .endpoint .owners) × ((ts ≡ BindingsAfter .endpoint .tenants) × (n ≡ BindingsAfter .endpoint .«binding_count»)))))
+
+  pub list-binding-exit : (n : ℕ) → At (addBindingChecks Told peer kind network tenant) n
+      → let c = given (refusedAdd Told) (addBindingChecks Told peer kind network tenant) (bindingAdded Told peer kind network tenant) n in
+      ListedBinding (c .answer) (c .endpoint .networks) (c .endpoint .kinds) (c .endpoint .owners) (c .endpoint .tenants) (c .endpoint .«binding_count»)
+  list-binding-exit n p =
+      let q = sym (add-binding-exit Told peer kind network tenant n p) in (
+        ap (λ (c : Configured). c .answer) q,
+        (
+          ap (λ (c : Configured). c .endpoint .networks) q,
+          (
+            ap (λ (c : Configured). c .endpoint .kinds) q,
+            (ap (λ (c : Configured). c .endpoint .owners) q, (ap (λ (c : Configured). c .endpoint .tenants) q, ap (λ (c : Configured). c .endpoint .«binding_count») q)),
+          ),
+        ),
+      )
+
+pub add-binding-out : (e : Endpoint) (peer kind network tenant : ℕ) (a : Added) (ns ks os ts : List ℕ) (n : ℕ)
+    → ListedBinding (e .networks) (e .kinds) (e .owners) (e .tenants) (e .«peer_count») (e .«binding_count») peer kind network tenant a ns ks os ts n
+    → record { endpoint = withBindings e ns ks os ts n; answer = a } ≡ addBindingOf e peer kind network tenant
+unfolding addBindingOf addBindingChecks withBinding findBinding configOf
+add-binding-out e peer kind network tenant a ns ks os ts n w =
+    let s : Endpoint = bindingsOf (e .networks) (e .kinds) (e .owners) (e .tenants) (e .«peer_count») (e .«binding_count») in
+    rw (w .0, w .1 .0, w .1 .1 .0, w .1 .1 .1 .0, w .1 .1 .1 .1 .0, w .1 .1 .1 .1 .1)
+    (pull (λ (c : Configured). record {
+      endpoint = withBindings e (c .endpoint .networks) (c .endpoint .kinds) (c .endpoint .owners) (c .endpoint .tenants) (c .endpoint .«binding_count»);
+      answer = c .answer;
+    }) (refusedAdd s) (addBindingChecks s peer kind network tenant) (bindingAdded s peer kind network tenant))
 
 -- ---- what a lookup answers, as the test of check 19
 
@@ -99,3 +213,12 @@ module _ (kind network : ℕ) where
   pub stt-ids : (kind ≡ 1 → ⊥) → (kind ≡ 2 → ⊥) → eqb kind 3 ≡ isNetwork kind network
   unfolding isNetwork
   stt-ids a b = rw (ne-eqb kind 1 a, ne-eqb kind 2 b)
+
+-- a kind is 1, 2 or 3
+pub network-kind : (kind network : ℕ) → not (isNetwork kind network) ≡ false → kind < 256
+unfolding isNetwork
+network-kind kind network h =
+    caseB (eqb kind 1) (λ q. let e : kind ≡ 1 = eqb-true kind 1 q in omega arith) (λ a.
+    caseB (eqb kind 2) (λ q. let e : kind ≡ 2 = eqb-true kind 2 q in omega arith) (λ b.
+    caseB (eqb kind 3) (λ q. let e : kind ≡ 3 = eqb-true kind 3 q in omega arith) (λ c.
+    let z : true ≡ false = rw (a, b, c) at h in clash (cc))))

@@ -6,7 +6,7 @@ use mathlib.Core.Bool.{Bool, true, false, cond}
 use mathlib.Core.List.{List, [], _∷_, _++_}
 use mathlib.Core.Option.{Option, none, some}
 use native.Mathlib.Omega.{arith}
-use borrow.Author.Tests.{eqb-true, eq-eqb}
+use borrow.Author.Tests.{eqb-true, eqb-false, eq-eqb}
 use lib.ListN.{length, getD, drop, take}
 use lib.Dec.{eqb}
 use Rattle.wire.specs.Bytes.{Bytes, part}
@@ -32,19 +32,72 @@ use Rattle.wire.specs.declared.stt.SttRead.{SttRead}
 use Rattle.wire.specs.declared.stt.SttRead.the-variants as T
 use Rattle.wire.specs.declared.frame.FrameRead.{FrameRead}
 use Rattle.wire.specs.declared.frame.FrameRead.the-variants as F
+use Rattle.reassembly.specs.Laws.Base.{caseB, clash}
 use Rattle.reassembly.specs.Slots.{Note, noMark}
 use Rattle.reassembly.specs.Take.{Seg, segOf}
 use Rattle.reassembly.specs.Receive.{Seen, stranger, plain, segment, Verdict, bad, good}
 use Rattle.endpoint.specs.Search.{lowest}
-use Rattle.endpoint.specs.Config.{Config, findPeer, binds, findBinding}
+use Rattle.endpoint.specs.Laws.Search.{lowest-some, lowest-is, has-address, other-address, binds-hit, binds-all}
+use Rattle.endpoint.specs.Config.{Config, hasAddress, findPeer, binds, findBinding}
 use Rattle.endpoint.specs.Receive.{answers, frame?, bound?, innerFrom, answerAt, tunnelFrom, carried?, peer?, ours?, ip?, headerOf, stt?, sttFrom, judgeOf}
-use Rattle.endpoint.specs.Formats.{Bound, CarriesFrame, CarriesSegment, GoodFrame}
+use Rattle.endpoint.specs.Formats.{ListedPeer, IsBinding, Bound, CarriesFrame, CarriesSegment, GoodFrame}
 use Rattle.endpoint.specs.declared.answer.Place.{Place}
 use Rattle.endpoint.specs.declared.answer.Target.{Target}
 use Rattle.endpoint.specs.declared.answer.Drop.{Drop}
 use Rattle.endpoint.specs.declared.answer.Drop.the-variants as D
 use Rattle.endpoint.specs.declared.answer.Received.{Received}
 use Rattle.endpoint.specs.declared.answer.Received.the-variants as R
+
+-- ---- the lookups find what the listing's entries say
+
+pub peer-listed : (c : Config) (address p : ℕ) → findPeer c address ≡ some p → ListedPeer c address p
+unfolding findPeer hasAddress
+peer-listed c address p e =
+    let w = lowest-some (hasAddress (c .addresses) address) (c .peers) p e in
+    record {
+      below = w .below;
+      has = eqb-true (getD (c .addresses) p 0) address (w .passes);
+      lowest = λ i l. eqb-false (getD (c .addresses) i 0) address (w .least i l);
+    }
+
+pub peer-found : (c : Config) (address p : ℕ) → ListedPeer c address p → findPeer c address ≡ some p
+unfolding findPeer
+peer-found c address p w =
+    lowest-is (hasAddress (c .addresses) address) (c .peers) p
+    (record { below = w .below; passes = has-address (c .addresses) address p (w .has); least = λ i l. other-address (c .addresses) address i (w .lowest i l) })
+
+module _ (c : Config) (peer kind network : ℕ) where
+  abbrev matches : ℕ → Bool
+  matches i = binds (c .networks) (c .kinds) (c .owners) peer kind network i
+
+  is-binding : (i : ℕ) → matches i ≡ true → IsBinding c peer kind network i
+  is-binding i e =
+      let w = binds-all (c .networks) (c .kinds) (c .owners) peer kind network i e in
+      record { of-peer = w .2; of-kind = w .1; of-network = w .0 }
+
+  binds-is : (i : ℕ) → IsBinding c peer kind network i → matches i ≡ true
+  binds-is i w = binds-hit (c .networks) (c .kinds) (c .owners) peer kind network i (w .of-network) (w .of-kind) (w .of-peer)
+
+  pub binding-bound : (t : Target) → findBinding c peer kind network ≡ some (t .binding) → t .tenant ≡ getD (c .tenants) (t .binding) 0 → Bound c peer kind network t
+  unfolding findBinding
+  binding-bound t e tenant =
+      let w = lowest-some matches (c .bindings) (t .binding) e in
+      record {
+        below = w .below;
+        is = is-binding (t .binding) (w .passes);
+        lowest = λ i l q. clash (cc (w .least i l, binds-is i q));
+        tenant = tenant;
+      }
+
+  pub binding-found : (t : Target) → Bound c peer kind network t → findBinding c peer kind network ≡ some (t .binding)
+  unfolding findBinding
+  binding-found t w =
+      lowest-is matches (c .bindings) (t .binding)
+      (record {
+        below = w .below;
+        passes = binds-is (t .binding) (w .is);
+        least = λ i l. caseB (matches i) (λ q. absurd (w .lowest i l (is-binding i q))) (λ q. q);
+      })
 
 -- ---- the inner frame: bound and good
 
@@ -60,11 +113,11 @@ module _ (c : Config) (p kind network : ℕ) (frame : List ℕ) (t : Target) whe
   unfolding innerFrom findBinding
   inner-sound e =
       let x = inner-by c (lowest (binds (c .networks) (c .kinds) (c .owners) p kind network) (c .bindings)) (frameOf frame) t e in
-      (record { binding = x .0; tenant = x .1 .0 }, E.sound frame (x .1 .1))
+      (binding-bound c p kind network t (x .0) (x .1 .0), E.sound frame (x .1 .1))
 
   pub inner-complete : Bound c p kind network t → IsFrame frame → innerFrom (c .networks) (c .kinds) (c .owners) (c .tenants) (c .bindings) p kind network frame ≡ good t
   unfolding innerFrom findBinding
-  inner-complete b f = rw (b .binding, E.complete frame f, ← b .tenant)
+  inner-complete b f = rw (binding-found c p kind network t b, E.complete frame f, ← b .tenant)
 
 -- ---- a complete STT frame
 
@@ -134,7 +187,7 @@ segment-sound c k p g b e =
       source = h .source;
       payload = payload;
       ipv4 = rw (w .0, x .ours) at (a .is);
-      listed = x .listed;
+      listed = peer-listed c (h .source) p (x .listed);
       segment =
           rw (ap (λ (y : Seg). y .frame-length) (x .is), ap (λ (y : Seg). y .offset) (x .is), ap (λ (y : Seg). y .identifier) (x .is), bytes, x .ours) at (w .1 .is);
       no-mark = sym (ap (λ (y : Seg). y .mark) (x .is));
@@ -148,7 +201,7 @@ segment-complete c k p g w =
     let i = P.complete (w .ipv4) in
     let s = L.segment-complete (w .source) (c .own) (c .port) (g .frame-length) (g .offset) (g .identifier) (g .bytes) (w .payload) (w .segment) in
     let bytes : part k (n + m) (n + length (w .payload)) ≡ g .bytes = sym (part-drop k n (n + length (w .payload)) m) ∙ ap (drop m) (i .1) ∙ s .1 in
-    rw (i .0, eq-eqb (c .own) (c .own) refl, w .listed, i .1, s .0, bytes, ← w .no-mark)
+    rw (i .0, eq-eqb (c .own) (c .own) refl, peer-found c (w .source) p (w .listed), i .1, s .0, bytes, ← w .no-mark)
 
 -- ---- a packet whose frame is delivered from it
 
@@ -228,7 +281,7 @@ frame-sound c k p t place b e =
           payload = payload;
           ipv4 = rw (x .ours) at (a .is);
           peer = x .peer;
-          listed = x .listed;
+          listed = peer-listed c (h .source) (x .peer) (x .listed);
           kind = u .kind;
           network = u .network;
           tunnel = rw (same, x .ours) at (w .is);
@@ -257,7 +310,7 @@ frame-complete c k t frame w =
     let end : n + f .start + length frame ≡ size = omega (arith, f .long) in (
       place,
       (
-        rw (i .0, eq-eqb (c .own) (c .own) refl, w .listed, i .1, f .is, same, inner-complete c (w .peer) (w .kind) (w .network) frame t (w .bound) (w .good)),
+        rw (i .0, eq-eqb (c .own) (c .own) refl, peer-found c (w .source) (w .peer) (w .listed), i .1, f .is, same, inner-complete c (w .peer) (w .kind) (w .network) frame t (w .bound) (w .good)),
         record {
           in-packet = refl;
           within = omega (arith, P.ends-within (w .ipv4), f .long);

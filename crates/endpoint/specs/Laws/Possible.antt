@@ -1,27 +1,30 @@
--- Demand 3 is not empty (document 01, "Whose packet it is"): a set-up and real packets meet its hypotheses. Two frames of one peer's, each cut into two segments, are mixed,
--- with ticks and other senders' packets between; and by the claim each is delivered once in that run, to the tenant of its Context ID.
+-- Demand 3 is not empty (document 01, "Whose packet it is"): a set-up and real packets meet its hypotheses. Five frames of one peer's, each cut into two segments, are mixed, four
+-- pending at once and one under an identifier that is used again, with ticks, packets of the peer's own and other senders' between; and by the claim each is delivered once in that run, to the tenant of its
+-- Context ID.
 use mathlib.Core.Path.{_≡_, refl, sym, ap, subst, _∙_}
-use mathlib.Core.List.{List, [], map}
-use Prim.Native.Nat.{ℕ, _≤_, _<_}
+use mathlib.Core.Bool.{Bool, true, false, cond}
+use mathlib.Core.List.{List, [], _∷_, _++_, map}
+use Prim.Native.Nat.{ℕ, zero, suc, _+_, _-_, _≤_, _<_}
 use native.Mathlib.Omega.{arith}
 use lib.ListN.{length, take, drop}
-use Rattle.reassembly.specs.Base.{below-two}
+use Rattle.reassembly.specs.Laws.Base.{below-two}
 use Rattle.reassembly.specs.declared.slot.Row.{Row}
-use Rattle.reassembly.specs.Receive.{Answer, bare, Seen, segment}
-use Rattle.reassembly.specs.Runs.{strike}
-use Rattle.reassembly.specs.Mix.{Frame, partOf, states, frameOf, event, Cut, Item, notSegment, Mixing}
+use Rattle.reassembly.specs.Take.{slotNo}
+use Rattle.reassembly.specs.Store.{slotStart}
+use Rattle.reassembly.specs.Receive.{Answer, bare, Seen, segment, Event, receive, tick}
+use Rattle.reassembly.specs.SetUp.{strike, isPeer, peerOf, Promised, World, from, answersOf}
+use Rattle.reassembly.specs.Mix.{Right, Frame, partOf, states, frameOf, event, Cut, Item, notSegment, Mixing, InTurn}
 use Rattle.reassembly.specs.Laws.MixTest.{mixing}
-use Rattle.reassembly.specs.Laws.InTurn.{InTurn}
 use Rattle.reassembly.specs.Laws.OneByOne.{turns-in-turn}
-use Rattle.reassembly.specs.SetUp.{isPeer, peerOf, Promised, SameFrame, World, from, answersOf, answerIn, deliveries, Cuts, Claim}
-use Rattle.endpoint.specs.Demand3.{demand-three}
+use Rattle.reassembly.specs.Claim.{SameFrame, answerIn, deliveries, Cuts, Claim}
+use Rattle.endpoint.specs.Laws.Demand3.{demand-three}
 use Rattle.endpoint.specs.Config.{Config, configOf}
 use Rattle.endpoint.specs.Laws.Config.{set-up-valid}
 use Rattle.endpoint.specs.Receive.{answers, inMemory, headerOf, judgeOf, layers, worldOf}
 use Rattle.endpoint.specs.Laws.Receive.{header-kept, header-whose, config-few}
 use Rattle.endpoint.specs.declared.answer.Received.the-variants as R
-use Rattle.endpoint.specs.Laws.PossibleRun.{calls, ready, listed, inner-a, inner-b, frame-a, frame-b, frames, vxlan-packet, rival-packet, stray-packet, mixed, alone, turn}
-use Rattle.endpoint.specs.Laws.WorkedRun.{ready-config, heard-a0, heard-a1, heard-b0, heard-b1, worth-a, worth-b, heard-vxlan, heard-rival, heard-stray, mixes-frames, turns-frames}
+use Rattle.endpoint.specs.Laws.PossibleRun.{calls, ready, listed, inner-a, inner-b, frame-a, frame-b, frame-c, frame-d, frames, own-packet, broken-packet, vxlan-packet, rival-packet, stray-packet, mixed, alone, turn}
+use Rattle.endpoint.specs.Laws.WorkedRun.{ready-config, heard-a0, heard-a1, heard-b0, heard-b1, heard-c0, heard-c1, heard-d0, heard-d1, worth-a, worth-b, heard-own, heard-broken, heard-vxlan, heard-rival, heard-stray, mixes-frames, turns-frames}
 
 -- ---- what demand 3 asks for, of a configuration and a peer: cuts of good frames, a mixing of them, the same segments one after another, and a second run that is alike for the peer
 
@@ -55,10 +58,47 @@ cut-b = record {
   sound = below-two (λ j. headerOf listed (partOf frame-b j .packet) ≡ segment 0 (states frame-b j)) heard-b0 heard-b1;
 }
 
+abbrev cut-c : Cut answers (headerOf listed) (judgeOf listed) 0 frame-c
+cut-c = record {
+  verdict = record { tenant = 7; binding = 0 };
+  is-good = worth-a _;
+  least = omega arith;
+  most = omega arith;
+  bytes = refl;
+  some-byte = below-two (λ j. 0 < length (partOf frame-c j .bytes)) (omega arith) (omega arith);
+  sound = below-two (λ j. headerOf listed (partOf frame-c j .packet) ≡ segment 0 (states frame-c j)) heard-c0 heard-c1;
+}
+
+abbrev cut-d : Cut answers (headerOf listed) (judgeOf listed) 0 frame-d
+cut-d = record {
+  verdict = record { tenant = 8; binding = 1 };
+  is-good = worth-b _;
+  least = omega arith;
+  most = omega arith;
+  bytes = refl;
+  some-byte = below-two (λ j. 0 < length (partOf frame-d j .bytes)) (omega arith) (omega arith);
+  sound = below-two (λ j. headerOf listed (partOf frame-d j .packet) ≡ segment 0 (states frame-d j)) heard-d0 heard-d1;
+}
+
+-- what is to be shown of each number below five
+abbrev below-five : (P : ℕ → Type 0) → P 0 → P 1 → P 2 → P 3 → P 4 → (j : ℕ) → j < 5 → P j
+below-five P a b c d e zero l = a
+below-five P a b c d e (suc zero) l = b
+below-five P a b c d e (suc (suc zero)) l = c
+below-five P a b c d e (suc (suc (suc zero))) l = d
+below-five P a b c d e (suc (suc (suc (suc zero)))) l = e
+below-five P a b c d e (suc (suc (suc (suc (suc j))))) l = absurd (omega arith)
+
 abbrev cuts : Cuts answers Config layers listed 0 frames
-cuts = below-two (λ f. Cut answers (headerOf listed) (judgeOf listed) 0 (frameOf frames f)) cut-a cut-b
+cuts = below-five (λ f. Cut answers (headerOf listed) (judgeOf listed) 0 (frameOf frames f)) cut-a cut-b cut-c cut-d cut-a
 
 -- ---- the mixing: none of the other packets is a segment of peer 0's
+
+free-own : notSegment answers 0 (headerOf listed own-packet)
+free-own = rw heard-own tt
+
+free-broken : notSegment answers 0 (headerOf listed broken-packet)
+free-broken = rw heard-broken tt
 
 free-vxlan : notSegment answers 0 (headerOf listed vxlan-packet)
 free-vxlan = rw heard-vxlan tt
@@ -70,15 +110,26 @@ free-rival : notSegment answers 0 (headerOf listed rival-packet)
 free-rival = rw heard-rival (λ q. absurd (omega arith))
 
 is-mixing : Mixing answers (headerOf listed) 0 frames mixed
-is-mixing = mixing frames answers (headerOf listed) 0 mixed mixes-frames (tt, (tt, (tt, (free-vxlan, (tt, (free-stray, (free-rival, (tt, (tt, (tt, tt))))))))))
+is-mixing = mixing frames answers (headerOf listed) 0 mixed mixes-frames (tt, (tt, (tt, (free-own, (tt, (free-broken, (tt, (free-vxlan, (tt, (free-stray, (free-rival, (tt, (tt, (tt, (tt, (tt, (tt, (tt, tt))))))))))))))))))
 
 -- ---- whose packets they are
 
 own : (k : List ℕ) (x : Seen answers) → headerOf listed k ≡ x → from answers Config layers listed 0 k ≡ isPeer 0 (peerOf answers x)
 own k x e = ap (isPeer 0) (sym (header-whose listed (omega arith) k) ∙ ap (peerOf answers) e)
 
+-- another sender's packet is struck out
+struck-out : (mine : List ℕ → Bool) (before after : List Event) (k : List ℕ) → mine k ≡ false → strike mine (before ++ (receive k ∷ after)) ≡ strike mine (before ++ after)
+struck-out mine [] after k e = rw e
+struck-out mine (tick ∷ before) after k e = ap (λ (x : List Event). tick ∷ x) (struck-out mine before after k e)
+struck-out mine (receive j ∷ before) after k e = ap (λ (x : List Event). cond (mine j) (receive j ∷ x) x) (struck-out mine before after k e)
+
 is-alike : strike (from answers Config layers listed 0) (map (event frames) mixed) ≡ strike (from answers Config layers listed 0) (map (event frames) alone)
-is-alike = rw (own vxlan-packet _ heard-vxlan, own stray-packet _ heard-stray, own rival-packet _ heard-rival)
+is-alike =
+    let mine : List ℕ → Bool = from answers Config layers listed 0 in
+    let events : List Item → List Event = map (event frames) in
+    struck-out mine (events (take 7 mixed)) (events (drop 8 mixed)) vxlan-packet (own vxlan-packet _ heard-vxlan)
+    ∙ struck-out mine (events (take 7 mixed ++ take 1 (drop 8 mixed))) (events (drop 10 mixed)) stray-packet (own stray-packet _ heard-stray)
+    ∙ struck-out mine (events (take 7 mixed ++ take 1 (drop 8 mixed))) (events (drop 11 mixed)) rival-packet (own rival-packet _ heard-rival)
 
 -- ---- THE THEOREM: the hypotheses are met
 
@@ -96,16 +147,33 @@ pub record Delivers (tenant binding : ℕ) (frame : List ℕ) (a : Answer answer
   pub reply : a .reply ≡ inMemory (record { tenant = tenant; binding = binding }) place (length frame)
   pub bytes : a .bytes ≡ frame
 
--- what peer 0 is answered: frame 0's segments, then frame 1's, each in the order of the run
+-- what peer 0 is answered: to each frame's first segment in the run 1, though four are pending; to its last, 0; frame 4, under frame 0's identifier, is a frame of its own
 pub record Answered (w : World Config) : Type 0 where
-  pub a1 : answerIn answers Config layers w frames [] 0 1 ≡ bare answers R.Pending
-  pub a0 : Delivers 7 0 inner-a (answerIn answers Config layers w frames (take 8 mixed) 0 0)
-  pub b0 : answerIn answers Config layers w frames (take 2 mixed) 1 0 ≡ bare answers R.Pending
-  pub b1 : Delivers 8 1 inner-b (answerIn answers Config layers w frames (take 9 mixed) 1 1)
+  pub waits-0 : answerIn answers Config layers w frames [] 0 1 ≡ bare answers R.Pending
+  pub waits-1 : answerIn answers Config layers w frames (take 2 mixed) 1 0 ≡ bare answers R.Pending
+  pub waits-2 : answerIn answers Config layers w frames (take 4 mixed) 2 0 ≡ bare answers R.Pending
+  pub waits-3 : answerIn answers Config layers w frames (take 6 mixed) 3 1 ≡ bare answers R.Pending
+  pub last-0 : Delivers 7 0 inner-a (answerIn answers Config layers w frames (take 12 mixed) 0 0)
+  pub waits-4 : answerIn answers Config layers w frames (take 13 mixed) 4 0 ≡ bare answers R.Pending
+  pub last-1 : Delivers 8 1 inner-b (answerIn answers Config layers w frames (take 14 mixed) 1 1)
+  pub last-4 : Delivers 7 0 inner-a (answerIn answers Config layers w frames (take 15 mixed) 4 1)
+  pub last-2 : Delivers 7 0 inner-a (answerIn answers Config layers w frames (take 16 mixed) 2 1)
+  pub last-3 : Delivers 8 1 inner-b (answerIn answers Config layers w frames (take 17 mixed) 3 0)
+
+-- the last segment of frame f, with the right answer
+delivered : (tenant binding : ℕ) (fr : Frame) (inner : List ℕ) (a : Answer answers) → length (fr .content) - 18 ≡ length inner → drop 18 (fr .content) ≡ inner
+    → Right answers 0 fr (record { tenant = tenant; binding = binding }) 0 a → Delivers tenant binding inner a
+delivered tenant binding fr inner a n q r =
+    let place : ℕ = slotStart (slotNo 0 (r .slot)) + 18 in
+    record {
+      place = place;
+      reply = r .delivers refl ∙ ap (λ (x : ℕ). inMemory (record { tenant = tenant; binding = binding }) place x) n;
+      bytes = r .bytes refl ∙ q;
+    }
 
 module _ (m : List ℕ) (enough : 55296 ≤ length m) where
   -- each frame is delivered once in the run
-  pub delivered-once : (f : ℕ) → f < 2 → deliveries answers Config layers frames f (worldOf ready m) mixed ≡ 1
+  pub delivered-once : (f : ℕ) → f < 5 → deliveries answers Config layers frames f (worldOf ready m) mixed ≡ 1
   delivered-once f l = claimed .once frames (possible .cuts) mixed (possible .mixing) m enough f l
 
   -- with what its Context ID says
@@ -113,27 +181,31 @@ module _ (m : List ℕ) (enough : 55296 ≤ length m) where
   answered = rw ready-config (
       let c : Claim answers Config layers (record { config = listed; rows = ready .rows }) 0 = rw ready-config at claimed in
       let right = c .delivers frames cuts mixed is-mixing m enough in
-      let last-a = right (take 8 mixed) (drop 9 mixed) 0 0 (omega arith) refl in
-      let last-b = right (take 9 mixed) (drop 10 mixed) 1 1 (omega arith) refl in
       record {
-        a1 = right [] (drop 1 mixed) 0 1 (omega arith) refl .waits (omega arith);
-        a0 = record { place = _; reply = last-a .delivers refl; bytes = last-a .bytes refl };
-        b0 = right (take 2 mixed) (drop 3 mixed) 1 0 (omega arith) refl .waits (omega arith);
-        b1 = record { place = _; reply = last-b .delivers refl; bytes = last-b .bytes refl };
+        waits-0 = right [] (drop 1 mixed) 0 1 (omega arith) refl .waits (omega arith);
+        waits-1 = right (take 2 mixed) (drop 3 mixed) 1 0 (omega arith) refl .waits (omega arith);
+        waits-2 = right (take 4 mixed) (drop 5 mixed) 2 0 (omega arith) refl .waits (omega arith);
+        waits-3 = right (take 6 mixed) (drop 7 mixed) 3 1 (omega arith) refl .waits (omega arith);
+        last-0 = delivered 7 0 frame-a inner-a _ refl refl (right (take 12 mixed) (drop 13 mixed) 0 0 (omega arith) refl);
+        waits-4 = right (take 13 mixed) (drop 14 mixed) 4 0 (omega arith) refl .waits (omega arith);
+        last-1 = delivered 8 1 frame-b inner-b _ refl refl (right (take 14 mixed) (drop 15 mixed) 1 1 (omega arith) refl);
+        last-4 = delivered 7 0 frame-a inner-a _ refl refl (right (take 15 mixed) (drop 16 mixed) 4 1 (omega arith) refl);
+        last-2 = delivered 7 0 frame-c inner-a _ refl refl (right (take 16 mixed) (drop 17 mixed) 2 1 (omega arith) refl);
+        last-3 = delivered 8 1 frame-d inner-b _ refl refl (right (take 17 mixed) (drop 18 mixed) 3 0 (omega arith) refl);
       }
       )
 
   -- one after another, over another memory of that length, each last segment is answered the same
   module _ (m′ : List ℕ) (same : length m ≡ length m′) where
-    pub in-turn-a : SameFrame answers (answerIn answers Config layers (worldOf ready m) frames (take 8 mixed) 0 0) (answerIn answers Config layers (worldOf ready m′) frames (take 1 turn) 0 1)
-    in-turn-a =
+    pub in-turn-0 : SameFrame answers (answerIn answers Config layers (worldOf ready m) frames (take 12 mixed) 0 0) (answerIn answers Config layers (worldOf ready m′) frames (take 1 turn) 0 1)
+    in-turn-0 =
         claimed .one-after-another frames (possible .cuts) mixed turn (possible .mixing) (possible .in-turn) m m′ enough same
-        (take 8 mixed) (drop 9 mixed) (take 1 turn) (drop 2 turn) 0 0 1 (omega arith) refl refl refl refl
+        (take 12 mixed) (drop 13 mixed) (take 1 turn) (drop 2 turn) 0 0 1 (omega arith) refl refl refl refl
 
-    pub in-turn-b : SameFrame answers (answerIn answers Config layers (worldOf ready m) frames (take 9 mixed) 1 1) (answerIn answers Config layers (worldOf ready m′) frames (take 3 turn) 1 1)
-    in-turn-b =
+    pub in-turn-4 : SameFrame answers (answerIn answers Config layers (worldOf ready m) frames (take 15 mixed) 4 1) (answerIn answers Config layers (worldOf ready m′) frames (take 9 turn) 4 1)
+    in-turn-4 =
         claimed .one-after-another frames (possible .cuts) mixed turn (possible .mixing) (possible .in-turn) m m′ enough same
-        (take 9 mixed) (drop 10 mixed) (take 3 turn) (drop 4 turn) 1 1 1 (omega arith) refl refl refl refl
+        (take 15 mixed) (drop 16 mixed) (take 9 turn) (drop 10 turn) 4 1 1 (omega arith) refl refl refl refl
 
     -- and other senders' packets change none of its answers
     pub undisturbed : answersOf answers Config layers 0 (worldOf ready m) (map (event frames) mixed) ≡ answersOf answers Config layers 0 (worldOf ready m′) (map (event frames) alone)

@@ -1,4 +1,5 @@
--- A set-up, two STT frames in real packets, and a run that mixes them with other senders' packets (document 01, "Whose packet it is"): what Possible shows to meet demand 3's hypotheses.
+-- A set-up, five STT frames of one peer's in real packets, four of them pending at once and the fifth under an identifier that is used again, and a run that mixes them with packets of the peer's own, one
+-- delivered and one refused, and with other senders' (document 01, "Whose packet it is"): what Possible shows to meet demand 3's hypotheses.
 -- Only definitions. A number that stands alone is a byte.
 use Prim.Native.Nat.{ℕ}
 use mathlib.Core.List.{List, [], _∷_, _++_}
@@ -9,7 +10,7 @@ use Rattle.reassembly.specs.Mix.{Frame, Item, given, other}
 use Rattle.endpoint.specs.Config.{Config, Adding, addPeer, addBinding, setUp}
 use Rattle.endpoint.specs.declared.config.Endpoint.{Endpoint}
 
--- ---- the set-up: we are 10.0.0.1, STT port 7471, MTU 1500. Peer 0 is 10.0.0.2, with two Context IDs; peer 1 is 10.0.0.3, with a VXLAN network.
+-- ---- the set-up: we are 10.0.0.1, STT port 7471, MTU 1500. Peer 0 is 10.0.0.2, with two Context IDs and a VXLAN network; peer 1 is 10.0.0.3, with a VXLAN network.
 -- Two calls are refused: our own address as a peer, and a binding that is listed
 
 abbrev pub calls : List Adding
@@ -21,6 +22,7 @@ calls =
     ∷ addBinding 0 3 72623859790382856 8
     ∷ addBinding 0 3 77 9
     ∷ addBinding 1 1 22 9
+    ∷ addBinding 0 1 22 5
     ∷ []
 
 abbrev pub ready : Endpoint
@@ -34,11 +36,11 @@ listed = record {
   mtu = 1500;
   addresses = 167772162 ∷ 167772163 ∷ replicate 6 0;
   peers = 2;
-  owners = 0 ∷ 0 ∷ 1 ∷ replicate 61 0;
-  kinds = 3 ∷ 3 ∷ 1 ∷ replicate 61 0;
-  networks = 77 ∷ 72623859790382856 ∷ 22 ∷ replicate 61 0;
-  tenants = 7 ∷ 8 ∷ 9 ∷ replicate 61 0;
-  bindings = 3;
+  owners = 0 ∷ 0 ∷ 1 ∷ 0 ∷ replicate 60 0;
+  kinds = 3 ∷ 3 ∷ 1 ∷ 1 ∷ replicate 60 0;
+  networks = 77 ∷ 72623859790382856 ∷ 22 ∷ 22 ∷ replicate 60 0;
+  tenants = 7 ∷ 8 ∷ 9 ∷ 5 ∷ replicate 60 0;
+  bindings = 4;
 }
 
 -- ---- headers
@@ -57,7 +59,7 @@ carries size at a b c d bytes =
 abbrev pub onVxlan : (size : ℕ) → List ℕ → List ℕ
 onVxlan size frame = 204 ∷ 184 ∷ 18 ∷ 181 ∷ 0 ∷ size ∷ 0 ∷ 0 ∷ 8 ∷ 0 ∷ 0 ∷ 0 ∷ 0 ∷ 0 ∷ 22 ∷ 0 ∷ frame
 
--- ---- the two frames of peer 0's: 18 bytes of STT header (draft-davie-stt-06, 3.1) and the inner frame
+-- ---- the frames of peer 0's: 18 bytes of STT header (draft-davie-stt-06, 3.1) and the inner frame
 
 abbrev pub inner-a : List ℕ
 inner-a = 2 ∷ 0 ∷ 0 ∷ 0 ∷ 0 ∷ 2 ∷ 2 ∷ 0 ∷ 0 ∷ 0 ∷ 0 ∷ 1 ∷ 136 ∷ 181 ∷ []
@@ -101,8 +103,38 @@ frame-b = record {
       ∷ [];
 }
 
+-- the same two contents under the identifiers 1003 and 1004
+abbrev pub frame-c : Frame
+frame-c = record {
+  identifier = 1003;
+  content = frame-a .content;
+  parts =
+      record { packet = fromHost 2 50 6 38 196 (carries 32 0 3 235 186 141 front-a); bytes = front-a; mark = noMark }
+      ∷ record { packet = fromHost 2 62 6 38 184 (carries 32 10 3 235 45 114 rest-a); bytes = rest-a; mark = noMark }
+      ∷ [];
+}
+
+abbrev pub frame-d : Frame
+frame-d = record {
+  identifier = 1004;
+  content = frame-b .content;
+  parts =
+      record { packet = fromHost 2 61 6 38 185 (carries 40 0 3 236 168 101 front-b); bytes = front-b; mark = noMark }
+      ∷ record { packet = fromHost 2 59 6 38 187 (carries 40 21 3 236 11 178 rest-b); bytes = rest-b; mark = noMark }
+      ∷ [];
+}
+
+-- frame 4 is frame 0 sent again: the same identifier, the same packets
 abbrev pub frames : List Frame
-frames = frame-a ∷ frame-b ∷ []
+frames = frame-a ∷ frame-b ∷ frame-c ∷ frame-d ∷ frame-a ∷ []
+
+-- ---- packets of peer 0's own beside the segments: on its VXLAN network; and frame 0's first segment, broken on the way, so that its checksum is wrong
+
+abbrev pub own-packet : List ℕ
+own-packet = fromHost 2 50 17 38 185 (onVxlan 30 inner-a)
+
+abbrev pub broken-packet : List ℕ
+broken-packet = fromHost 2 50 6 38 196 (carries 32 0 3 233 186 144 front-a)
 
 -- ---- other senders' packets: peer 1's on its VXLAN network; peer 1's segment under frame 0's identifier, in the place of frame 0's first; and one from 10.0.0.9, which is no peer
 
@@ -115,26 +147,50 @@ rival-packet = fromHost 3 50 6 38 195 (carries 32 0 3 233 186 142 (replicate 10 
 abbrev pub stray-packet : List ℕ
 stray-packet = fromHost 9 50 17 38 178 (onVxlan 30 inner-a)
 
--- ---- the run: both frames are pending together, frame 0 from its second segment on and over three ticks
+-- ---- the run: frames 0 to 3 are pending together, frame 0 over three ticks; then frame 0 is complete, and frame 4 comes under its identifier, while 1 to 3 are still pending
 
 abbrev pub mixed : List Item
 mixed =
     given 0 1
     ∷ other tick
     ∷ given 1 0
+    ∷ other (receive own-packet)
+    ∷ given 2 0
+    ∷ other (receive broken-packet)
+    ∷ given 3 1
     ∷ other (receive vxlan-packet)
     ∷ other tick
     ∷ other (receive stray-packet)
     ∷ other (receive rival-packet)
     ∷ other tick
     ∷ given 0 0
+    ∷ given 4 0
     ∷ given 1 1
+    ∷ given 4 1
+    ∷ given 2 1
+    ∷ given 3 0
     ∷ []
 
 -- the same run with other senders' packets struck out
 abbrev pub alone : List Item
-alone = given 0 1 ∷ other tick ∷ given 1 0 ∷ other tick ∷ other tick ∷ given 0 0 ∷ given 1 1 ∷ []
+alone =
+    given 0 1
+    ∷ other tick
+    ∷ given 1 0
+    ∷ other (receive own-packet)
+    ∷ given 2 0
+    ∷ other (receive broken-packet)
+    ∷ given 3 1
+    ∷ other tick
+    ∷ other tick
+    ∷ given 0 0
+    ∷ given 4 0
+    ∷ given 1 1
+    ∷ given 4 1
+    ∷ given 2 1
+    ∷ given 3 0
+    ∷ []
 
 -- the same segments one after another
 abbrev pub turn : List Item
-turn = given 0 0 ∷ given 0 1 ∷ given 1 0 ∷ given 1 1 ∷ []
+turn = given 0 0 ∷ given 0 1 ∷ given 1 0 ∷ given 1 1 ∷ given 2 0 ∷ given 2 1 ∷ given 3 0 ∷ given 3 1 ∷ given 4 0 ∷ given 4 1 ∷ []

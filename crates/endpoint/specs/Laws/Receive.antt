@@ -32,11 +32,10 @@ use Rattle.reassembly.specs.Slots.{Note, noRow}
 use Rattle.reassembly.specs.Laws.TakeFacts.{length-frame}
 use Rattle.reassembly.specs.Laws.Store.{handed, slot-inside}
 use Rattle.reassembly.specs.Take.{Seg, segOf, frameIn}
-use Rattle.reassembly.specs.Store.{bytesOf, takeIn, slotStart}
+use Rattle.reassembly.specs.Store.{bytesOf, takeIn, slotStart, takenOf}
 use Rattle.reassembly.specs.Receive.{Seen as Made, stranger, plain, segment, Verdict, bad, good, spoken, told, partOfSlice, viewOf}
-use Rattle.reassembly.specs.Base.{caseB}
+use Rattle.reassembly.specs.Laws.Base.{caseB}
 use Rattle.reassembly.specs.SetUp.{Kept, peerOf}
-use Rattle.reassembly.specs.Laws.Take.{takenOf}
 use Rattle.reassembly.specs.declared.take.Taken.{Taken}
 use Rattle.reassembly.specs.Laws.TakeIn.{taken-row, taken-outcome, take-length, take-whole, slot-start, frame-part}
 use Rattle.reassembly.specs.declared.slot.Row.{Row}

@@ -21,20 +21,22 @@ use Rattle.wire.specs.Laws.WriteIs.{part-short, part-join, part-all, wrote-fron
 use Rattle.reassembly.specs.Slots.{noMark}
 use Rattle.reassembly.specs.Receive.{segment, good}
 use Rattle.reassembly.specs.Mix as M
-use Rattle.reassembly.specs.Mixed.{Right}
+use Rattle.reassembly.specs.Mix.{Right}
 use Rattle.reassembly.specs.SetUp.{World, runs, heard}
 use Rattle.endpoint.specs.Config.{Config, configOf, findPeer, findBinding}
 use Rattle.endpoint.specs.Laws.Config.{Valid, set-up-valid, listed-peer-found, listed-binding-found}
 use Rattle.endpoint.specs.Receive.{answers, layers, headerOf, judgeOf, worldOf}
 use Rattle.endpoint.specs.Calls.{Left, calls}
-use Rattle.endpoint.specs.Formats.{Bound, CarriesFrame, CarriesSegment, GoodFrame}
-use Rattle.endpoint.specs.Laws.Formats.{segment-complete, judge-complete}
+use Rattle.endpoint.specs.Formats.{ListedPeer, Bound, CarriesFrame, CarriesSegment, GoodFrame}
+use Rattle.endpoint.specs.Laws.Formats.{peer-listed, binding-bound, segment-complete, judge-complete}
 use Rattle.endpoint.specs.Wrap.{segmentsOf, kindAt, networkAt, ownerAt, peerAt, packetOf, packetAt}
 use Rattle.endpoint.specs.Laws.Wrap.{Says, written-says, Ready, Listed, ready-listed, ByKind, vxlan, nvgre, stt, by-kind, packet-vxlan, packet-nvgre, one-vxlan, one-nvgre, many-stt, starts-within, ends-past}
 use Rattle.endpoint.specs.Reached.{Reached, reached-ready}
-use Rattle.endpoint.specs.Demand2.{Delivers, complete-packet}
+use Rattle.endpoint.specs.Demand2.{Delivers}
+use Rattle.endpoint.specs.Laws.Demand2.{complete-packet}
 use Rattle.endpoint.specs.Demand2Writing.{CarriesWhole, CarriesPart, portion, sent-vxlan, sent-nvgre, sent-stt}
-use Rattle.endpoint.specs.Demand3.{Demand3, demand-three}
+use Rattle.endpoint.specs.Demand3.{Demand3}
+use Rattle.endpoint.specs.Laws.Demand3.{demand-three}
 use Rattle.endpoint.specs.RoundTrip.{segmentsFor, Wraps, Matches, Order, arrivals, Answered, RoundTrip}
 use Rattle.endpoint.specs.Laws.RoundTripLaws.{now-below, before-below, only-one, same-arrivals, one-frame, right-answered}
 use Rattle.endpoint.specs.declared.answer.Target.{Target}
@@ -60,7 +62,7 @@ targetOf e′ b′ = record { tenant = getD (e′ .tenants) b′ 0; binding = b�
 record Meets (own peer port kind network : ℕ) (e′ : Endpoint) (b′ p : ℕ) : Type 0 where
   own-is : configOf e′ .own ≡ peer
   port-is : configOf e′ .port ≡ port
-  listed : findPeer (configOf e′) own ≡ some p
+  listed : ListedPeer (configOf e′) own p
   bound : Bound (configOf e′) p kind network (targetOf e′ b′)
   demand : Demand3 e′ p
 
@@ -73,8 +75,10 @@ meets e b e′ b′ w =
     record {
       own-is = w .own-is;
       port-is = w .port-is;
-      listed = subst (λ (a : ℕ). findPeer (configOf e′) a ≡ some (w .peer)) (w .peer-is) (listed-peer-found e′ v (w .peer) (w .peer-listed));
-      bound = record { binding = rw (w .owner-is, w .kind-is, w .network-is) at found; tenant = refl };
+      listed =
+          peer-listed (configOf e′) (e .own) (w .peer)
+          (subst (λ (a : ℕ). findPeer (configOf e′) a ≡ some (w .peer)) (w .peer-is) (listed-peer-found e′ v (w .peer) (w .peer-listed)));
+      bound = binding-bound (configOf e′) (w .peer) (kindAt e b) (networkAt e b) (targetOf e′ b′) (rw (w .owner-is, w .kind-is, w .network-is) at found) refl;
       demand = subst (λ (x : Endpoint). Demand3 x (w .peer)) (sym (w .set-up)) (demand-three (w .own) (w .stt-port) (w .mtu) (w .adds) (w .peer) p);
     }
 

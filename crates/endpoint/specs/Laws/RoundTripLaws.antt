@@ -9,12 +9,13 @@ use native.Mathlib.Nat.{zero-add}
 use borrow.Author.Tests.{ltb-true, eq-eqb, ne-eqb, lt-ltb, le-ltb}
 use lib.ListN.{length, drop}
 use lib.Dec.{ltb, eqb}
-use Rattle.reassembly.specs.Base.{caseB}
+use Rattle.reassembly.specs.Laws.Base.{caseB}
 use Rattle.reassembly.specs.Receive.{Event, receive, Answer, viewOf}
 use Rattle.reassembly.specs.Mix as M
-use Rattle.reassembly.specs.Mixed.{Right}
-use Rattle.reassembly.specs.Laws.InTurn.{InTurn, Only, in-turn}
-use Rattle.reassembly.specs.SetUp.{Said, receives, runs, heard, Cuts}
+use Rattle.reassembly.specs.Mix.{Right, InTurn, Only}
+use Rattle.reassembly.specs.Laws.InTurn.{in-turn}
+use Rattle.reassembly.specs.SetUp.{Said, receives, runs, heard}
+use Rattle.reassembly.specs.Claim.{Cuts}
 use Rattle.endpoint.specs.Answer.{placeOf, valuesOf}
 use Rattle.endpoint.specs.Config.{Config, configOf}
 use Rattle.endpoint.specs.Receive.{answers, layers, headerOf, judgeOf, stepOf, worldOf, inMemory}

@@ -9,6 +9,7 @@ use lib.ListN.{length, getD, set, take, drop}
 use lib.Seq.{take-length, drop-length}
 use Rattle.reassembly.specs.declared.slot.Row.{Row}
 use Rattle.reassembly.specs.Slots.{noRow, olderRow}
+use Rattle.endpoint.specs.declared.answer.Tick.the-variants as T
 use Rattle.endpoint.specs.declared.config.Endpoint.{Endpoint}
 use Rattle.endpoint.specs.Config.{withRows, tickOf}
 
@@ -50,6 +51,6 @@ one-older e next p row h is now =
     ∙ ap (λ (x : Row). withRows e (set (olderBefore (e .rows) p) p x)) new
     ∙ ap (withRows e) (before-more (e .rows) p h ∙ ap (olderBefore (e .rows)) (sym (add-one p)))
 
-pub all-older : (e : Endpoint) (p : ℕ) → p ≡ length (e .rows) → withRows e (olderBefore (e .rows) p) ≡ tickOf e
+pub all-older : (e : Endpoint) (p : ℕ) → p ≡ length (e .rows) → record { endpoint = withRows e (olderBefore (e .rows) p); answer = T.Done } ≡ tickOf e
 unfolding tickOf
-all-older e p h = ap (withRows e) (ap (olderBefore (e .rows)) h ∙ before-all (e .rows))
+all-older e p h = ap (λ (l : List Row). record { endpoint = withRows e l; answer = T.Done }) (ap (olderBefore (e .rows)) h ∙ before-all (e .rows))

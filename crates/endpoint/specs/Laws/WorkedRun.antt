@@ -11,6 +11,7 @@ use Rattle.wire.specs.Segment.{segmentChecks, segmentAt, segmentOf}
 use Rattle.wire.specs.Stt.{sttChecks, sttOf}
 use Rattle.wire.specs.Frame.{frameChecks, frameOf}
 use Rattle.wire.specs.Carriage.{vxlanIn, vxlanUdpOf, sttIpOf, carriageOf}
+use Rattle.wire.specs.declared.refusal.Refusal.the-variants as F
 use Rattle.reassembly.specs.Base.{allBelow, table}
 use Rattle.reassembly.specs.Slots.{Note, noMark}
 use Rattle.reassembly.specs.Receive.{stranger, plain, segment, good}
@@ -22,7 +23,7 @@ use Rattle.endpoint.specs.Config.{configOf, hasAddress, findPeer, binds,
 use Rattle.endpoint.specs.Receive.{innerFrom, tunnelFrom, headerOf, sttFrom, judgeOf}
 use Rattle.endpoint.specs.declared.answer.Drop.the-variants as D
 use Rattle.endpoint.specs.declared.answer.Received.the-variants as R
-use Rattle.endpoint.specs.Laws.PossibleRun.{ready, listed, frame-a, frame-b, frames, vxlan-packet, rival-packet, stray-packet, mixed, turn}
+use Rattle.endpoint.specs.Laws.PossibleRun.{ready, listed, frame-a, frame-b, frame-c, frame-d, frames, own-packet, broken-packet, vxlan-packet, rival-packet, stray-packet, mixed, turn}
 
 -- ---- the set-up
 
@@ -30,7 +31,7 @@ pub ready-config : configOf ready ≡ listed
 unfolding configOf from lowest hasAddress findPeer binds findBinding fresh startChecks startOf addPeerChecks withAddress addPeerOf isNetwork addBindingChecks withBinding addBindingOf added addedAll setUp
 ready-config = refl
 
--- ---- the segments of peer 0's two frames: each packet is sound, and states its frame's length, its offset and its identifier
+-- ---- the segments of peer 0's frames: each packet is sound, and states its frame's length, its offset and its identifier
 
 pub heard-a0 : headerOf listed (partOf frame-a 0 .packet) ≡ segment 0 (states frame-a 0)
 unfolding headerOf ipv4Checks ipv4At ipv4Of be beAt part total ones pseudo segmentChecks segmentAt segmentOf sttIpOf carriageOf from lowest hasAddress findPeer
@@ -48,6 +49,22 @@ pub heard-b1 : headerOf listed (partOf frame-b 1 .packet) ≡ segment 0 (states 
 unfolding headerOf ipv4Checks ipv4At ipv4Of be beAt part total ones pseudo segmentChecks segmentAt segmentOf sttIpOf carriageOf from lowest hasAddress findPeer
 heard-b1 = refl
 
+pub heard-c0 : headerOf listed (partOf frame-c 0 .packet) ≡ segment 0 (states frame-c 0)
+unfolding headerOf ipv4Checks ipv4At ipv4Of be beAt part total ones pseudo segmentChecks segmentAt segmentOf sttIpOf carriageOf from lowest hasAddress findPeer
+heard-c0 = refl
+
+pub heard-c1 : headerOf listed (partOf frame-c 1 .packet) ≡ segment 0 (states frame-c 1)
+unfolding headerOf ipv4Checks ipv4At ipv4Of be beAt part total ones pseudo segmentChecks segmentAt segmentOf sttIpOf carriageOf from lowest hasAddress findPeer
+heard-c1 = refl
+
+pub heard-d0 : headerOf listed (partOf frame-d 0 .packet) ≡ segment 0 (states frame-d 0)
+unfolding headerOf ipv4Checks ipv4At ipv4Of be beAt part total ones pseudo segmentChecks segmentAt segmentOf sttIpOf carriageOf from lowest hasAddress findPeer
+heard-d0 = refl
+
+pub heard-d1 : headerOf listed (partOf frame-d 1 .packet) ≡ segment 0 (states frame-d 1)
+unfolding headerOf ipv4Checks ipv4At ipv4Of be beAt part total ones pseudo segmentChecks segmentAt segmentOf sttIpOf carriageOf from lowest hasAddress findPeer
+heard-d1 = refl
+
 -- ---- what the frames are worth: Context ID 77 is binding 0, tenant 7; the other is binding 1, tenant 8
 
 pub worth-a : (note : Note) → judgeOf listed 0 note (frame-a .content) ≡ good (record { tenant = 7; binding = 0 })
@@ -57,6 +74,16 @@ worth-a note = refl
 pub worth-b : (note : Note) → judgeOf listed 0 note (frame-b .content) ≡ good (record { tenant = 8; binding = 1 })
 unfolding judgeOf sttFrom sttChecks sttOf beAt innerFrom from lowest binds frameChecks frameOf
 worth-b note = refl
+
+-- ---- packets of peer 0's own: delivered, and refused (10)
+
+pub heard-own : headerOf listed own-packet ≡ plain 0 (R.Delivered (record { tenant = 5; binding = 3 }) (record { start = 36; length = 14; «in_memory» = false }))
+unfolding headerOf ipv4Checks ipv4At ipv4Of be beAt part total ones udpSum udpChecks udpOf vxlanChecks vxlanOf vxlanIn vxlanUdpOf carriageOf from lowest hasAddress findPeer binds innerFrom tunnelFrom frameChecks frameOf
+heard-own = refl
+
+pub heard-broken : headerOf listed broken-packet ≡ plain 0 (R.Dropped (D.Format F.TcpChecksum))
+unfolding headerOf ipv4Checks ipv4At ipv4Of be beAt part total ones pseudo segmentChecks segmentAt segmentOf sttIpOf carriageOf from lowest hasAddress findPeer
+heard-broken = refl
 
 -- ---- other senders' packets
 

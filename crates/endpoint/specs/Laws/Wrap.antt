@@ -16,7 +16,7 @@ use Rattle.wire.specs.declared.frame.FrameRead.{FrameRead}
 use Rattle.wire.specs.declared.frame.FrameRead.the-variants as F
 use Rattle.wire.specs.Laws.Bytes.{wrote}
 use Rattle.wire.specs.Write.{vxlanPacket, nvgrePacket, segmentPacket}
-use Rattle.reassembly.specs.Base.{caseB, either, clash, and-l, and-r, or-cases}
+use Rattle.reassembly.specs.Laws.Base.{caseB, either, clash, and-l, and-r, or-cases}
 use Rattle.endpoint.specs.Config.{Config, configOf, addressChecks, startChecks, fresh, isNetwork}
 use Rattle.endpoint.specs.Laws.Config.{Valid, addressAt}
 use Rattle.endpoint.specs.Wrap.{capacity, segmentsOf, segmentStart, segmentSize, low32, packetOf, exceeds, isBad, kindAt, networkAt, ownerAt, peerAt, packetAt, wrapChecks, Wrote, refusedWrap, wrapOf}
@@ -133,8 +133,8 @@ set-up-listed s b v h =
     (λ p. record {
       own-fits = address-fits (s .own) (p .0, (p .1 .0, tt));
       peer-fits = address-fits (peerAt s b) (v .address-good (ownerAt s b) owner);
-      mtu-least = ltb-false (s .mtu) 576 (p .1 .1 .1 .0);
-      mtu-most = ltb-false 1600 (s .mtu) (p .1 .1 .1 .1 .0);
+      mtu-least = ltb-false (s .mtu) 576 (p .1 .1 .1 .1 .0);
+      mtu-most = ltb-false 1600 (s .mtu) (p .1 .1 .1 .1 .1 .0);
       owner-below = omega arith;
       network-good = v .network-good b few;
     })

@@ -16,7 +16,7 @@ use Rattle.wire.specs.Write.{fits, segmentFits, vxlanPacket, nvgrePacket, segme
 use Rattle.wire.specs.Laws.Write.{fits-met, fits-says, segment-fits-met, segment-fits-says, vxlan-length-is, nvgre-length-is, segment-length-is}
 use Rattle.wire.specs.declared.refusal.Refusal.{Refusal}
 use Rattle.wire.specs.declared.frame.FrameRead.the-variants as F
-use Rattle.reassembly.specs.Base.{caseB, same-test}
+use Rattle.reassembly.specs.Laws.Base.{caseB, same-test}
 use Rattle.endpoint.specs.declared.answer.WrapRefusal.{WrapRefusal}
 use Rattle.endpoint.specs.declared.answer.WrapRefusal.the-variants as X
 use Rattle.endpoint.specs.declared.answer.Wrapped.{Wrapped}

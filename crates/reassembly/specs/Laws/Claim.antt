@@ -2,28 +2,29 @@
 use mathlib.Core.Path.{_≡_, refl, sym, ap, subst, _∙_}
 use mathlib.Core.Bool.{Bool, true, false, cond, _&&_}
 use mathlib.Core.List.{List, [], _∷_, _++_, map, append-assoc}
-use mathlib.Core.Option.{Option, none, some}
-use Prim.Native.Nat.{ℕ, zero, suc, _+_, _-_, _*_, _≤_, _<_}
+use mathlib.Core.Option.{some}
+use Prim.Native.Nat.{ℕ, zero, suc, _+_, _-_, _≤_, _<_}
 use native.Mathlib.Omega.{arith}
 use native.Mathlib.Nat.{zero-add}
-use lib.ListN.{length, getD, set, replicate}
+use lib.ListN.{length, getD, replicate}
 use lib.Dec.{ltb, eqb}
-use borrow.Author.Tests.{ltb-true, ltb-false, lt-ltb, le-ltb, eqb-true, eq-eqb}
-use Rattle.reassembly.specs.Base.{caseB}
-use Rattle.reassembly.specs.Slots.{Row, Note, noRow, olderRow}
-use Rattle.reassembly.specs.Take.{slotNo, Seg, Effect, takeSegment}
-use Rattle.reassembly.specs.Store.{slotStart, bytesOf, takeIn, take-in}
-use Rattle.reassembly.specs.Laws.Store.{bytes-laws}
-use Rattle.reassembly.specs.Receive.{Place, nowhere, viewOf, Answers, Answer, bare, fill, Verdict, Seen, stranger, plain, segment, Event, receive, tick, told, State, Out, react, after, run}
-use Rattle.reassembly.specs.Runs.{mine, Listed, own, strike, strike-ext, answers, answer1, Sim, event-sim, run-sim}
-use Rattle.reassembly.specs.NonInterference.{emptyRows, start, ghostStart, start-sim, non-interference}
+use borrow.Author.Tests.{ltb-true, ltb-false, lt-ltb, le-ltb, eqb-true}
+use Rattle.reassembly.specs.Laws.Base.{caseB}
+use Rattle.reassembly.specs.Slots.{Row, Note, noRow, emptyRows}
+use Rattle.reassembly.specs.Take.{slotNo, Seg}
+use Rattle.reassembly.specs.Store.{slotStart, bytesOf}
+use Rattle.reassembly.specs.Laws.Store.{take-in, bytes-laws}
+use Rattle.reassembly.specs.Receive.{Place, viewOf, Answers, Answer, Verdict, Seen, stranger, plain, segment, Event, receive, tick}
+use Rattle.reassembly.specs.Laws.Runs.{fill, State, react, after, run, mine, Listed, own, strike-ext, answers, answer1, Sim, event-sim, run-sim}
+use Rattle.reassembly.specs.SetUp.{Layers, isPeer, peerOf, Kept, Promised, Endpoint, World, added, setUp, Said, saidOf, receives, next, runs, heard, from, saidTo, answersOf}
+use Rattle.reassembly.specs.Laws.NonInterference.{start, ghostStart, start-sim, non-interference}
 use Rattle.reassembly.specs.Laws.Ghost.{ghost, ghost-laws}
-use Rattle.reassembly.specs.Mix.{Frame, Part, partOf, joined, states, frameOf, isSegment, Cut, Item, given, other, event, times, segmentsOf, notSegment, Free, AllFree, Mixing}
+use Rattle.reassembly.specs.Mix.{Frame, Part, partOf, joined, states, frameOf, Cut, Item, given, other, event, times, segmentsOf, notSegment, Free, AllFree, Mixing, Right}
 use Rattle.reassembly.specs.Laws.MixFacts.{times-le}
-use Rattle.reassembly.specs.Mixed.{Right, mixed, part-real}
-use Rattle.reassembly.specs.Laws.InTurn.{InTurn, in-turn}
-use Rattle.reassembly.specs.HandBack.{Backs, take-back, backs-fill, nowhere-back}
-use Rattle.reassembly.specs.SetUp.{Layers, isPeer, peerOf, Kept, Promised, SameFrame, Endpoint, World, added, setUp, Said, saidOf, receives, next, runs, handedBack, heard, from, saidTo, answersOf, answerIn, delivery, deliveries, Cuts, Claim}
+use Rattle.reassembly.specs.Laws.Mixed.{mixed, part-real}
+use Rattle.reassembly.specs.Laws.InTurn.{in-turn}
+use Rattle.reassembly.specs.Laws.HandBack.{take-back, backs-fill}
+use Rattle.reassembly.specs.Claim.{answerIn, delivery, deliveries, Cuts, Claim}
 
 -- one more item, counted: none of the frame's segments; or one, answered 0 if no other comes after it
 sum-other : (d s : ℕ) → d ≡ cond (ltb 0 s) 1 0 → 0 + d ≡ cond (ltb 0 (0 + s)) 1 0

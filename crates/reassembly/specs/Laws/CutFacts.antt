@@ -10,8 +10,9 @@ use lib.ListN.{length, getD, take, length-append, List·getD-append}
 use lib.Seq.{getD-append-add}
 use lib.Dec.{ltb, leb, eqb}
 use borrow.Author.Tests.{ltb-true, ltb-false, leb-true, leb-false, eqb-true, eqb-false, lt-ltb, le-ltb, le-leb, lt-leb, eq-eqb, ne-eqb}
-use Rattle.reassembly.specs.Base.{caseB, either, clash, and-l, and-r}
-use Rattle.reassembly.specs.Laws.Memory.{within, within-low, within-high, within-is}
+use Rattle.reassembly.specs.Laws.Base.{caseB, either, clash, and-l, and-r}
+use Rattle.reassembly.specs.Base.{within}
+use Rattle.reassembly.specs.Laws.Memory.{within-low, within-high, within-is}
 use Rattle.reassembly.specs.Mix.{Part, noPart, joined, offsetOf}
 
 abbrev pub size : List Part → ℕ → ℕ

@@ -1,27 +1,29 @@
 -- The invariant of a mixing, over the memory of pieces: the peer's pending slots are the frames pending, each in one slot, with its identifier, its length, its age, what is noted, and the segments given.
-use mathlib.Core.Path.{_≡_, refl, sym, ap, subst, _∙_}
-use mathlib.Core.Logic.{_⊎_, inl, inr, _≢_}
-use mathlib.Core.Bool.{Bool, true, false, cond, not, _&&_, _||_}
-use mathlib.Core.List.{List, [], _∷_, _++_, map, reverse, reverseAux, reverse-cons, reverseAux-eq, append-assoc}
-use mathlib.Core.Option.{Option, none, some}
-use Prim.Native.Nat.{ℕ, zero, suc, _+_, _-_, _*_, _≤_, _<_}
+use mathlib.Core.Path.{_≡_, refl, sym, ap, _∙_}
+use mathlib.Core.Logic.{_≢_}
+use mathlib.Core.Bool.{true, false, cond}
+use mathlib.Core.List.{List, [], _∷_, _++_, map, reverse, reverseAux, reverseAux-eq, append-assoc}
+use mathlib.Core.Option.{none}
+use Prim.Native.Nat.{ℕ, suc, _+_, _-_, _≤_, _<_}
 use native.Mathlib.Omega.{arith}
-use lib.ListN.{length, getD, take, set, length-set, length-map}
+use lib.ListN.{length, getD, set, length-map}
 use lib.Seq.{getD-set-same, getD-set-other, set-set, ext-getD}
-use lib.Dec.{ltb, leb, eqb}
+use lib.Dec.{ltb, eqb}
 use borrow.Author.Tests.{ltb-true, ltb-false, eqb-true, eqb-false, lt-ltb, eq-eqb, ne-eqb}
-use Rattle.reassembly.specs.Base.{caseB, caseO, either, clash, and-l, and-r, someBelow, allBelow, table, allBelow-at, allBelow-intro, someBelow-none, length-table, getD-table}
-use Rattle.reassembly.specs.Slots.{Slot, Row, Note, noNote, noteOf, noteOf-pending, free, pendingSlot, lifetime, older, older-pending, older-stays, first, bears, isFree, First, first-some, first-none}
-use Rattle.reassembly.specs.Take.{slotNo, Seg, Outcome, Pending, Complete, old, fresh, choose, chosen, testedBytes, storedBytes, noteAfter, openedSlot, furtherSlot, Effect, complete, overlaps, frameIn, finish, placed, takeSegment}
-use Rattle.reassembly.specs.Laws.TakeFacts.{Fits, bears-is, bears-pending, bears-identifier, is-free-false, not-free, chosen-fits}
-use Rattle.reassembly.specs.Laws.Memory.{within, within-low, within-high, within-is}
-use Rattle.reassembly.specs.Receive.{Answers, Verdict, Seen, Event, receive, tick}
+use Rattle.reassembly.specs.Laws.Base.{caseB, caseO, either, clash, and-l, and-r, allBelow-at, allBelow-intro, someBelow-none, length-table, getD-table}
+use Rattle.reassembly.specs.Base.{someBelow, allBelow, table}
+use Rattle.reassembly.specs.Slots.{Slot, Row, Note, noNote, noteOf, free, pendingSlot, lifetime, older, first, bears, isFree}
+use Rattle.reassembly.specs.Laws.Slots.{noteOf-pending, older-pending, older-stays, First, first-some, first-none}
+use Rattle.reassembly.specs.Take.{slotNo, Seg, Pending, Complete, old, fresh, chosen, testedBytes, storedBytes, noteAfter, openedSlot, furtherSlot, Effect, complete, overlaps, frameIn, finish, placed, takeSegment, Fits}
+use Rattle.reassembly.specs.Laws.TakeFacts.{chosen-opens, bears-is, bears-pending, bears-identifier, not-free, chosen-fits}
+use Rattle.reassembly.specs.Laws.Memory.{within-is}
+use Rattle.reassembly.specs.Receive.{Answers, Verdict, Seen, receive, tick}
 use Rattle.reassembly.specs.Laws.Sim.{RowOk, row-set, set-cases}
-use Rattle.reassembly.specs.Runs.{older-at, row-older}
-use Rattle.reassembly.specs.Laws.Ghost.{Piece, covers, receivedIn, byteIn, upd, ghost, upd-same, upd-other}
-use Rattle.reassembly.specs.Mix.{Part, noPart, Frame, noFrame, joined, offsetOf, partOf, states, frameNote, Cut, Item, given, other, frameOf, event, isSegment, times, timesItem, segmentsOf, ofItem, ticks, tickItem, pendingAt, howMany, Mixing}
+use Rattle.reassembly.specs.Laws.Runs.{older-at}
+use Rattle.reassembly.specs.Laws.Ghost.{Piece, receivedIn, byteIn, ghost, upd-same, upd-other}
+use Rattle.reassembly.specs.Mix.{Frame, joined, offsetOf, partOf, states, frameNote, Cut, Item, given, other, frameOf, isSegment, times, segmentsOf, pendingAt, howMany, Mixing}
 use Rattle.reassembly.specs.Laws.CutFacts.{size, part-end, part-one, Lies, part-some}
-use Rattle.reassembly.specs.Laws.MixFacts.{times-back, of-append, of-back, times-le, Splits, splits, Given, some-given, piece, pieces, notes, notes-all, notesIf, age, pieces-none, age-none, Holder, received-by, holds, right-byte, Since, since, ticks-append, five}
+use Rattle.reassembly.specs.Laws.MixFacts.{times-back, of-append, of-back, times-le, Splits, splits, Given, some-given, pieces, notes, notes-all, age, pieces-none, age-none, Holder, received-by, holds, right-byte, Since, since, ticks-append, five}
 
 -- the three questions, of a slot whose pieces are known
 complete-is : (m : ℕ → List Piece) (k n : ℕ) (ps : List Piece) → m k ≡ ps → complete ghost m k n ≡ allBelow n (λ i. receivedIn ps i)
@@ -365,9 +367,10 @@ module _ (W : Answers) (header : List ℕ → Seen W) (judge : ℕ → Note → 
       take-fresh =
           caseO (first isFree row)
           (λ n. absurd (not-full n))
-          (λ s n. let b : First isFree row s = first-some isFree row s n in
-          let is-free : getD row s free .pending ≡ false = is-free-false (getD row s free) (b .passes) in
-          let c : chosen row (states fr j) ≡ fresh s = chosen-fits row (states fr j) fits-now ∙ rw (not-found, n) in
+          (λ lowest n. let o = chosen-opens row (states fr j) fits-now not-found lowest n in
+          let s : ℕ = o .0 in
+          let is-free : getD row s free .pending ≡ false = o .1 .1 .is-free in
+          let c : chosen row (states fr j) ≡ fresh s = o .1 .0 in
           let m₁ : ℕ → List Piece = ghost .clear m (slotNo p s) in
           let nt : noteAfter noNote (states fr j) ≡ notes frames f (now ∷ past) =
           ap (λ (x : Note). noteAfter x (states fr j)) (sym (notes-none past z)) ∙ sym (notes-now p frames f j past) in
@@ -375,7 +378,7 @@ module _ (W : Answers) (header : List ℕ → Seen W) (judge : ℕ → Note → 
           ap (λ (x : ℕ). pendingSlot (fr .identifier) (length (fr .content)) x (noteAfter noNote (states fr j))) (sym (age-none frames f past z))
           ∙ ap (λ (x : Note). pendingSlot (fr .identifier) (length (fr .content)) (age frames f past) x) nt in
           rw c
-          (finish-step s row m (ghost .put m₁ (slotNo p s) (offsetOf (fr .parts) j) (partOf fr j .bytes)) _ _ (b .is-slot) h
+          (finish-step s row m (ghost .put m₁ (slotNo p s) (offsetOf (fr .parts) j) (partOf fr j .bytes)) _ _ (o .1 .1 .is-slot) h
           (λ t lt d e. strange t lt e)
           (λ e. clash (cc (is-free)))
           (upd-same m₁ (slotNo p s) _ ∙ cc (upd-same m (slotNo p s) [], pieces-none frames f past z, eq-eqb f f refl))

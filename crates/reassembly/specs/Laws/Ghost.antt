@@ -8,7 +8,8 @@ use lib.ListN.{length, getD}
 use lib.Dec.{eqb}
 use borrow.Author.Tests.{eq-eqb, ne-eqb}
 use Rattle.reassembly.specs.Take.{Ops}
-use Rattle.reassembly.specs.Laws.Memory.{Laws, within}
+use Rattle.reassembly.specs.Laws.Memory.{Laws}
+use Rattle.reassembly.specs.Base.{within}
 
 pub record Piece : Type 0 where
   pub offset : ℕ

@@ -1,32 +1,14 @@
 -- One after another (document 01, "Whose packet it is"): a run of the same segment packets alone, whole frame by whole frame. It is a mixing.
-use mathlib.Core.Path.{_≡_, refl, sym, ap, subst, _∙_}
-use mathlib.Core.Logic.{_⊎_, inl, inr, _≢_}
-use mathlib.Core.Bool.{Bool, true, false, cond, _&&_}
-use mathlib.Core.List.{List, [], _∷_, _++_, map}
-use Prim.Native.Nat.{ℕ, zero, suc, _+_, _-_, _*_, _≤_, _<_}
+use mathlib.Core.Path.{_≡_, refl, ap}
+use mathlib.Core.Bool.{Bool, true, false}
+use mathlib.Core.List.{List, [], _∷_, _++_}
+use Prim.Native.Nat.{ℕ, zero, suc, _+_, _-_, _≤_, _<_}
 use native.Mathlib.Omega.{arith}
-use lib.ListN.{length, getD}
-use lib.Dec.{ltb, leb, eqb}
-use Rattle.reassembly.specs.Base.{caseB}
-use Rattle.reassembly.specs.Receive.{Answers, Seen, Event, receive, tick}
-use Rattle.reassembly.specs.Mix.{Frame, Item, given, other, frameOf, segmentsOf, times, isSegment, ticks, tickItem, pendingAt, howMany, Free, AllFree, Mixing}
+use lib.ListN.{length}
+use Rattle.reassembly.specs.Laws.Base.{caseB}
+use Rattle.reassembly.specs.Receive.{Answers, Seen}
+use Rattle.reassembly.specs.Mix.{Frame, Item, given, other, ticks, pendingAt, howMany, AllFree, Mixing, InTurn, Only}
 use Rattle.reassembly.specs.Laws.MixFacts.{ticks-append}
-
--- only segments, none else
-abbrev pub Given1 : Item → Type 0
-Given1 (given f j) = Unit {0}
-Given1 (other e) = ⊥
-
-abbrev pub Only : List Item → Type 0
-Only [] = Unit {0}
-Only (x ∷ xs) = Given1 x × Only xs
-
--- one after another: the same segment packets alone, whole frame by whole frame
-pub record InTurn (frames : List Frame) (items : List Item) : Type 0 where
-  pub once : (f j : ℕ) → times f j items ≡ cond (isSegment frames f j) 1 0
-  pub only : Only items
-  pub one : (before : List Item) (now : Item) (after : List Item) → items ≡ before ++ (now ∷ after) → (f g : ℕ) → f < length frames → g < length frames
-      → pendingAt before now after f ≡ true → pendingAt before now after g ≡ true → f ≡ g
 
 -- a test that holds at one number below n at most
 at-most-one : (n : ℕ) (t : ℕ → Bool) → ((f g : ℕ) → f < n → g < n → t f ≡ true → t g ≡ true → f ≡ g) → howMany n t ≤ 1

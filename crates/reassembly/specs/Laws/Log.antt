@@ -1,72 +1,24 @@
 -- The log of a run: the segments taken for each slot of a peer since its frame opened, latest first. It is what the memory of pieces (`Ghost`) keeps, told from the run itself.
 use mathlib.Core.Path.{_≡_, refl, sym, ap, subst, _∙_}
-use mathlib.Core.Logic.{_⊎_, inl, inr, _≢_}
-use mathlib.Core.Bool.{Bool, true, false, cond, _&&_, _||_}
-use mathlib.Core.List.{List, [], _∷_, _++_, map}
-use Prim.Native.Nat.{ℕ, zero, suc, _+_, _-_, _*_, _≤_, _<_}
+use mathlib.Core.Logic.{_≢_}
+use mathlib.Core.Bool.{Bool, true, false}
+use mathlib.Core.List.{List, [], _∷_, map}
+use Prim.Native.Nat.{ℕ, zero, suc, _+_, _-_, _≤_, _<_}
 use native.Mathlib.Omega.{arith}
 use lib.ListN.{length, getD, set, length-set, length-map}
-use lib.Seq.{getD-set-same, getD-set-other}
-use lib.Dec.{ltb, leb, eqb}
+use lib.Dec.{eqb}
 use borrow.Author.Tests.{eqb-true, eqb-false, eq-eqb, ne-eqb}
-use Rattle.reassembly.specs.Base.{someBelow, allBelow, table, caseB, either, clash, below-suc, or-false-l, or-false-r, allBelow-at, length-table, getD-table}
-use Rattle.reassembly.specs.Slots.{Slot, Row, Note, Mark, noNote, noMark, noteOf, free, older, older-pending}
-use Rattle.reassembly.specs.Take.{slotNo, Seg, Ops, Rejection, Outcome, Rejected, Pending, Complete, NoMemory, AlreadyReceived, Choice, reject, old, fresh, chosen, testedBytes, storedBytes, noteAfter, openedSlot, furtherSlot, Effect, complete, overlaps, frameIn, finish, placed, takeSegment}
-use Rattle.reassembly.specs.Laws.TakeFacts.{Fits, Old, Fresh, Tells, chosen-tells, not-complete, complete-slot}
-use Rattle.reassembly.specs.Laws.Memory.{within, within-low, within-high, within-is}
+use Rattle.reassembly.specs.Base.{someBelow, table}
+use Rattle.reassembly.specs.Laws.Base.{caseB, either, clash, below-suc, or-false-l, or-false-r, allBelow-at, getD-table}
+use Rattle.reassembly.specs.Slots.{Slot, Row, Note, noNote, noteOf, free, older}
+use Rattle.reassembly.specs.Laws.Slots.{older-pending}
+use Rattle.reassembly.specs.Take.{slotNo, Seg, Rejected, Pending, Complete, AlreadyReceived, Choice, reject, old, fresh, chosen, testedBytes, storedBytes, noteAfter, openedSlot, furtherSlot, Effect, complete, overlaps, frameIn, finish, placed, takeSegment}
+use Rattle.reassembly.specs.Laws.TakeFacts.{Tells, chosen-tells, not-complete, complete-slot}
+use Rattle.reassembly.specs.Laws.Memory.{within-low, within-high}
 use Rattle.reassembly.specs.Laws.Sim.{set-cases}
-use Rattle.reassembly.specs.Runs.{older-at}
-use Rattle.reassembly.specs.Laws.Ghost.{Piece, covers, byteOf, receivedIn, byteIn, upd, ghost, upd-same, upd-other}
-
--- ---- definitions
-
--- a log: for each slot of a row, the segments taken for the frame that opened there last, latest first
-abbrev pub Log : Type 0
-Log = ℕ → List Seg
-
-abbrev pub writes : Log → ℕ → List Seg → Log
-writes L s gs t = cond (eqb t s) gs (L t)
-
--- a segment that opens a frame begins the slot's list anew; a further one is added to it
-abbrev pub enters : Log → Seg → Choice → Log
-enters L g (reject r) = L
-enters L g (old s) = writes L s (g ∷ L s)
-enters L g (fresh s) = writes L s (g ∷ [])
-
--- only a segment that was taken is entered
-abbrev pub entered : Log → Seg → Choice → Outcome → Log
-entered L g c (Rejected r) = L
-entered L g c Pending = enters L g c
-entered L g c (Complete s) = enters L g c
-entered L g c NoMemory = L
-
--- the log after a segment to which this row and this outcome belong
-abbrev pub logged : Log → List Slot → Seg → Outcome → Log
-logged L row g x = entered L g (chosen row g) x
-
--- segment g covers byte i of the frame; its byte there
-abbrev pub carries : Seg → ℕ → Bool
-carries g i = within (g .offset) (length (g .bytes)) i
-
-abbrev pub carried : Seg → ℕ → ℕ
-carried g i = getD (g .bytes) (i - g .offset) 0
-
-abbrev pub noSeg : Seg
-noSeg = record { identifier = 0; frame-length = 0; offset = 0; bytes = []; mark = noMark }
-
--- byte i is b, and is from one of the segments: that one and no other covers i
-pub record OneOf (gs : List Seg) (i b : ℕ) : Type 0 where
-  pub which : ℕ
-  pub is-one : which < length gs
-  pub covering : carries (getD gs which noSeg) i ≡ true
-  pub only : (j : ℕ) → j < length gs → carries (getD gs j noSeg) i ≡ true → j ≡ which
-  pub byte : b ≡ carried (getD gs which noSeg) i
-
--- the segments are of one frame: its identifier, its length, each passes check 14
-pub record OfFrame (id n : ℕ) (g : Seg) : Type 0 where
-  pub identifier : g .identifier ≡ id
-  pub size : g .frame-length ≡ n
-  pub fits : Fits g
+use Rattle.reassembly.specs.Laws.Runs.{older-at}
+use Rattle.reassembly.specs.Laws.Ghost.{Piece, receivedIn, byteIn, ghost, upd-same, upd-other}
+use Rattle.reassembly.specs.History.{Log, writes, enters, entered, logged, carries, noSeg, OneOf, OfFrame}
 
 -- ---- what the log keeps to
 
@@ -136,30 +88,6 @@ pub record Pieced (p s : ℕ) (g : Seg) (m : ℕ → List Piece) (gs : List Seg)
   pub all-of : AllOf (g .identifier) (g .frame-length) gs
   pub all-apart : AllApart gs
 
--- a place below n where a test fails
-pub record Misses (n : ℕ) (f : ℕ → Bool) : Type 0 where
-  pub byte : ℕ
-  pub is-byte : byte < n
-  pub fails : f byte ≡ false
-
-allBelow-misses : (n : ℕ) (f : ℕ → Bool) → allBelow n f ≡ false → Misses n f
-unfolding allBelow
-allBelow-misses zero f e = clash (cc)
-allBelow-misses (suc n) f e =
-    caseB (f n)
-    (λ q. let r : Misses n f = allBelow-misses n f (rw q at e) in record { byte = r .byte; is-byte = omega (arith, r .is-byte); fails = r .fails })
-    (λ q. record { byte = n; is-byte = omega arith; fails = q })
-
--- a frame that is not complete: some byte of it no segment covers
-missing : (m : ℕ → List Piece) (k n : ℕ) (gs : List Seg) → m k ≡ map pieceOf gs → complete ghost m k n ≡ false → Misses n (λ i. receivedIn (map pieceOf gs) i)
-unfolding complete
-missing m k n gs e c =
-    let r : Misses n (λ i. receivedIn (m k) i) = allBelow-misses n (λ i. receivedIn (m k) i) c in
-    record { byte = r .byte; is-byte = r .is-byte; fails = ap (λ (x : List Piece). receivedIn x (r .byte)) (sym e) ∙ r .fails }
-
-pub uncovered : (gs : List Seg) (i : ℕ) → receivedIn (map pieceOf gs) i ≡ false → (j : ℕ) → j < length gs → carries (getD gs j noSeg) i ≡ false
-uncovered gs i e j l = caseB (carries (getD gs j noSeg) i) (λ q. clash (cc (covered gs j i l q))) (λ q. q)
-
 someBelow-at : (n : ℕ) (f : ℕ → Bool) → someBelow n f ≡ false → (i : ℕ) → i < n → f i ≡ false
 unfolding someBelow
 someBelow-at zero f e i l = absurd (omega arith)
@@ -211,18 +139,10 @@ module _ (p : ℕ) where
         all-apart = λ t lt e. either (set-cases row s free free t (omega (arith, h .four))) (λ c. clash (cc (c .1))) (λ c. h .all-apart t lt (rw (c .1) at e));
       }
 
-  -- a segment that was taken and left its frame pending: the slot, whose list it heads, and a byte that no segment covers
-  pub record Waiting (g : Seg) (m : ℕ → List Piece) (L : Log) : Type 0 where
-    pub slot : ℕ
-    pub is-slot : slot < 4
-    pub pieced : Pieced p slot g m (L slot)
-    pub misses : Misses (g .frame-length) (λ i. receivedIn (map pieceOf (L slot)) i)
-
-  -- after a segment: the log is kept; where it completes a frame, that frame's list makes it up; where it leaves it pending, a byte is missing
+  -- after a segment: the log is kept; where it completes a frame, that frame's list makes it up
   pub record Logged (g : Seg) (o : Effect ghost) (L : Log) : Type 0 where
     pub logs : Logs p (o .row .slots) (o .mem) L
     pub pieced : (t : ℕ) → o .outcome ≡ Complete t → Pieced p t g (o .mem) (L t) × (complete ghost (o .mem) (slotNo p t) (g .frame-length) ≡ true)
-    pub waits : o .outcome ≡ Pending → Waiting g (o .mem) L
 
   finish-logs : (row : List Slot) (m : ℕ → List Piece) (L : Log) (s : ℕ) (g : Seg) (note : Note) → s < 4 → Logs p row m L
       → Pieced p s g m (L s) → Logged g (finish ghost p s row m g note) L
@@ -232,34 +152,26 @@ module _ (p : ℕ) where
       (record {
         logs = free-logs row m L s ls h;
         pieced = λ t q. let z : s ≡ t = complete-slot s t q in rw (← z) (w, e);
-        waits = λ q. pending-not s q;
       }))
       (λ e. rw e
       (record {
         logs = h;
         pieced = λ t q. not-complete Pending t refl q;
-        waits = λ q. record { slot = s; is-slot = ls; pieced = w; misses = missing m (slotNo p s) (g .frame-length) (L s) (w .pieces) e };
       }))
-    where
-      pending-not : {C : Type 0} (s : ℕ) → Complete s ≡ Pending → C
-      pending-not s q = not-complete Pending s refl (sym q)
 
   -- a segment that comes so far is entered
   finish-enters : (L : Log) (c : Choice) (row : List Slot) (m : ℕ → List Piece) (s : ℕ) (g : Seg) (note : Note) → enters L g c ≡ entered L g c (finish ghost p s row m g note .outcome)
   finish-enters L c row m s g note = caseB (complete ghost m (slotNo p s) (g .frame-length)) (λ e. rw e) (λ e. rw e)
 
-  rejected-not : {C : Type 0} (r : Rejection) → Rejected r ≡ Pending → C
-  rejected-not r q = clash (cc)
-
   placed-logs : (row : List Slot) (m : ℕ → List Piece) (L : Log) (g : Seg) (c : Choice) → Tells row g c → Logs p row m L
       → Logged g (placed ghost p row m g c) (entered L g c (placed ghost p row m g c .outcome))
-  placed-logs row m L g (reject r) q h = record { logs = h; pieced = λ t e. not-complete (Rejected r) t refl e; waits = λ e. rejected-not r e }
+  placed-logs row m L g (reject r) q h = record { logs = h; pieced = λ t e. not-complete (Rejected r) t refl e }
   placed-logs row m L g (old s) q h =
       let ls : s < 4 = q .is-slot in
       let v : Slot = furtherSlot (getD row s free) g in
       let m′ : ℕ → List Piece = ghost .put m (slotNo p s) (g .offset) (storedBytes g) in
       caseB (overlaps ghost m (slotNo p s) g)
-      (λ e. rw e (record { logs = h; pieced = λ t z. not-complete (Rejected AlreadyReceived) t refl z; waits = λ z. rejected-not AlreadyReceived z }))
+      (λ e. rw e (record { logs = h; pieced = λ t z. not-complete (Rejected AlreadyReceived) t refl z }))
       (λ e. let pieces : m′ (slotNo p s) ≡ map pieceOf (g ∷ L s) = upd-same m (slotNo p s) _ ∙ ap (λ (x : List Piece). pieceOf g ∷ x) (h .pieces s ls) in
       let of-it : OfFrame (g .identifier) (g .frame-length) g = record { identifier = refl; size = refl; fits = q .fits } in
       let all-of : AllOf (g .identifier) (g .frame-length) (g ∷ L s) = (of-it, rw (q .identifier, q .size) at (h .all-of s ls (q .pending))) in

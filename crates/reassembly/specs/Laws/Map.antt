@@ -15,7 +15,8 @@ use lib.Bits.{bitAnd, bitOr, or-step, or-shr, or-zero-l, or-zero-r, or-add-and, 
 use lib.ListN.{length, getD, set}
 use lib.Seq.{getD-set-same, set-getD, set-set}
 use borrow.Author.Tests.{eq-eqb, ne-eqb, eqb-true, eqb-false}
-use Rattle.reassembly.specs.Base.{caseB, someBelow, allBelow, same-test, and-l, and-r, someBelow-ext, allBelow-ext}
+use Rattle.reassembly.specs.Laws.Base.{caseB, same-test, and-l, and-r, someBelow-ext, allBelow-ext}
+use Rattle.reassembly.specs.Base.{someBelow, allBelow}
 use Rattle.reassembly.specs.Store.{isOn, setBit, setBits, bitAt}
 use Rattle.reassembly.specs.Laws.Store.{length-setBits}
 

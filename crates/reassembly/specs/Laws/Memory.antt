@@ -1,18 +1,15 @@
 -- What a memory of 32 slots keeps to. Nothing above this file speaks of bits.
 use mathlib.Core.Path.{_≡_}
 use mathlib.Core.Logic.{_≢_}
-use mathlib.Core.Bool.{Bool, true, false, cond, _&&_, _||_}
+use mathlib.Core.Bool.{true, false, cond, _||_}
 use mathlib.Core.List.{List}
 use Prim.Native.Nat.{ℕ, _+_, _-_, _≤_, _<_}
 use lib.ListN.{length, getD}
 use lib.Dec.{ltb, leb}
 use borrow.Author.Tests.{ltb-true, leb-true, lt-ltb, le-leb}
-use Rattle.reassembly.specs.Base.{and-l, and-r}
+use Rattle.reassembly.specs.Laws.Base.{and-l, and-r}
 use Rattle.reassembly.specs.Take.{Ops}
-
--- is byte i among the n bytes from place a
-unfoldable pub within : ℕ → ℕ → ℕ → Bool
-within a n i = leb a i && ltb i (a + n)
+pub use Rattle.reassembly.specs.Base.{within}
 
 pub within-low : (a n i : ℕ) → within a n i ≡ true → a ≤ i
 unfolding within

@@ -8,11 +8,12 @@ use native.Mathlib.Omega.{arith}
 use lib.ListN.{length, getD, take}
 use lib.Dec.{ltb, leb, eqb}
 use borrow.Author.Tests.{ltb-true, ltb-false, leb-true, leb-false, eqb-true, eqb-false, lt-ltb, le-ltb, le-leb, lt-leb, eq-eqb, ne-eqb}
-use Rattle.reassembly.specs.Base.{caseB, either, clash, and-l, and-r, and-yes, and-no, below-suc}
+use Rattle.reassembly.specs.Laws.Base.{caseB, either, clash, and-l, and-r, and-yes, and-no, below-suc}
 use Rattle.reassembly.specs.Receive.{Event, receive, tick}
-use Rattle.reassembly.specs.Laws.Memory.{within}
+use Rattle.reassembly.specs.Base.{within}
 use Rattle.reassembly.specs.Laws.Ghost.{Piece, covers, receivedIn, byteIn}
-use Rattle.reassembly.specs.Slots.{Note, Mark, noNote, noted, noted-swap}
+use Rattle.reassembly.specs.Slots.{Note, Mark, noNote, noted}
+use Rattle.reassembly.specs.Laws.Slots.{noted-swap}
 use Rattle.reassembly.specs.Take.{Seg, noteAfter}
 use Rattle.reassembly.specs.Mix.{Part, noPart, Frame, joined, offsetOf, partOf, states, noteTo, frameNote, Item, given, other, frameOf, times, timesItem, segmentsOf, ofItem, ticks, tickItem, howMany}
 use Rattle.reassembly.specs.Laws.CutFacts.{size, part-byte, part-differ}

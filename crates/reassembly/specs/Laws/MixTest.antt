@@ -7,7 +7,8 @@ use native.Mathlib.Omega.{arith}
 use lib.ListN.{length, getD}
 use lib.Dec.{ltb, leb, eqb}
 use borrow.Author.Tests.{ltb-true, leb-true, eqb-true, eq-eqb}
-use Rattle.reassembly.specs.Base.{caseB, clash, and-l, and-r, allBelow, allBelow-at}
+use Rattle.reassembly.specs.Laws.Base.{caseB, clash, and-l, and-r, allBelow-at}
+use Rattle.reassembly.specs.Base.{allBelow}
 use Rattle.reassembly.specs.Receive.{Answers, Seen}
 use Rattle.reassembly.specs.Mix.{Frame, partOf, frameOf, Item, given, other, isSegment, times, ticks, pendingAt, howMany, AllFree, Mixing}
 

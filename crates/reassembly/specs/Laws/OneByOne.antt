@@ -1,19 +1,19 @@
 -- One after another is possible for any frames: the list that gives frame 0's segments, then frame 1's, and so on.
 use mathlib.Core.Path.{_≡_, refl, sym, ap, subst, _∙_}
-use mathlib.Core.Logic.{_⊎_, inl, inr, _≢_}
-use mathlib.Core.Bool.{Bool, true, false, cond, _&&_, _||_}
+use mathlib.Core.Logic.{_≢_}
+use mathlib.Core.Bool.{Bool, true, cond, _&&_}
 use mathlib.Core.List.{List, [], _∷_, _++_, append-assoc}
 use Prim.Native.Nat.{ℕ, zero, suc, _+_, _-_, _≤_, _<_}
 use native.Mathlib.Omega.{arith}
 use native.Mathlib.Nat.{zero-add, sub-zero}
 use lib.ListN.{length, getD}
-use lib.Dec.{ltb, leb, eqb, leb·suc-suc}
-use borrow.Author.Tests.{ltb-true, ltb-false, leb-true, eqb-true, eqb-false, lt-ltb, le-ltb, le-leb, lt-leb, eq-eqb, ne-eqb}
-use Rattle.reassembly.specs.Base.{caseB, either, clash, and-l, and-r, table}
+use lib.Dec.{ltb, eqb, leb·suc-suc}
+use borrow.Author.Tests.{ltb-true, ltb-false, eqb-true, eqb-false, lt-ltb, le-ltb, ne-eqb}
+use Rattle.reassembly.specs.Laws.Base.{caseB, and-l, and-r}
+use Rattle.reassembly.specs.Base.{table}
 use Rattle.reassembly.specs.Receive.{Event}
-use Rattle.reassembly.specs.Mix.{Frame, noFrame, Item, given, other, frameOf, isSegment, times, segmentsOf, pendingAt}
+use Rattle.reassembly.specs.Mix.{Frame, noFrame, Item, given, other, times, segmentsOf, pendingAt, InTurn, Only}
 use Rattle.reassembly.specs.Laws.MixFacts.{times-append, of-append}
-use Rattle.reassembly.specs.Laws.InTurn.{InTurn, Only}
 
 abbrev pub block : ℕ → ℕ → List Item
 block f n = table n (λ j. given f j)

@@ -1,25 +1,28 @@
--- The slot rules (Rules) for one segment and one tick, over the memory of pieces: the row is as the history tells, the history decides, and the row that is left is as the next history tells.
-use mathlib.Core.Path.{_≡_, refl, sym, ap, subst, _∙_}
+-- The slot rules (EveryRun) for one segment and one tick, over the memory of pieces: the row is as the history tells, the history decides, and the row that is left is as the next history tells.
+use mathlib.Core.Path.{_≡_, refl, sym, ap, _∙_}
 use mathlib.Core.Logic.{_⊎_, inl, inr, _≢_}
 use mathlib.Core.Bool.{Bool, true, false, cond, not, _&&_, _||_}
-use mathlib.Core.List.{List, [], _∷_, _++_, map}
-use mathlib.Core.Option.{Option, none, some}
-use Prim.Native.Nat.{ℕ, zero, suc, _+_, _-_, _*_, _/_, _≤_, _<_}
+use mathlib.Core.List.{List, [], _∷_, map}
+use mathlib.Core.Option.{none, some}
+use Prim.Native.Nat.{ℕ, zero, suc, _+_, _-_, _≤_, _<_}
 use native.Mathlib.Omega.{arith}
 use lib.ListN.{length, getD, set, length-set, length-map}
-use lib.Seq.{getD-set-same, getD-set-other, set-set}
-use lib.Dec.{ltb, leb, eqb}
+use lib.Seq.{set-set}
+use lib.Dec.{ltb, eqb}
 use borrow.Author.Tests.{ltb-true, ltb-false, lt-ltb, le-ltb, eqb-true, eqb-false, eq-eqb, ne-eqb}
-use Rattle.reassembly.specs.Base.{someBelow, allBelow, caseB, caseO, either, clash, below-suc, allBelow-ext, someBelow-none, or-true-r, or-false-l, or-false-r, and-l, and-r}
-use Rattle.reassembly.specs.Slots.{Slot, Row, Note, noNote, noteOf, free, first, bears, isFree, First, first-some, first-none, first-is, first-not, older, older-pending}
-use Rattle.reassembly.specs.Take.{slotNo, Seg, Ops, Rejection, rejectionCode, Empty, FrameLength, PastEnd, Outcome, Rejected, Pending, Complete, NoMemory, OtherLength, AlreadyReceived, NoSlot, Choice, reject, old, fresh, choose, chosen, testedBytes, storedBytes, noteAfter, openedSlot, furtherSlot, Effect, complete, overlaps, finish, placed, takeSegment}
+use Rattle.reassembly.specs.Base.{someBelow, allBelow}
+use Rattle.reassembly.specs.Laws.Base.{caseB, caseO, either, clash, below-suc, allBelow-ext, someBelow-some, someBelow-none, or-true-r, or-false-l, or-false-r, and-l, and-r}
+use Rattle.reassembly.specs.Slots.{Slot, Row, Note, noNote, noteOf, free, first, bears, isFree, older, lifetime}
+use Rattle.reassembly.specs.Laws.Slots.{First, first-some, first-none, first-is, first-not, older-pending}
+use Rattle.reassembly.specs.Take.{slotNo, Seg, Ops, Rejection, rejectionCode, Empty, FrameLength, PastEnd, Outcome, Rejected, Pending, Complete, NoMemory, OtherLength, AlreadyReceived, NoSlot, Choice, reject, old, fresh, choose, chosen, testedBytes, storedBytes, noteAfter, openedSlot, furtherSlot, Effect, complete, overlaps, finish, placed, takeSegment, Fits}
 use Rattle.reassembly.specs.Laws.TakeFacts.{Fits, Old, Fresh, Tells, chosen-tells, chosen-fits, bears-is, bears-pending, bears-identifier, is-free-false, not-free}
 use Rattle.reassembly.specs.Laws.Memory.{within, within-low, within-high, within-is}
 use Rattle.reassembly.specs.Laws.Sim.{set-cases}
-use Rattle.reassembly.specs.Runs.{older-at}
+use Rattle.reassembly.specs.Laws.Runs.{older-at}
 use Rattle.reassembly.specs.Laws.Ghost.{Piece, receivedIn, ghost, upd-same}
-use Rattle.reassembly.specs.Laws.Log.{Log, writes, enters, entered, carries, pieceOf, Logs, writes-same, writes-other}
-use Rattle.reassembly.specs.Rules.{covered, identifierOf, lengthOf, whole, underWay, History, busy, Holds, NoneHolds, Lowest, Fifteen, Sixteen, Seventeen, Further, Opens, Stands, resets, restarts, restarted, onceMore}
+use Rattle.reassembly.specs.History.{enters, entered, carries, covered, lengthOf, frameComplete, framePending, History, pendingIn, Bears, NoneBears, Lowest, Fifteen, Sixteen, Seventeen, Further, Opens, resets, restarts, restarted, onceMore}
+use Rattle.reassembly.specs.Laws.Log.{pieceOf, Logs, writes-same, writes-other}
+use Rattle.reassembly.specs.EveryRun.{Stands}
 
 -- ---- covered is what the memory of pieces has received
 
@@ -27,17 +30,9 @@ pub covered-is : (gs : List Seg) (i : ℕ) → covered gs i ≡ receivedIn (map 
 covered-is [] i = refl
 covered-is (g ∷ gs) i = ap (λ (b : Bool). carries g i || b) (covered-is gs i)
 
-pub whole-is : (m : ℕ → List Piece) (k : ℕ) (gs : List Seg) → m k ≡ map pieceOf gs → complete ghost m k (lengthOf gs) ≡ whole gs
-unfolding complete whole
+pub whole-is : (m : ℕ → List Piece) (k : ℕ) (gs : List Seg) → m k ≡ map pieceOf gs → complete ghost m k (lengthOf gs) ≡ frameComplete gs
+unfolding complete frameComplete
 whole-is m k gs e = allBelow-ext (lengthOf gs) (λ i. receivedIn (m k) i) (λ i. covered gs i) (λ i l. ap (λ (x : List Piece). receivedIn x i) e ∙ sym (covered-is gs i))
-
-some-intro : (n : ℕ) (f : ℕ → Bool) (i : ℕ) → i < n → f i ≡ true → someBelow n f ≡ true
-unfolding someBelow
-some-intro zero f i l e = absurd (omega arith)
-some-intro (suc n) f i l e =
-    either (below-suc l)
-    (λ h. or-true-r (f n) (someBelow n f) (some-intro n f i h e))
-    (λ q. rw (← q, e))
 
 pub record Found (n : ℕ) (f : ℕ → Bool) : Type 0 where
   pub at : ℕ
@@ -53,7 +48,7 @@ some-finds (suc n) f e =
     (λ q. let r : Found n f = some-finds n f (rw q at e) in record { at = r .at; is-below = omega (arith, r .is-below); passes = r .passes })
 
 some-not : (n : ℕ) (f : ℕ → Bool) → someBelow n f ≡ false → (i : ℕ) → i < n → f i ≡ false
-some-not n f e i l = caseB (f i) (λ q. clash (cc (some-intro n f i l q))) (λ q. q)
+some-not n f e i l = caseB (f i) (λ q. clash (cc (someBelow-some n f i l q))) (λ q. q)
 
 -- 16 and its contrary, of the segments gs that are in slot k
 pub covered-overlaps : (m : ℕ → List Piece) (k : ℕ) (g : Seg) (gs : List Seg) (i : ℕ) → m k ≡ map pieceOf gs → carries g i ≡ true → covered gs i ≡ true → overlaps ghost m k g ≡ true
@@ -62,7 +57,7 @@ covered-overlaps m k g gs i e c d =
     let lo : g .offset ≤ i = within-low (g .offset) (length (g .bytes)) i c in
     let hi : i < g .offset + length (g .bytes) = within-high (g .offset) (length (g .bytes)) i c in
     let z : g .offset + (i - g .offset) ≡ i = omega arith in
-    some-intro (testedBytes g) (λ j. receivedIn (m k) (g .offset + j)) (i - g .offset) (omega arith)
+    someBelow-some (testedBytes g) (λ j. receivedIn (m k) (g .offset + j)) (i - g .offset) (omega arith)
     (ap (λ (x : ℕ). receivedIn (m k) x) z ∙ ap (λ (x : List Piece). receivedIn x i) e ∙ sym (covered-is gs i) ∙ d)
 
 pub apart-overlaps : (m : ℕ → List Piece) (k : ℕ) (g : Seg) (gs : List Seg) → m k ≡ map pieceOf gs → ((i : ℕ) → carries g i ≡ true → covered gs i ≡ false) → overlaps ghost m k g ≡ false
@@ -100,25 +95,25 @@ module _ (row : List Slot) (h : History) (st : Stand row h) where
   abbrev slotOf : ℕ → Slot
   slotOf s = getD row s free
 
-  pub holds-bears : (id s : ℕ) → Holds h id s → bears id (slotOf s) ≡ true
+  pub holds-bears : (id s : ℕ) → Bears h id s → bears id (slotOf s) ≡ true
   holds-bears id s w =
       let v = st .stands s (w .is-slot) in
-      let e : slotOf s .pending ≡ true = v .pending ∙ w .under-way in
+      let e : slotOf s .pending ≡ true = v .pending ∙ w .pending in
       bears-is id (slotOf s) e (v .identifier e ∙ w .identifier)
 
-  pub bears-holds : (id s : ℕ) → s < 4 → bears id (slotOf s) ≡ true → Holds h id s
+  pub bears-holds : (id s : ℕ) → s < 4 → bears id (slotOf s) ≡ true → Bears h id s
   bears-holds id s l b =
       let v = st .stands s l in
       let e : slotOf s .pending ≡ true = bears-pending id (slotOf s) b in
-      record { is-slot = l; under-way = sym (v .pending) ∙ e; identifier = sym (v .identifier e) ∙ bears-identifier id (slotOf s) b }
+      record { is-slot = l; pending = sym (v .pending) ∙ e; identifier = sym (v .identifier e) ∙ bears-identifier id (slotOf s) b }
 
-  pub holds-one : (id s t : ℕ) → Holds h id s → Holds h id t → s ≡ t
+  pub holds-one : (id s t : ℕ) → Bears h id s → Bears h id t → s ≡ t
   holds-one id s t a b =
       let x : bears id (slotOf s) ≡ true = holds-bears id s a in
       let y : bears id (slotOf t) ≡ true = holds-bears id t b in
       st .distinct s t (a .is-slot) (b .is-slot) (bears-pending id (slotOf s) x) (bears-pending id (slotOf t) y) (bears-identifier id (slotOf s) x ∙ sym (bears-identifier id (slotOf t) y))
 
-  holds-first : (id s : ℕ) → Holds h id s → first (bears id) row ≡ some s
+  holds-first : (id s : ℕ) → Bears h id s → first (bears id) row ≡ some s
   holds-first id s w =
       first-is (bears id) row s (w .is-slot)
       (λ t l. caseB (bears id (slotOf t))
@@ -126,14 +121,14 @@ module _ (row : List Slot) (h : History) (st : Stand row h) where
       (λ e. e))
       (holds-bears id s w)
 
-  none-first : (id : ℕ) → NoneHolds h id → first (bears id) row ≡ none
+  none-first : (id : ℕ) → NoneBears h id → first (bears id) row ≡ none
   none-first id n = first-not (bears id) row (λ t l. caseB (bears id (slotOf t)) (λ e. absurd (n t (bears-holds id t l e))) (λ e. e))
 
   free-is : (v : Slot) (b : Bool) → v .pending ≡ b → isFree v ≡ not b
   unfolding isFree
   free-is v b e = ap not e
 
-  idle-free : (s : ℕ) → s < 4 → (b : Bool) → busy h s ≡ b → isFree (slotOf s) ≡ not b
+  idle-free : (s : ℕ) → s < 4 → (b : Bool) → pendingIn h s ≡ b → isFree (slotOf s) ≡ not b
   idle-free s l b e = free-is (slotOf s) b (st .stands s l .pending ∙ e)
 
   lowest-first : (s : ℕ) → Lowest h s → first isFree row ≡ some s
@@ -142,27 +137,27 @@ module _ (row : List Slot) (h : History) (st : Stand row h) where
   module _ (g : Seg) (f : Fits g) where
     -- ---- the history decides
 
-    chosen-holds : (s : ℕ) → Holds h (g .identifier) s → chosen row g ≡ cond (eqb (slotOf s .«frame_length») (g .frame-length)) (old s) (reject OtherLength)
+    chosen-holds : (s : ℕ) → Bears h (g .identifier) s → chosen row g ≡ cond (eqb (slotOf s .«frame_length») (g .frame-length)) (old s) (reject OtherLength)
     chosen-holds s w = chosen-fits row g f ∙ ap (choose row g) (holds-first (g .identifier) s w)
 
-    size-of : (s : ℕ) → Holds h (g .identifier) s → slotOf s .«frame_length» ≡ lengthOf (h .taken s)
-    size-of s w = let v = st .stands s (w .is-slot) in v .size (v .pending ∙ w .under-way)
+    size-of : (s : ℕ) → Bears h (g .identifier) s → slotOf s .«frame_length» ≡ lengthOf (h .taken s)
+    size-of s w = let v = st .stands s (w .is-slot) in v .size (v .pending ∙ w .pending)
 
-    pub chosen-old : (s : ℕ) → Holds h (g .identifier) s → lengthOf (h .taken s) ≡ g .frame-length → chosen row g ≡ old s
+    pub chosen-old : (s : ℕ) → Bears h (g .identifier) s → lengthOf (h .taken s) ≡ g .frame-length → chosen row g ≡ old s
     chosen-old s w q = chosen-holds s w ∙ rw (eq-eqb (slotOf s .«frame_length») (g .frame-length) (size-of s w ∙ q))
 
     pub chosen-other : (x : Fifteen h g) → chosen row g ≡ reject OtherLength
     chosen-other x =
-        let n : slotOf (x .slot) .«frame_length» ≢ g .frame-length = λ z. x .other (sym (size-of (x .slot) (x .holds)) ∙ z) in
-        chosen-holds (x .slot) (x .holds) ∙ rw (ne-eqb (slotOf (x .slot) .«frame_length») (g .frame-length) n)
+        let n : slotOf (x .slot) .«frame_length» ≢ g .frame-length = λ z. x .other (sym (size-of (x .slot) (x .bears)) ∙ z) in
+        chosen-holds (x .slot) (x .bears) ∙ rw (ne-eqb (slotOf (x .slot) .«frame_length») (g .frame-length) n)
 
     pub chosen-full : Seventeen h g → chosen row g ≡ reject NoSlot
     chosen-full x =
         let n : first isFree row ≡ none = first-not isFree row (λ t l. idle-free t l true (x .four t l)) in
-        chosen-fits row g f ∙ rw (none-first (g .identifier) (x .none-holds), n)
+        chosen-fits row g f ∙ rw (none-first (g .identifier) (x .none-bears), n)
 
     pub chosen-new : (s : ℕ) → Opens h g s → chosen row g ≡ fresh s
-    chosen-new s x = chosen-fits row g f ∙ rw (none-first (g .identifier) (x .none-holds), lowest-first s (x .lowest))
+    chosen-new s x = chosen-fits row g f ∙ rw (none-first (g .identifier) (x .none-bears), lowest-first s (x .lowest))
 
 -- 14
 pub chosen-unfit : (row : List Slot) (g : Seg) → (Fits g → ⊥) → (r : Rejection) × ((chosen row g ≡ reject r) × (rejectionCode r ≡ 14))
@@ -187,19 +182,19 @@ chosen-unfit row g n =
 abbrev pub afterwards : History → Seg → Choice → Outcome → History
 afterwards h g c o = record { taken = entered (h .taken) g c o; ticks = restarted (h .ticks) c o }
 
-pub under-young : (gs : List Seg) (t : ℕ) → underWay gs t ≡ true → t < 4
-unfolding underWay
-under-young gs t e = ltb-true t 4 (and-l (ltb t 4) (not (whole gs)) e)
+pub under-young : (gs : List Seg) (t : ℕ) → framePending gs t ≡ true → t < 4
+unfolding framePending
+under-young gs t e = ltb-true t 4 (and-l (ltb t 4) (not (frameComplete gs)) e)
 
-under-is : (gs : List Seg) (t : ℕ) → t < 4 → whole gs ≡ false → underWay gs t ≡ true
-unfolding underWay
+under-is : (gs : List Seg) (t : ℕ) → t < 4 → frameComplete gs ≡ false → framePending gs t ≡ true
+unfolding framePending
 under-is gs t l e = rw (lt-ltb t 4 l, e)
 
-under-whole : (gs : List Seg) (t : ℕ) → whole gs ≡ true → underWay gs t ≡ false
-unfolding underWay
+under-whole : (gs : List Seg) (t : ℕ) → frameComplete gs ≡ true → framePending gs t ≡ false
+unfolding framePending
 under-whole gs t e = caseB (ltb t 4) (λ q. rw (q, e)) (λ q. rw q)
 
-free-stands : (gs : List Seg) (t : ℕ) → underWay gs t ≡ false → Stands free gs t
+free-stands : (gs : List Seg) (t : ℕ) → framePending gs t ≡ false → Stands free gs t
 free-stands gs t e = record { pending = sym e; identifier = λ q. clash (cc); size = λ q. clash (cc); age = λ q. clash (cc) }
 
 -- slot s is written
@@ -233,7 +228,7 @@ module _ (p : ℕ) where
       → ((t : ℕ) → t < 4 → t ≢ s → getD row t free .pending ≡ true → getD row t free .identifier ≢ g .identifier)
       → Stand (finish ghost p s (set row s v) m g note .row .slots) (afterwards h g c (finish ghost p s (set row s v) m g note .outcome))
   finish-stand row m h s v g earlier note c ls st here pieces others vp vi vs va young only =
-      let w : complete ghost m (slotNo p s) (g .frame-length) ≡ whole (g ∷ earlier) = whole-is m (slotNo p s) (g ∷ earlier) pieces in
+      let w : complete ghost m (slotNo p s) (g .frame-length) ≡ frameComplete (g ∷ earlier) = whole-is m (slotNo p s) (g ∷ earlier) pieces in
       let h′ : History = record { taken = enters (h .taken) g c; ticks = restarts (h .ticks) c } in
       caseB (complete ghost m (slotNo p s) (g .frame-length))
       (λ e. rw e (rw (set-set row s v free)
@@ -283,15 +278,17 @@ module _ (p : ℕ) where
 -- ---- a tick
 
 older-stands : (v : Slot) (gs : List Seg) (t : ℕ) → Stands v gs t → Stands (older v) gs (t + 1)
-unfolding older underWay
+unfolding older framePending
 older-stands v gs t w =
     caseB (v .pending)
-    (λ e. let u : (ltb t 4 && not (whole gs)) ≡ true = sym (w .pending) ∙ e in
-    let n : not (whole gs) ≡ true = and-r (ltb t 4) (not (whole gs)) u in
+    (λ e. let u : (ltb t 4 && not (frameComplete gs)) ≡ true = sym (w .pending) ∙ e in
+    let n : not (frameComplete gs) ≡ true = and-r (ltb t 4) (not (frameComplete gs)) u in
     let a : v .age ≡ t = w .age e in
-    caseB (ltb (v .age + 1) 4)
-    (λ y. rw (e, y) (record { pending = rw (← a, y, n); identifier = λ q. w .identifier e; size = λ q. w .size e; age = λ q. omega arith }))
-    (λ y. rw (e, y) (free-stands gs (t + 1) (let y′ : ltb (t + 1) 4 ≡ false = rw a at y in unfolded gs t y′))))
+    caseB (ltb (v .age + 1) lifetime)
+    (λ y. let young : t + 1 < 4 = omega (arith, ltb-true (v .age + 1) lifetime y) in
+    rw (e, y) (record { pending = rw (lt-ltb (t + 1) 4 young, n); identifier = λ q. w .identifier e; size = λ q. w .size e; age = λ q. omega arith }))
+    (λ y. let old : 4 ≤ t + 1 = omega (arith, ltb-false (v .age + 1) lifetime y) in
+    rw (e, y) (free-stands gs (t + 1) (unfolded gs t (le-ltb (t + 1) 4 old)))))
     (λ e. rw e
     (record {
       pending = gone (sym (w .pending) ∙ e);
@@ -300,12 +297,12 @@ older-stands v gs t w =
       age = λ q. clash (cc);
     }))
   where
-    unfolded : (gs : List Seg) (t : ℕ) → ltb (t + 1) 4 ≡ false → underWay gs (t + 1) ≡ false
+    unfolded : (gs : List Seg) (t : ℕ) → ltb (t + 1) 4 ≡ false → framePending gs (t + 1) ≡ false
     unfolded gs t y = rw y
 
-    gone : (ltb t 4 && not (whole gs)) ≡ false → false ≡ (ltb (t + 1) 4 && not (whole gs))
+    gone : (ltb t 4 && not (frameComplete gs)) ≡ false → false ≡ (ltb (t + 1) 4 && not (frameComplete gs))
     gone e =
-        caseB (not (whole gs))
+        caseB (not (frameComplete gs))
         (λ n. caseB (ltb t 4)
         (λ y. clash (cc))
         (λ y. let z : ltb (t + 1) 4 ≡ false = le-ltb (t + 1) 4 (omega (arith, ltb-false t 4 y)) in rw z))
@@ -342,28 +339,28 @@ module _ (p : ℕ) (row : Row) (m : ℕ → List Piece) (h : History) (lg : Logs
 
   pub told-16 : Sixteen h g → told ≡ Rejected AlreadyReceived
   told-16 x =
-      let o : overlaps ghost m (slotNo p (x .slot)) g ≡ true = covered-overlaps m (slotNo p (x .slot)) g (h .taken (x .slot)) (x .byte) (lg .pieces (x .slot) (x .holds .is-slot)) (x .its) (x .already) in
-      told-by (old (x .slot)) (chosen-old (row .slots) h st g f (x .slot) (x .holds) (x .same)) ∙ rw o
+      let o : overlaps ghost m (slotNo p (x .slot)) g ≡ true = covered-overlaps m (slotNo p (x .slot)) g (h .taken (x .slot)) (x .byte) (lg .pieces (x .slot) (x .bears .is-slot)) (x .its) (x .already) in
+      told-by (old (x .slot)) (chosen-old (row .slots) h st g f (x .slot) (x .bears) (x .same)) ∙ rw o
 
   pub told-17 : Seventeen h g → told ≡ Rejected NoSlot
   told-17 x = told-by (reject NoSlot) (chosen-full (row .slots) h st g f x)
 
   finish-told : (s : ℕ) (r : List Slot) (m′ : ℕ → List Piece) (note : Note) (earlier : List Seg) → m′ (slotNo p s) ≡ map pieceOf (g ∷ earlier)
-      → finish ghost p s r m′ g note .outcome ≡ cond (whole (g ∷ earlier)) (Complete s) Pending
+      → finish ghost p s r m′ g note .outcome ≡ cond (frameComplete (g ∷ earlier)) (Complete s) Pending
   finish-told s r m′ note earlier e =
-      let w : complete ghost m′ (slotNo p s) (g .frame-length) ≡ whole (g ∷ earlier) = whole-is m′ (slotNo p s) (g ∷ earlier) e in
-      caseB (whole (g ∷ earlier)) (λ q. rw (w, q)) (λ q. rw (w, q))
+      let w : complete ghost m′ (slotNo p s) (g .frame-length) ≡ frameComplete (g ∷ earlier) = whole-is m′ (slotNo p s) (g ∷ earlier) e in
+      caseB (frameComplete (g ∷ earlier)) (λ q. rw (w, q)) (λ q. rw (w, q))
 
-  pub told-further : (s : ℕ) → Further h g s → told ≡ cond (whole (g ∷ h .taken s)) (Complete s) Pending
+  pub told-further : (s : ℕ) → Further h g s → told ≡ cond (frameComplete (g ∷ h .taken s)) (Complete s) Pending
   told-further s x =
-      let ls : s < 4 = x .holds .is-slot in
+      let ls : s < 4 = x .bears .is-slot in
       let m′ : ℕ → List Piece = ghost .put m (slotNo p s) (g .offset) (storedBytes g) in
       let pieces : m′ (slotNo p s) ≡ map pieceOf (g ∷ h .taken s) = upd-same m (slotNo p s) _ ∙ ap (λ (x : List Piece). pieceOf g ∷ x) (lg .pieces s ls) in
-      told-by (old s) (chosen-old (row .slots) h st g f s (x .holds) (x .same))
+      told-by (old s) (chosen-old (row .slots) h st g f s (x .bears) (x .same))
       ∙ rw (apart-overlaps m (slotNo p s) g (h .taken s) (lg .pieces s ls) (x .apart))
       (finish-told s (set (row .slots) s (furtherSlot (getD (row .slots) s free) g)) m′ (noteAfter (noteOf (getD (row .slots) s free)) g) (h .taken s) pieces)
 
-  pub told-opens : (s : ℕ) → Opens h g s → told ≡ cond (whole (g ∷ [])) (Complete s) Pending
+  pub told-opens : (s : ℕ) → Opens h g s → told ≡ cond (frameComplete (g ∷ [])) (Complete s) Pending
   told-opens s x =
       let m₁ : ℕ → List Piece = ghost .clear m (slotNo p s) in
       let m′ : ℕ → List Piece = ghost .put m₁ (slotNo p s) (g .offset) (g .bytes) in
@@ -378,14 +375,14 @@ module _ (p : ℕ) (row : Row) (m : ℕ → List Piece) (h : History) (lg : Logs
     where
       strange : first (bears (g .identifier)) (row .slots) ≡ none → OneCase
       strange e =
-          let n : NoneHolds h (g .identifier) = λ s w. clash (cc (first-none (bears (g .identifier)) (row .slots) e s (w .is-slot), holds-bears (row .slots) h st (g .identifier) s w)) in
+          let n : NoneBears h (g .identifier) = λ s w. clash (cc (first-none (bears (g .identifier)) (row .slots) e s (w .is-slot), holds-bears (row .slots) h st (g .identifier) s w)) in
           caseO (first isFree (row .slots))
-          (λ q. inr (inr (inl (record { none-holds = n; four = λ s l. sym (st .stands s l .pending) ∙ not-free (getD (row .slots) s free) (first-none isFree (row .slots) q s l) }))))
+          (λ q. inr (inr (inl (record { none-bears = n; four = λ s l. sym (st .stands s l .pending) ∙ not-free (getD (row .slots) s free) (first-none isFree (row .slots) q s l) }))))
           (λ s q. let b : First isFree (row .slots) s = first-some isFree (row .slots) s q in
           inr (inr (inr (inr (
             s,
             record {
-              none-holds = n;
+              none-bears = n;
               lowest =
                   record {
                     is-slot = b .is-slot;
@@ -398,12 +395,12 @@ module _ (p : ℕ) (row : Row) (m : ℕ → List Piece) (h : History) (lg : Logs
       known : (s : ℕ) → first (bears (g .identifier)) (row .slots) ≡ some s → OneCase
       known s e =
           let b : First (bears (g .identifier)) (row .slots) s = first-some (bears (g .identifier)) (row .slots) s e in
-          let w : Holds h (g .identifier) s = bears-holds (row .slots) h st (g .identifier) s (b .is-slot) (b .passes) in
+          let w : Bears h (g .identifier) s = bears-holds (row .slots) h st (g .identifier) s (b .is-slot) (b .passes) in
           let pieces : m (slotNo p s) ≡ map pieceOf (h .taken s) = lg .pieces s (b .is-slot) in
           caseB (eqb (lengthOf (h .taken s)) (g .frame-length))
           (λ q. let z : lengthOf (h .taken s) ≡ g .frame-length = eqb-true (lengthOf (h .taken s)) (g .frame-length) q in
           caseB (overlaps ghost m (slotNo p s) g)
           (λ o. let c : Overlap g (h .taken s) = overlaps-covered m (slotNo p s) g (h .taken s) pieces o in
-          inr (inl (record { slot = s; holds = w; same = z; byte = c .byte; its = c .its; already = c .already })))
-          (λ o. inr (inr (inr (inl (s, record { holds = w; same = z; apart = overlaps-apart m (slotNo p s) g (h .taken s) pieces o }))))))
-          (λ q. inl (record { slot = s; holds = w; other = eqb-false (lengthOf (h .taken s)) (g .frame-length) q }))
+          inr (inl (record { slot = s; bears = w; same = z; byte = c .byte; its = c .its; already = c .already })))
+          (λ o. inr (inr (inr (inl (s, record { bears = w; same = z; apart = overlaps-apart m (slotNo p s) g (h .taken s) pieces o }))))))
+          (λ q. inl (record { slot = s; bears = w; other = eqb-false (lengthOf (h .taken s)) (g .frame-length) q }))

@@ -1,22 +1,20 @@
--- Which bytes of the memory a segment that is taken changes (Rules, `Touches`): over the bytes, with the paper's numbers.
-use mathlib.Core.Path.{_≡_, refl, sym, ap, subst, _∙_}
-use mathlib.Core.Logic.{_⊎_, inl, inr, _≢_}
-use mathlib.Core.Bool.{Bool, true, false, cond, not, _&&_, _||_}
-use mathlib.Core.List.{List, [], _∷_, _++_, map}
-use Prim.Native.Nat.{ℕ, zero, suc, _+_, _-_, _*_, _/_, _%_, _^_, _≤_, _<_}
+-- Which bytes of the memory a segment that is taken changes (EveryRun, `Touches`): over the bytes, with the paper's numbers.
+use mathlib.Core.Path.{_≡_, refl, sym, ap, _∙_}
+use mathlib.Core.Logic.{inl, inr, _≢_}
+use mathlib.Core.Bool.{Bool, true, false, _||_}
+use mathlib.Core.List.{List}
+use Prim.Native.Nat.{ℕ, zero, suc, _+_, _-_, _/_, _%_, _^_, _≤_, _<_}
 use native.Mathlib.Omega.{arith}
 use native.Mathlib.Nat.{zero-div}
-use lib.ListN.{length, getD, set, length-set, length-replicate, getD-replicate}
-use lib.Seq.{getD-set-same, getD-set-other, sets, length-sets}
-use lib.Dec.{ltb, eqb}
-use Rattle.reassembly.specs.Base.{caseB, either, clash}
-use Rattle.reassembly.specs.Take.{slotNo, Seg}
-use Rattle.reassembly.specs.Laws.TakeFacts.{Fits}
-use Rattle.reassembly.specs.Laws.Memory.{within, within-low, within-high, within-is}
-use Rattle.reassembly.specs.Store.{isOn, bitAt, setBit, setBits, slotStart, mapStart, mapSize, zeros, clearAt, putAt}
+use lib.ListN.{length, getD, length-replicate, getD-replicate}
+use lib.Seq.{getD-set-other, sets, length-sets}
+use Rattle.reassembly.specs.Laws.Base.{either, clash}
+use Rattle.reassembly.specs.Take.{slotNo, Seg, Fits}
+use Rattle.reassembly.specs.Base.{within}
+use Rattle.reassembly.specs.Laws.Memory.{within-low, within-high, within-is}
+use Rattle.reassembly.specs.Store.{isOn, bitAt, setBit, setBits, slotStart, mapStart, zeros, clearAt, putAt}
 use Rattle.reassembly.specs.Laws.Store.{sets-out, sets-in, bits-set, bits-out, length-setBits}
-use Rattle.reassembly.specs.Laws.Log.{carries}
-use Rattle.reassembly.specs.Rules.{frameAt, mapAt, bitOf, Off, Touches}
+use Rattle.reassembly.specs.EveryRun.{frameAt, mapAt, bitOf, Touches}
 
 -- a map byte that has none of the bits is left
 setBits-other : (m : List ℕ) (b a n j : ℕ) → ((i : ℕ) → within a n i ≡ true → j ≢ b + i / 8) → getD (setBits m b a n) j 0 ≡ getD m j 0
@@ -40,7 +38,7 @@ unfolding bitAt isOn
 bit-is m b i = refl
 
 module _ (p s : ℕ) (p< : p < 8) (s< : s < 4) (g : Seg) (f : Fits g) where
-  -- a further segment of a frame under way
+  -- a further segment of a frame pending
   pub touches-further : (m : List ℕ) → 55296 ≤ length m → Touches p s false g m (putAt m (slotNo p s) (g .offset) (g .bytes))
   unfolding putAt slotStart mapStart
   touches-further m o =

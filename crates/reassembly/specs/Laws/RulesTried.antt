@@ -1,42 +1,40 @@
--- The slot rules, tried on the shortest runs, so that no clause of them is empty: from a set-up any part of a frame opens slot 0; the same packet again is 16; three ticks later the frame is still under way; after a fourth it is not,
+-- The slot rules, tried on the shortest runs, so that no clause of them is empty: from a set-up any part of a frame opens slot 0; the same packet again is 16; three ticks later the frame is still pending; after a fourth it is not,
 -- and the same packet opens slot 0 anew.
-use mathlib.Core.Path.{_≡_, refl, sym, ap, subst, _∙_}
-use mathlib.Core.Logic.{_⊎_, inl, inr, _≢_}
-use mathlib.Core.Bool.{Bool, true, false, cond, not, _&&_, _||_}
-use mathlib.Core.List.{List, [], _∷_, _++_}
-use Prim.Native.Nat.{ℕ, zero, suc, _+_, _*_, _≤_, _<_}
+use mathlib.Core.Path.{_≡_, refl, _∙_}
+use mathlib.Core.Bool.{true, false}
+use mathlib.Core.List.{List, [], _∷_}
+use Prim.Native.Nat.{ℕ, zero, suc, _≤_, _<_}
 use native.Mathlib.Omega.{arith}
-use lib.ListN.{length, getD}
+use lib.ListN.{length}
 use lib.Dec.{ltb, eqb}
 use borrow.Author.Tests.{eqb-true, eqb-false}
-use Rattle.reassembly.specs.Base.{allBelow, caseB, clash}
-use Rattle.reassembly.specs.Take.{Seg, Outcome, Rejected, Pending, Complete, AlreadyReceived}
-use Rattle.reassembly.specs.Laws.TakeFacts.{Fits}
+use Rattle.reassembly.specs.Base.{allBelow}
+use Rattle.reassembly.specs.Laws.Base.{caseB, clash}
+use Rattle.reassembly.specs.Take.{Seg, Outcome, Rejected, Pending, AlreadyReceived, Fits}
 use Rattle.reassembly.specs.Laws.Memory.{within-is}
 use Rattle.reassembly.specs.Receive.{Answers, segment, Event, receive, tick}
-use Rattle.reassembly.specs.SetUp.{Layers, Endpoint, World, receives, runs}
-use Rattle.reassembly.specs.Laws.Log.{carries}
-use Rattle.reassembly.specs.Carried.{taking}
-use Rattle.reassembly.specs.Rules.{covered, whole, underWay, History, busy, Holds, Sixteen, Opens, Taken, historyOf, Rules}
+use Rattle.reassembly.specs.SetUp.{Layers, Endpoint, World, runs}
+use Rattle.reassembly.specs.History.{carries, taking, frameComplete, framePending, History, pendingIn, Opens, historyOf}
+use Rattle.reassembly.specs.EveryRun.{EveryRun}
 
 -- segments alone, t ticks after the first
-alone : (g : Seg) (t : ℕ) → whole (g ∷ []) ≡ false → t < 4 → underWay (g ∷ []) t ≡ true
-unfolding underWay
+alone : (g : Seg) (t : ℕ) → frameComplete (g ∷ []) ≡ false → t < 4 → framePending (g ∷ []) t ≡ true
+unfolding framePending
 alone g zero e l = rw e
 alone g (suc zero) e l = rw e
 alone g (suc (suc zero)) e l = rw e
 alone g (suc (suc (suc zero))) e l = rw e
 alone g (suc (suc (suc (suc t)))) e l = absurd (omega arith)
 
-nothing : (t : ℕ) → underWay [] t ≡ false
-unfolding underWay whole allBelow
+nothing : (t : ℕ) → framePending [] t ≡ false
+unfolding framePending frameComplete allBelow
 nothing t = caseB (ltb t 4) (λ e. rw e) (λ e. rw e)
 
-too-old : (gs : List Seg) → underWay gs 4 ≡ false
-unfolding underWay
+too-old : (gs : List Seg) → framePending gs 4 ≡ false
+unfolding framePending
 too-old gs = refl
 
-module _ (W : Answers) (Config : Type 0) (U : Layers W Config) (p : ℕ) (e : Endpoint Config) (rules : Rules W Config U p e) (m : List ℕ) (enough : 55296 ≤ length m) (k : List ℕ) (g : Seg) (sound : U .header (e .config) k ≡ segment p g) (f : Fits g) (a-part : whole (g ∷ []) ≡ false) where
+module _ (W : Answers) (Config : Type 0) (U : Layers W Config) (p : ℕ) (e : Endpoint Config) (rules : EveryRun W Config U p e) (m : List ℕ) (enough : 55296 ≤ length m) (k : List ℕ) (g : Seg) (sound : U .header (e .config) k ≡ segment p g) (f : Fits g) (a-part : frameComplete (g ∷ []) ≡ false) where
   abbrev world : World Config
   world = record { ends = e; mem = m }
 
@@ -50,7 +48,7 @@ module _ (W : Answers) (Config : Type 0) (U : Layers W Config) (p : ℕ) (e : En
   pub opens-first : Opens (told []) g 0
   opens-first =
       record {
-        none-holds = λ s w. clash (cc (nothing 0, w .under-way));
+        none-bears = λ s w. clash (cc (nothing 0, w .pending));
         lowest = record { is-slot = omega arith; idle = nothing 0; below = λ t l. absurd (omega arith) };
       }
 
@@ -66,29 +64,29 @@ module _ (W : Answers) (Config : Type 0) (U : Layers W Config) (p : ℕ) (e : En
       rules .ruled m enough (receive k ∷ []) k g sound f .sixteen .all
       (record {
         slot = 0;
-        holds = record { is-slot = omega arith; under-way = rw (s, c) (alone g 0 a-part (omega arith)); identifier = rw s };
+        bears = record { is-slot = omega arith; pending = rw (s, c) (alone g 0 a-part (omega arith)); identifier = rw s };
         same = rw s;
         byte = g .offset;
         its = b;
         already = rw s (rw b);
       })
 
-  -- three ticks later it is under way; four, and it is not
-  pub third : busy (told (receive k ∷ tick ∷ tick ∷ tick ∷ [])) 0 ≡ true
+  -- three ticks later it is pending; four, and it is not
+  pub third : pendingIn (told (receive k ∷ tick ∷ tick ∷ tick ∷ [])) 0 ≡ true
   third = rw (first .1 .0, first .1 .1) (alone g 3 a-part (omega arith))
 
-  pub fourth : busy (told (receive k ∷ tick ∷ tick ∷ tick ∷ tick ∷ [])) 0 ≡ false
+  pub fourth : pendingIn (told (receive k ∷ tick ∷ tick ∷ tick ∷ tick ∷ [])) 0 ≡ false
   fourth = rw (first .1 .0, first .1 .1) (too-old (g ∷ []))
 
   -- and the same packet opens slot 0 anew
   pub anew : Opens (told (receive k ∷ tick ∷ tick ∷ tick ∷ tick ∷ [])) g 0
   anew =
       record {
-        none-holds = λ s w. clash (cc (idle s, w .under-way));
+        none-bears = λ s w. clash (cc (idle s, w .pending));
         lowest = record { is-slot = omega arith; idle = fourth; below = λ t l. absurd (omega arith) };
       }
     where
-      idle : (s : ℕ) → busy (told (receive k ∷ tick ∷ tick ∷ tick ∷ tick ∷ [])) s ≡ false
+      idle : (s : ℕ) → pendingIn (told (receive k ∷ tick ∷ tick ∷ tick ∷ tick ∷ [])) s ≡ false
       idle s =
           let t = rules .ruled m enough [] k g sound f .opens 0 opens-first in
           caseB (eqb s 0)

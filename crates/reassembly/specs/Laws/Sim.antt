@@ -10,11 +10,12 @@ use lib.ListN.{length, getD, set, length-set}
 use lib.Seq.{getD-set-same, getD-set-other}
 use lib.Dec.{ltb, leb, eqb}
 use borrow.Author.Tests.{eqb-true, eqb-false}
-use Rattle.reassembly.specs.Base.{someBelow, allBelow, table, caseB, either, clash, someBelow-ext, allBelow-ext, table-ext, allBelow-at}
+use Rattle.reassembly.specs.Base.{someBelow, allBelow, table, within}
+use Rattle.reassembly.specs.Laws.Base.{caseB, either, clash, someBelow-ext, allBelow-ext, table-ext, allBelow-at}
 use Rattle.reassembly.specs.Slots.{Slot, Row, Note, noNote, noteOf, free}
-use Rattle.reassembly.specs.Take.{slotNo, Seg, Ops, Outcome, Rejected, Pending, Complete, NoMemory, AlreadyReceived, Choice, reject, old, fresh, chosen, testedBytes, storedBytes, stored-length, noteAfter, openedSlot, furtherSlot, Effect, rejects, complete, overlaps, frameIn, finish, placed, takeSegment}
-use Rattle.reassembly.specs.Laws.TakeFacts.{Fits, Old, Fresh, Tells, chosen-tells, isComplete, not-complete, complete-slot, finish-mem}
-use Rattle.reassembly.specs.Laws.Memory.{within, Laws}
+use Rattle.reassembly.specs.Take.{slotNo, Seg, Ops, Outcome, Rejected, Pending, Complete, NoMemory, AlreadyReceived, Choice, reject, old, fresh, chosen, testedBytes, storedBytes, noteAfter, openedSlot, furtherSlot, Effect, rejects, complete, overlaps, frameIn, finish, placed, takeSegment, Fits, Old, Fresh}
+use Rattle.reassembly.specs.Laws.TakeFacts.{stored-length, Tells, chosen-tells, isComplete, not-complete, complete-slot, finish-mem}
+use Rattle.reassembly.specs.Laws.Memory.{Laws}
 
 -- slot k has received the same below n in both
 pub record Agree (A B : Ops) (k n : ℕ) (a : A .S) (b : B .S) : Type 0 where

@@ -10,11 +10,13 @@ use lib.ListN.{length, getD, take, drop, set, length-set, replicate, length-repl
 use lib.Seq.{getD-set-same, getD-set-other, sets, length-sets, ext-getD, getD-drop, getD-take, getD-append-add}
 use lib.Dec.{ltb, leb, eqb}
 use lib.Bits.{bitOr, or-shr, or-mod}
-use borrow.Author.Tests.{ltb-true, ltb-false, leb-true, leb-false, eqb-true, eqb-false, lt-ltb, le-ltb, eq-eqb, ne-eqb}
-use Rattle.reassembly.specs.Base.{caseB, either, clash, and-l, and-r, allBelow, allBelow-at, table, length-table, getD-table, same-test, or-cases, or-true-r}
-use Rattle.reassembly.specs.Take.{slotNo, Ops, frameIn}
-use Rattle.reassembly.specs.Laws.Memory.{Laws, within, within-low, within-high, within-is}
-use Rattle.reassembly.specs.Store.{isOn, bitAt, setBit, setBits, slotStart, mapStart, mapSize, zeros, clearAt, putAt, receivedAt, byteAt, bytesOf}
+use borrow.Author.Tests.{ltb-true, ltb-false, leb-true, leb-false, eqb-true, eqb-false, lt-ltb, le-ltb, eq-eqb, ne-eqb, le-leb}
+use Rattle.reassembly.specs.Laws.Base.{caseB, either, clash, and-l, and-r, allBelow-at, length-table, getD-table, same-test, or-cases, or-true-r}
+use Rattle.reassembly.specs.Base.{allBelow, table, within}
+use Rattle.reassembly.specs.Slots.{Row}
+use Rattle.reassembly.specs.Take.{slotNo, Ops, frameIn, Seg, takeSegment}
+use Rattle.reassembly.specs.Laws.Memory.{Laws, within-low, within-high, within-is}
+use Rattle.reassembly.specs.Store.{isOn, bitAt, setBit, setBits, slotStart, mapStart, mapSize, zeros, clearAt, putAt, receivedAt, byteAt, bytesOf, hasSlots, takeIn}
 
 -- ---- a run of stores, read back
 
@@ -214,3 +216,7 @@ setBits-behind p x b a zero l = refl
 setBits-behind p x b a (suc n) l =
     rw (setBits-behind p x b a n l, getD-behind p (setBits x 0 a n) ((a + n) / 8) b l, zero-add)
     (set-behind p (setBits x 0 a n) ((a + n) / 8) _ b l)
+
+pub take-in : (p : ℕ) (row : Row) (m : List ℕ) (g : Seg) → p < 8 → 55296 ≤ length m → takeIn p row m g ≡ takeSegment bytesOf p row m g
+unfolding hasSlots takeIn
+take-in p row m g l o = rw (lt-ltb p 8 l, le-leb 55296 (length m) o)

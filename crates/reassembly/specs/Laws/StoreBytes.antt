@@ -9,7 +9,7 @@ use lib.Seq.{sets}
 use lib.Pow.{pow-lt}
 use lib.Bits.{bitOr, or-lt}
 use Rattle.wire.specs.Bytes.{Bytes}
-use Rattle.reassembly.specs.Base.{caseB}
+use Rattle.reassembly.specs.Laws.Base.{caseB}
 use Rattle.reassembly.specs.Slots.{Slot, Row, free, noNote, noteOf}
 use Rattle.reassembly.specs.Take.{slotNo, Seg, Choice, reject, old, fresh, chosen, noteAfter, openedSlot, furtherSlot, overlaps, finish, placed, takeSegment}
 use Rattle.reassembly.specs.Laws.TakeFacts.{finish-mem}

@@ -1,7 +1,7 @@
 -- What the code answers, as its own enums and structs, over the definitions of `Take` and `Store`; and the laws that its proofs cite.
 -- Assumes nothing.
 use mathlib.Core.Path.{_≡_, refl, sym, ap, _∙_}
-use mathlib.Core.Bool.{Bool, true, false, cond}
+use mathlib.Core.Bool.{Bool, true, false}
 use mathlib.Core.List.{List}
 use mathlib.Core.Logic.{_≢_}
 use mathlib.Core.Option.{Option, none, some}
@@ -9,36 +9,25 @@ use Prim.Native.Nat.{ℕ, _+_, _*_, _≤_, _<_}
 use native.Mathlib.Omega.{arith}
 use lib.ListN.{length, getD, set}
 use borrow.Author.Tests.{lt-ltb, le-ltb, lt-leb, eq-eqb, ne-eqb}
-use Rattle.reassembly.specs.declared.slot.Found.{Found}
 use Rattle.reassembly.specs.declared.slot.Found.the-variants.{At, Nothing}
-use Rattle.reassembly.specs.declared.take.Decision.{Decision}
 use Rattle.reassembly.specs.declared.take.Decision.the-variants.{Reject, Further, Open}
 use Rattle.reassembly.specs.declared.take.Taken.{Taken}
-use Rattle.reassembly.specs.Base.{someBelow, allBelow, caseB, clash}
-use Rattle.reassembly.specs.Slots.{Slot, Row, free, first, bears, isFree, Note, noNote, noteOf, first-some, first-is, first-not}
-use Rattle.reassembly.specs.Take.{Seg, Choice, reject, old, fresh, chosen, Effect, finish, placed, rejects, takeSegment, complete, overlaps, furtherSlot, openedSlot, noteAfter, further-row, Rejection, Empty, FrameLength, PastEnd, OtherLength, AlreadyReceived, NoSlot, Rejected, Pending, Complete, NoMemory}
-use Rattle.reassembly.specs.Laws.TakeFacts.{Fits, Old, Fresh, chosen-tells, chosen-fits, finish-mem}
-use Rattle.reassembly.specs.Store.{bytesOf, takeIn, hasSlots, take-in, receivedAt, clearAt, putAt}
+use Rattle.reassembly.specs.Base.{someBelow, allBelow}
+use Rattle.reassembly.specs.Laws.Base.{caseB, clash}
+use Rattle.reassembly.specs.Slots.{Slot, Row, free, first, bears, isFree, Note, noNote, noteOf, foundOf}
+use Rattle.reassembly.specs.Laws.Slots.{first-some, first-is, first-not}
+use Rattle.reassembly.specs.Take.{Seg, Choice, reject, old, fresh, chosen, Effect, finish, placed, rejects, takeSegment, complete, overlaps, furtherSlot, openedSlot, noteAfter, Rejection, Empty, FrameLength, PastEnd, OtherLength, AlreadyReceived, NoSlot, Rejected, Pending, Complete, NoMemory, Fits, Old, Fresh, decisionOf}
+use Rattle.reassembly.specs.Laws.TakeFacts.{chosen-tells, chosen-fits, finish-mem}
+use Rattle.reassembly.specs.Store.{bytesOf, takeIn, hasSlots, receivedAt, clearAt, putAt, takenOf, finished}
+use Rattle.reassembly.specs.Laws.Store.{take-in}
+use lib.Seq.{set-getD}
 
--- ---- the answers of the code
-
-unfoldable pub foundOf : Option ℕ → Found
-foundOf none = Nothing
-foundOf (some s) = At s
-
-unfoldable pub decisionOf : Choice → Decision
-decisionOf (reject r) = Reject r
-decisionOf (old s) = Further s
-decisionOf (fresh s) = Open s
-
-unfoldable pub takenOf : Effect bytesOf → Taken
-takenOf e = record { row = e .row; outcome = e .outcome }
-
-unfoldable pub finished : ℕ → ℕ → Row → List ℕ → ℕ → Taken
-finished p s row m n =
-    cond (complete bytesOf m (4 * p + s) n)
-    (record { row = record { slots = set (row .slots) s free }; outcome = Complete s })
-    (record { row = row; outcome = Pending })
+-- where nothing is noted (the base), a further segment leaves the row: for code that writes no slot then
+pub further-row : (row : List Slot) (s : ℕ) (g : Seg) → getD row s free .pending ≡ true → set row s (furtherSlot (getD row s free) g) ≡ row
+further-row row s g e = ap (λ (v : Slot). set row s v) (same (getD row s free) e) ∙ set-getD row s free
+  where
+    same : (v : Slot) → v .pending ≡ true → furtherSlot v g ≡ v
+    same v e = ap (λ (b : Bool). record { identifier = v .identifier; «frame_length» = v .«frame_length»; age = v .age; pending = b }) (sym e)
 
 -- ---- the search of a row
 

@@ -1,39 +1,22 @@
 -- What the decision on a segment tells of the segment and the row, and an outcome of the segment.
-use mathlib.Core.Path.{_≡_, refl, sym, ap, subst, _∙_}
+use mathlib.Core.Path.{_≡_, refl, ap, subst, _∙_}
 use mathlib.Core.Logic.{_≢_}
-use mathlib.Core.Bool.{Bool, true, false, cond, not, _&&_, _||_}
-use mathlib.Core.List.{List, [], _∷_}
+use mathlib.Core.Bool.{Bool, true, false, _||_}
+use mathlib.Core.List.{List}
 use mathlib.Core.Option.{Option, none, some}
-use Prim.Native.Nat.{ℕ, zero, suc, _+_, _*_, _≤_, _<_}
+use Prim.Native.Nat.{ℕ, _+_, _≤_, _<_}
 use native.Mathlib.Omega.{arith}
 use lib.ListN.{length, getD, set}
-use lib.Dec.{ltb, leb, eqb}
-use borrow.Author.Tests.{ltb-true, ltb-false, eqb-true, eqb-false, le-ltb, eq-eqb, ne-eqb}
-use Rattle.reassembly.specs.Base.{table, length-table, caseB, caseO, clash, and-l, and-r, or-false-l, or-false-r}
-use Rattle.reassembly.specs.Slots.{Slot, Row, Note, noNote, noteOf, free, first, bears, isFree, First, first-some, first-none}
-use Rattle.reassembly.specs.Take.{slotNo, Seg, Ops, Rejection, Empty, FrameLength, PastEnd, OtherLength, AlreadyReceived, NoSlot, rejectionCode, Outcome, Rejected, Pending, Complete, NoMemory, storedBytes, noteAfter, openedSlot, furtherSlot, Effect, complete, overlaps, frameIn, finish, placed, takeSegment, Choice, reject, old, fresh, choose, chooseNew, chosen}
+use lib.Dec.{ltb, eqb}
+use borrow.Author.Tests.{ltb-false, eqb-true, eqb-false, le-ltb, eq-eqb, ne-eqb}
+use Rattle.reassembly.specs.Laws.Base.{length-table, caseB, clash, and-l, and-r, or-false-l, or-false-r}
+use Rattle.reassembly.specs.Slots.{Slot, Row, Note, noNote, noteOf, free, first, bears, isFree}
+use Rattle.reassembly.specs.Laws.Slots.{First, first-some, first-none}
+use Rattle.reassembly.specs.Take.{slotNo, Seg, Ops, Rejection, Empty, FrameLength, PastEnd, OtherLength, AlreadyReceived, NoSlot, rejectionCode, Outcome, Rejected, Pending, Complete, NoMemory, storedBytes, noteAfter, openedSlot, furtherSlot, complete, overlaps, frameIn, finish, placed, takeSegment, Choice, reject, old, fresh, choose, chooseNew, chosen}
+pub use Rattle.reassembly.specs.Take.{Fits, Old, Fresh}
 
--- check 14 passes
-pub record Fits (g : Seg) : Type 0 where
-  pub some-byte : 0 < length (g .bytes)
-  pub least : 32 ≤ g .frame-length
-  pub most : g .frame-length ≤ 1532
-  pub inside : g .offset + length (g .bytes) ≤ g .frame-length
-
--- slot s holds the segment's frame
-pub record Old (row : List Slot) (g : Seg) (s : ℕ) : Type 0 where
-  pub fits : Fits g
-  pub is-slot : s < 4
-  pub pending : getD row s free .pending ≡ true
-  pub identifier : getD row s free .identifier ≡ g .identifier
-  pub size : getD row s free .«frame_length» ≡ g .frame-length
-
--- no slot bears the segment's identifier, and slot s is free
-pub record Fresh (row : List Slot) (g : Seg) (s : ℕ) : Type 0 where
-  pub fits : Fits g
-  pub is-slot : s < 4
-  pub is-free : getD row s free .pending ≡ false
-  pub strange : (t : ℕ) → t < 4 → bears (g .identifier) (getD row t free) ≡ false
+pub stored-length : (g : Seg) → length (storedBytes g) ≡ length (g .bytes)
+stored-length g = refl
 
 abbrev pub Tells : List Slot → Seg → Choice → Type 0
 Tells row g (reject r) = Unit {0}
@@ -112,6 +95,12 @@ chosen-fits row g f =
       le-ltb 1532 (g .frame-length) (f .most),
       le-ltb (g .frame-length) (g .offset + length (g .bytes)) (f .inside),
     )
+
+-- a segment of no pending frame, with a slot free: it opens a frame in a free one
+pub chosen-opens : (row : List Slot) (g : Seg) → Fits g → first (bears (g .identifier)) row ≡ none → (s : ℕ) → first isFree row ≡ some s → (t : ℕ) × ((chosen row g ≡ fresh t) × Fresh row g t)
+chosen-opens row g f e s n =
+    let c : chosen row g ≡ fresh s = chosen-fits row g f ∙ rw (e, n) in
+    (s, (c, subst (λ (x : Choice). Tells row g x) c (chosen-tells row g)))
 
 -- ---- outcomes
 

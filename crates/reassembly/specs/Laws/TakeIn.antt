@@ -9,12 +9,12 @@ use lib.ListN.{length, getD, set, take, drop, replicate, length-drop, length-tak
 use lib.Seq.{sets, length-sets, ext-getD, getD-drop, getD-take}
 use lib.Dec.{ltb, leb, eqb}
 use borrow.Author.Tests.{ltb-true, leb-true}
-use Rattle.reassembly.specs.Base.{caseB, clash, and-l, and-r, table, length-table, getD-table}
+use Rattle.reassembly.specs.Laws.Base.{caseB, clash, and-l, and-r, length-table, getD-table}
+use Rattle.reassembly.specs.Base.{table}
 use Rattle.reassembly.specs.Slots.{Slot, Row, Note, noNote, noteOf, free}
-use Rattle.reassembly.specs.Take.{Seg, slotNo, storedBytes, AlreadyReceived, Rejection, Outcome, Rejected, Pending, Complete, NoMemory, Choice, reject, old, fresh, chosen, Effect, complete, overlaps, frameIn, finish, placed, furtherSlot, openedSlot, noteAfter, takeSegment}
-use Rattle.reassembly.specs.Laws.TakeFacts.{Fits, isComplete, not-complete, take-complete, take-rejects}
-use Rattle.reassembly.specs.Store.{bytesOf, hasSlots, takeIn, putAt, clearAt, slotStart, mapStart, byteAt}
-use Rattle.reassembly.specs.Laws.Take.{takenOf}
+use Rattle.reassembly.specs.Take.{Seg, slotNo, storedBytes, AlreadyReceived, Rejection, Outcome, Rejected, Pending, Complete, NoMemory, Choice, reject, old, fresh, chosen, Effect, complete, overlaps, frameIn, finish, placed, furtherSlot, openedSlot, noteAfter, takeSegment, Fits}
+use Rattle.reassembly.specs.Laws.TakeFacts.{isComplete, not-complete, take-complete, take-rejects}
+use Rattle.reassembly.specs.Store.{bytesOf, hasSlots, takeIn, putAt, clearAt, slotStart, mapStart, byteAt, takenOf}
 use Rattle.reassembly.specs.Laws.Store.{length-setBits, slot-inside}
 
 -- ---- the memory keeps its length

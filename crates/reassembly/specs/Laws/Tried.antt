@@ -9,18 +9,19 @@ use native.Mathlib.Omega.{arith}
 use lib.ListN.{length, getD, drop, replicate}
 use lib.Dec.{ltb, eqb}
 use borrow.Author.Tests.{ltb-true}
-use Rattle.reassembly.specs.Base.{caseB, clash, below-two, someBelow, allBelow, table}
+use Rattle.reassembly.specs.Laws.Base.{caseB, clash, below-two}
+use Rattle.reassembly.specs.Base.{someBelow, allBelow, table, within}
 use Rattle.reassembly.specs.Slots.{Note, noMark, noNote, noted, noteOf, older, olderRow, first, bears, isFree}
 use Rattle.reassembly.specs.Take.{Seg, Rejection, Empty, FrameLength, PastEnd, OtherLength, AlreadyReceived, NoSlot, rejectionCode, chosen, complete, overlaps, frameIn, takeSegment}
-use Rattle.reassembly.specs.Laws.Memory.{within}
 use Rattle.reassembly.specs.Store.{isOn, bitAt, setBit, setBits, slotStart, mapStart, clearAt, putAt, receivedAt, byteAt, bytesOf}
-use Rattle.reassembly.specs.Receive.{Place, nowhere, Answers, Answer, Verdict, good, bad, Seen, stranger, segment, Event, receive, tick, State}
-use Rattle.reassembly.specs.Runs.{answers}
-use Rattle.reassembly.specs.NonInterference.{start, ghostStart}
+use Rattle.reassembly.specs.Receive.{Place, nowhere, Answers, Answer, Verdict, good, bad, Seen, stranger, segment, Event, receive, tick}
+use Rattle.reassembly.specs.Laws.Runs.{State, answers}
+use Rattle.reassembly.specs.Laws.NonInterference.{start, ghostStart}
 use Rattle.reassembly.specs.Laws.Ghost.{ghost}
 use Rattle.reassembly.specs.Mix.{Part, Frame, partOf, states, noteTo, frameNote, frameOf, Cut, Item, given, other, Mixing}
 use Rattle.reassembly.specs.Laws.MixTest.{mixing}
-use Rattle.reassembly.specs.SetUp.{Layers, peerOf, Kept, Promised, Endpoint, World, setUp, deliveries, Claim}
+use Rattle.reassembly.specs.SetUp.{Layers, peerOf, Kept, Promised, Endpoint, World, setUp}
+use Rattle.reassembly.specs.Claim.{deliveries, Claim}
 use Rattle.reassembly.specs.Laws.Claim.{claim}
 
 -- an answer: its number, a tenant, and its place

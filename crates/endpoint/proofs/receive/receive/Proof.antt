@@ -6,6 +6,7 @@ use lib.ListN.{length}
 use native.Mathlib.Omega.{arith}
 use Rattle.endpoint.specs.Receive.{Step, receiptOf}
 use Rattle.endpoint.specs.Laws.Receive.{open-below, settled-is, settled-out}
+use Rattle.endpoint.specs.Laws.Promises.{receive-promised}
 use borrow.Author.Needs.{needs}
 use Rattle.endpoint.proofs.receive.receive.Statement.{statement}
 use Rattle.endpoint.proofs.receive.receive.Tie as tie
@@ -44,7 +45,7 @@ returns c =
     let a = c .before .before .before .before .before .before .before .before .before .before .before .before .before .before .before .before .before .before .args in
     let x = c .before .before .before .before .before .before .before .before .before .before .before .before .before .«open» in
     let same = settled-out _ _ _ _ _ (x .result) _ _ _ _ _ _ (c .before .before .before .before .before .before .before .before .before .before .take .ensures .0) (c .before .before .before .before .before .before .before .before .before .before .take .ensures .1) (c .deliver .ensures) ∙ settled-is (a .t1) (a .packet .now) (a .memory .now) (x .result) (x .ensures) in
-    (ap (receiptOf (a .t1)) same, ap (λ (s : Step). s .mem) same)
+    receive-promised (a .t1) (a .memory .now) (a .packet .now) _ _ (ap (receiptOf (a .t1)) same) (ap (λ (s : Step). s .mem) same)
 
 pub receive-spec : {M : Type 1} → statement M
 receive-spec =

@@ -1,14 +1,21 @@
 -- `endpoint::tick::tick` meets its contract. The loop's invariant: the rows of the peers before p are older, and all else is as it came.
 -- Assumes nothing.
-use mathlib.Core.Path.{_≡_, _∙_}
+use mathlib.Core.Path.{_≡_, _∙_, ap}
 use Prim.Native.Nat.{_≤_, _<_, _-_}
 use native.Mathlib.Omega.{arith}
 use lib.ListN.{length}
+use Rattle.endpoint.specs.declared.answer.Tick.the-variants as T
+use Rattle.endpoint.specs.declared.config.Endpoint.{Endpoint}
+use Rattle.endpoint.specs.declared.tick.Ticked.{Ticked}
 use Rattle.endpoint.specs.Config.{withRows}
+use Rattle.endpoint.specs.Laws.Promises.{tick-promised}
 use Rattle.endpoint.specs.Laws.Tick.{olderBefore, none-older, one-older, all-older}
 use Rattle.endpoint.proofs.Sizes.{eight-rows}
 use Rattle.endpoint.proofs.tick.tick.Statement.{statement}
 use Rattle.endpoint.proofs.tick.tick.Tie as tie
+
+abbrev ticked : Endpoint → Ticked
+ticked e = record { endpoint = e; answer = T.Done }
 
 abbrev Inv-loop : tie.InvT-loop
 Inv-loop next₀ p₀ next p = (p ≤ 8) × (next ≡ withRows next₀ (olderBefore (next₀ .rows) p))
@@ -53,7 +60,7 @@ returns c =
     let start = c .before .before in
     let n = eight-rows (start .args .e) (start .good .0) in
     let all : c .before .loop .p ≡ length (start .args .e .rows) = omega arith in
-    c .before .loop .inv .1 ∙ all-older (start .args .e) (c .before .loop .p) all
+    tick-promised _ _ (ap ticked (c .before .loop .inv .1) ∙ all-older (start .args .e) (c .before .loop .p) all)
 
 pub tick-spec : {M : Type 1} → statement M
 tick-spec =

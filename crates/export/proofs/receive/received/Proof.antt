@@ -48,7 +48,7 @@ use Rattle.endpoint.specs.declared.receive.Arrival.{Arrival}
 use Rattle.export.specs.declared.receive.Outcome.{Outcome}
 use Rattle.endpoint.specs.Receive.{Step, rowAt}
 use Rattle.endpoint.specs.Stages.{openedBy, settledBy}
-use Rattle.endpoint.specs.Demand1.{same-row}
+use Rattle.endpoint.specs.Laws.Demand1.{same-row}
 use Rattle.export.specs.Receive.{outcomeOf, arrival-listed, settled-step}
 use Rattle.endpoint.proofs.config.Endpoint as T
 use Rattle.endpoint.proofs.config.Endpoint.Laws as T′

@@ -5,8 +5,7 @@ use Prim.Native.Nat.{_<_}
 use Rattle.reassembly.specs.Slots.{Slot, bears}
 use native.Mathlib.Omega.{arith}
 use mathlib.Core.List.{List}
-use Rattle.reassembly.specs.Take.{Seg, segOf}
-use Rattle.reassembly.specs.Laws.TakeFacts.{Fits}
+use Rattle.reassembly.specs.Take.{Seg, segOf, Fits}
 use Rattle.reassembly.specs.Laws.Take.{decide-empty, decide-short, decide-long, decide-past, decide-other, decide-further, decide-full, decide-open, found-slot}
 use borrow.Author.Needs.{needs}
 use Rattle.reassembly.proofs.take.decide.Statement.{statement}

@@ -1,6 +1,7 @@
 -- `wire::ipv4::read` meets its contract: its exit number n gives what check number n gives.
 -- Assumes nothing.
 use mathlib.Core.Path.{_≡_, _∙_, sym, refl, ap}
+use mathlib.Core.List.{List}
 use Prim.Native.Nat.{ℕ, _*_, _%_}
 use native.Mathlib.Nat.{zero-add}
 use native.Mathlib.Omega.{arith}
@@ -61,14 +62,14 @@ slice-aggregate-sum c = sym (length-take-le _ _ (omega arith))
 sum-requires : tie.Need-sum-requires
 sum-requires c κs = simp length-take (omega arith)
 
--- the header's sum, as the check has it
-right : (c : tie.After-sum) →
-    let s = c .before .before .before .before .before .before .before .before .before .before .before .before .args .s .now in
-    c .sum .result ≡ ones (total (take (4 * (beAt s 0 1 % 16)) s))
+-- the bytes that are read, and the header's sum, as the check has it
+abbrev bytes : tie.After-sum → List ℕ
+bytes c = c .before .before .before .before .before .before .before .before .before .before .before .before .args .s .now
+
+right : (c : tie.After-sum) → c .sum .result ≡ ones (total (take (4 * (beAt (bytes c) 0 1 % 16)) (bytes c)))
 right c =
-    let s = c .before .before .before .before .before .before .before .before .before .before .before .before .args .s .now in
-    let e : c .before .before .before .before .before .before .low4 .result ≡ beAt s 0 1 % 16 = omega arith in
-    c .sum .ensures ∙ ap ones (zero-add _) ∙ ap (λ (k : ℕ). ones (total (take (4 * k) s))) e
+    let e : c .before .before .before .before .before .before .low4 .result ≡ beAt (bytes c) 0 1 % 16 = omega arith in
+    c .sum .ensures ∙ ap ones (zero-add _) ∙ ap (λ (k : ℕ). ones (total (take (4 * k) (bytes c)))) e
 
 returns-6 : tie.Need-returns-6
 unfolding ipv4Checks

@@ -1,24 +1,18 @@
 -- Demand 3, first half: two runs alike for a peer give that peer the same answers, whatever the other senders sent and whatever the two memories held at first.
-use mathlib.Core.Path.{_≡_, refl, sym, ap, subst, _∙_}
-use mathlib.Core.Bool.{Bool, true, false, cond}
-use mathlib.Core.List.{List, [], _∷_, _++_, map}
-use Prim.Native.Nat.{ℕ, zero, suc, _+_, _*_, _≤_, _<_}
-use native.Mathlib.Omega.{arith}
-use lib.ListN.{length, getD, replicate, getD-replicate}
-use Rattle.reassembly.specs.Base.{caseB, clash}
-use Rattle.reassembly.specs.Slots.{Slot, Row, Note, noRow, slotsOf, free}
+use mathlib.Core.Path.{_≡_, refl, ap}
+use mathlib.Core.List.{List, []}
+use Prim.Native.Nat.{ℕ, _<_}
+use lib.ListN.{getD, getD-replicate}
+use Rattle.reassembly.specs.Laws.Base.{clash}
+use Rattle.reassembly.specs.Slots.{Note, noRow, free, emptyRows, emptyRow}
+use Rattle.reassembly.specs.Laws.Slots.{slotsOf}
 use Rattle.reassembly.specs.Take.{Ops}
 use Rattle.reassembly.specs.Laws.Memory.{Laws}
-use Rattle.reassembly.specs.Receive.{Answers, Event, State, Answer, Verdict, Seen, run}
-use Rattle.reassembly.specs.Laws.Sim.{RowOk, Same}
-use Rattle.reassembly.specs.Runs.{Listed, own, strike, answers, Sim, answers-sim}
+use Rattle.reassembly.specs.Receive.{Answers, Event, Verdict, Seen}
+use Rattle.reassembly.specs.Laws.Runs.{State, Listed, own, answers, Sim, answers-sim}
+use Rattle.reassembly.specs.Laws.Sim.{RowOk}
+use Rattle.reassembly.specs.SetUp.{strike}
 use Rattle.reassembly.specs.Laws.Ghost.{ghost, ghost-laws}
-
-abbrev pub emptyRow : List Slot
-emptyRow = replicate 4 free
-
-abbrev pub emptyRows : List Row
-emptyRows = replicate 8 (record { slots = emptyRow })
 
 pub empty-at : (q : ℕ) → q < 8 → getD emptyRows q noRow .slots ≡ emptyRow
 empty-at q l = ap slotsOf (getD-replicate 8 q (record { slots = emptyRow }) noRow l)

@@ -1,30 +1,31 @@
--- The slot rules (Rules), proved of every run from a set-up whose layers keep their promise.
+-- `EveryRun`, proved of every run from a set-up whose layers keep their promise.
 use mathlib.Core.Path.{_≡_, refl, sym, ap, subst, _∙_}
-use mathlib.Core.Logic.{_⊎_, inl, inr, _≢_}
-use mathlib.Core.Bool.{Bool, true, false, cond, not, _&&_, _||_}
-use mathlib.Core.List.{List, [], _∷_, _++_, map}
-use Prim.Native.Nat.{ℕ, zero, suc, _+_, _-_, _*_, _≤_, _<_}
+use mathlib.Core.Logic.{_≢_}
+use mathlib.Core.Bool.{Bool, true, false, cond}
+use mathlib.Core.List.{List, [], _∷_, _++_}
+use Prim.Native.Nat.{ℕ, _+_, _-_, _*_, _≤_, _<_}
 use native.Mathlib.Omega.{arith}
 use lib.ListN.{length, getD, set}
 use lib.Seq.{getD-set-same, getD-set-other}
-use lib.Dec.{ltb, eqb}
+use lib.Dec.{eqb}
 use borrow.Author.Tests.{le-ltb, eq-eqb, ne-eqb, eqb-true, eqb-false}
-use Rattle.reassembly.specs.Base.{allBelow, caseB, either, clash}
-use Rattle.reassembly.specs.Slots.{Slot, Row, Note, noRow, noteOf, noNote, free}
-use Rattle.reassembly.specs.Take.{slotNo, Seg, Rejection, Outcome, Rejected, Pending, Complete, NoMemory, OtherLength, AlreadyReceived, NoSlot, rejectionCode, Choice, reject, old, fresh, chosen, noteAfter, openedSlot, furtherSlot, Effect, overlaps, finish, placed, takeSegment}
-use Rattle.reassembly.specs.Laws.TakeFacts.{Fits, finish-mem, take-rejects}
-use Rattle.reassembly.specs.Store.{bytesOf, takeIn, putAt, clearAt}
-use Rattle.reassembly.specs.Receive.{Answers, Verdict, Seen, stranger, plain, segment, Event, receive, tick, State, react, after, run}
-use Rattle.reassembly.specs.Laws.Sim.{Alike}
-use Rattle.reassembly.specs.Runs.{keeps, own, rows-older}
-use Rattle.reassembly.specs.NonInterference.{emptyRows, emptyRow, empty-at, empty-free, start, ghostStart}
-use Rattle.reassembly.specs.Laws.Ghost.{ghost}
+use Rattle.reassembly.specs.Base.{allBelow}
+use Rattle.reassembly.specs.Laws.Base.{caseB, either, clash, getD-table}
+use Rattle.reassembly.specs.Slots.{Slot, Row, Note, noRow, noteOf, noNote, free, emptyRows}
+use Rattle.reassembly.specs.Take.{slotNo, Seg, Rejection, Outcome, Rejected, Pending, Complete, NoMemory, AlreadyReceived, rejectionCode, Choice, reject, old, fresh, chosen, noteAfter, openedSlot, furtherSlot, Effect, overlaps, frameIn, placed, takeSegment, Fits}
+use Rattle.reassembly.specs.Laws.TakeFacts.{finish-mem, take-rejects}
+use Rattle.reassembly.specs.Store.{bytesOf, takeIn, putAt, clearAt, byteAt, slotStart}
+use Rattle.reassembly.specs.Receive.{Answers, Verdict, Seen, stranger, plain, segment, Event, receive, tick, told}
+use Rattle.reassembly.specs.Laws.Runs.{State, react, after, rows-older}
 use Rattle.reassembly.specs.SetUp.{Layers, Promised, Endpoint, World, setUp, saidOf, receives, next, runs}
+use Rattle.reassembly.specs.Laws.NonInterference.{empty-at, empty-free, start, ghostStart}
+use Rattle.reassembly.specs.Laws.Ghost.{ghost}
 use Rattle.reassembly.specs.Laws.Claim.{set-up-rows, next-at}
-use Rattle.reassembly.specs.Laws.Log.{Log, writes, enters, entered, carries, Logs, writes-same, writes-other}
-use Rattle.reassembly.specs.Carried.{taking, logSeen, logNext, logRun, takenSince, world, Inv, step, Reach, reached, begin, from, log-snoc, alike, in-memory, same-outcome, log-now}
-use Rattle.reassembly.specs.Rules.{covered, whole, underWay, History, Holds, Fifteen, Sixteen, Seventeen, Further, Opens, Touches, Taken, Unchanged, Fourteen, IfAndOnlyIf, Ruled, Stands, resets, restarts, restarted, onceMore, clockSeen, clockNext, clockRun, ticksSince, historyOf, Rules}
-use Rattle.reassembly.specs.Laws.RulesTake.{Stand, under-young, holds-one, chosen-unfit, chosen-old, chosen-new, afterwards, take-stand, tick-stand, take-by, told-15, told-16, told-17, told-further, told-opens, OneCase, one-case}
+use Rattle.reassembly.specs.History.{OneOf, OfFrame, Log, writes, enters, entered, taking, logSeen, logNext, logRun, takenSince, frameComplete, framePending, History, Fifteen, Sixteen, Seventeen, Further, Opens, resets, restarts, restarted, clockSeen, clockNext, clockRun, ticksSince, historyOf}
+use Rattle.reassembly.specs.Laws.Log.{AllOf, all-of-at, apart-at, Logs, writes-same, writes-other}
+use Rattle.reassembly.specs.Laws.Carried.{came-at, completes, world, Inv, step, Reach, reached, begin, from, log-snoc, alike, in-memory, same-outcome, log-now}
+use Rattle.reassembly.specs.EveryRun.{frameAt, Taken, Unchanged, Fourteen, Ruled, Stands, EveryRun}
+use Rattle.reassembly.specs.Laws.RulesTake.{covered-is, Stand, under-young, holds-one, chosen-unfit, chosen-old, chosen-new, take-stand, tick-stand, take-by, told-15, told-16, told-17, told-further, told-opens, OneCase, one-case}
 use Rattle.reassembly.specs.Laws.RulesTouch.{touches-further, touches-opens}
 
 -- ---- one outcome is not another
@@ -66,6 +67,16 @@ module _ (p : ℕ) (row : Row) (m : List ℕ) (g : Seg) where
   mem-new s e =
       ap (λ (x : Effect bytesOf). x .mem) (take-by bytesOf p row m g (fresh s) e)
       ∙ finish-mem bytesOf p s (set (row .slots) s (openedSlot g)) (putAt (clearAt m (slotNo p s)) (slotNo p s) (g .offset) (g .bytes)) g (noteAfter noNote g)
+
+-- byte i of the frame in a slot, where it lies
+pub frame-byte : (m : List ℕ) (p s n i : ℕ) → i < n → getD (frameIn bytesOf m (slotNo p s) n) i 0 ≡ getD m (frameAt p s + i) 0
+unfolding frameIn byteAt slotStart
+frame-byte m p s n i l = getD-table n (λ i. getD m ((4 * p + s) * 1728 + i) 0) 0 i l
+
+module _ (W : Answers) (Config : Type 0) (U : Layers W Config) where
+  pub runs-snoc : (es : List Event) (w : World Config) (e : Event) → runs W Config U w (es ++ (e ∷ [])) ≡ next W Config U (runs W Config U w es) e
+  runs-snoc [] w e = refl
+  runs-snoc (v ∷ es) w e = runs-snoc es (next W Config U w v) e
 
 module _ (W : Answers) (Config : Type 0) (U : Layers W Config) (p : ℕ) (p< : p < 8) (c : Config) (promise : Promised W Config U c) where
   abbrev header : List ℕ → Seen W
@@ -133,7 +144,7 @@ module _ (W : Answers) (Config : Type 0) (U : Layers W Config) (p : ℕ) (p< : p
   begun m = from W Config U p p< c promise m
 
   first-stand : (m : List ℕ) → Stand (rowIn (start bytesOf m) .slots) (told-of (λ t. []) (λ t. 0))
-  unfolding underWay whole allBelow
+  unfolding framePending frameComplete allBelow
   first-stand m =
       rw (empty-at p p<)
       (record {
@@ -200,36 +211,65 @@ module _ (W : Answers) (Config : Type 0) (U : Layers W Config) (p : ℕ) (p< : p
     fourteen-at n =
         let u = chosen-unfit (rowIn s .slots) x n in
         let o : outcome ≡ Rejected (u .0) = same ∙ ap (λ (y : Effect ghost). y .outcome) (take-by ghost p (rowIn s) (g .mem) x (reject (u .0)) (u .1 .0)) in
-        record { cause = u .0; number = u .1 .1; refused = o; unchanged = refused-left (u .0) o }
+        record { cause = u .0; number = u .1 .1; rejected = o; unchanged = refused-left (u .0) o }
+
+    -- the memory that a segment which completes its frame leaves
+    bytes-now : (t : ℕ) (gs : List Seg) → ghostTold ≡ cond (frameComplete gs) (Complete t) Pending → logNext W Config U p (at s) L (receive k) t ≡ gs → frameComplete gs ≡ true
+        → (i : ℕ) → i < x .frame-length → OneOf gs i (getD (receives W Config U (at s) k .world .mem) (frameAt p t + i) 0)
+    bytes-now t gs o q w i l =
+        let a : outcome ≡ Complete t = same ∙ o ∙ rw w in
+        let m : List ℕ = takeSegment bytesOf p (rowIn s) (s .mem) x .mem in
+        let z : getD (frameIn bytesOf m (slotNo p t) (x .frame-length)) i 0 ≡ getD m (frameAt p t + i) 0 = frame-byte m p t (x .frame-length) i l in
+        rw left (subst (λ (b : ℕ). OneOf gs i b) z (subst (λ (y : List Seg). OneOf y i (getD (frameIn bytesOf m (slotNo p t) (x .frame-length)) i 0)) q
+        (completes W Config U p p< c promise past s g L h k x e t a i l)))
 
     module _ (f : Fits x) where
+      it-fits : OfFrame (x .identifier) (x .frame-length) x
+      it-fits = record { identifier = refl; size = refl; fits = f }
+
+      pending-at : (t : ℕ) → Further before x t → getD (rowIn s .slots) t free .pending ≡ true
+      pending-at t w = st .stands t (w .bears .is-slot) .pending ∙ w .bears .pending
+
+      of-pending : (t : ℕ) → Further before x t → AllOf (x .identifier) (x .frame-length) (L t)
+      of-pending t w =
+          let v = st .stands t (w .bears .is-slot) in
+          subst (λ (n : ℕ). AllOf (x .identifier) n (L t)) (v .size (pending-at t w) ∙ w .same)
+          (subst (λ (n : ℕ). AllOf n (getD (rowIn s .slots) t free .«frame_length») (L t)) (v .identifier (pending-at t w) ∙ w .bears .identifier)
+          (lg .all-of t (w .bears .is-slot) (pending-at t w)))
+
       further-taken : (t : ℕ) → Further before x t → Taken p t false x (x ∷ L t) (C t) before behind outcome (s .mem) (receives W Config U (at s) k .world .mem)
       further-taken t w =
-          let q : chosen (rowIn s .slots) x ≡ old t = chosen-old (rowIn s .slots) before st x f t (w .holds) (w .same) in
-          let o : ghostTold ≡ cond (whole (x ∷ L t)) (Complete t) Pending = told-further p (rowIn s) (g .mem) before lg st x f t w in
-          let a : logNext W Config U p (at s) L (receive k) ≡ writes L t (x ∷ L t) = log-by (old t) (whole (x ∷ L t)) t q o in
-          let b : clockNext W Config U p (at s) C (receive k) ≡ C = clock-by (old t) (whole (x ∷ L t)) t q o in
-          let r : takeSegment bytesOf p (rowIn s) (s .mem) x .outcome ≡ cond (whole (x ∷ L t)) (Complete t) Pending = sym (ap (λ (y : Effect bytesOf). y .outcome) in-bytes) ∙ same ∙ o in
+          let q : chosen (rowIn s .slots) x ≡ old t = chosen-old (rowIn s .slots) before st x f t (w .bears) (w .same) in
+          let o : ghostTold ≡ cond (frameComplete (x ∷ L t)) (Complete t) Pending = told-further p (rowIn s) (g .mem) before lg st x f t w in
+          let a : logNext W Config U p (at s) L (receive k) ≡ writes L t (x ∷ L t) = log-by (old t) (frameComplete (x ∷ L t)) t q o in
+          let b : clockNext W Config U p (at s) C (receive k) ≡ C = clock-by (old t) (frameComplete (x ∷ L t)) t q o in
+          let r : takeSegment bytesOf p (rowIn s) (s .mem) x .outcome ≡ cond (frameComplete (x ∷ L t)) (Complete t) Pending = sym (ap (λ (y : Effect bytesOf). y .outcome) in-bytes) ∙ same ∙ o in
           record {
             outcome = same ∙ o;
             segments = ap (λ (y : Log). y t) a ∙ writes-same L t (x ∷ L t);
             clock = ap (λ (y : ℕ → ℕ). y t) b;
             others = λ u n. (ap (λ (y : Log). y u) a ∙ writes-other L t (x ∷ L t) u n, ap (λ (y : ℕ → ℕ). y u) b);
-            touches = rw (left, mem-old p (rowIn s) (s .mem) x t (whole (x ∷ L t)) q r) (touches-further p t p< (w .holds .is-slot) x f (s .mem) (h .sim .same .okA));
+            touches = rw (left, mem-old p (rowIn s) (s .mem) x t (frameComplete (x ∷ L t)) q r) (touches-further p t p< (w .bears .is-slot) x f (s .mem) (h .sim .same .okA));
+            of-frame = all-of-at (x .identifier) (x .frame-length) (x ∷ L t) (it-fits, of-pending t w);
+            once = apart-at (x ∷ L t) ((λ i y. sym (covered-is (L t) i) ∙ w .apart i y), lg .all-apart t (w .bears .is-slot) (pending-at t w));
+            bytes = bytes-now t (x ∷ L t) o (ap (λ (y : Log). y t) a ∙ writes-same L t (x ∷ L t));
           }
 
       opens-taken : (t : ℕ) → Opens before x t → Taken p t true x (x ∷ []) 0 before behind outcome (s .mem) (receives W Config U (at s) k .world .mem)
       opens-taken t w =
           let q : chosen (rowIn s .slots) x ≡ fresh t = chosen-new (rowIn s .slots) before st x f t w in
-          let o : ghostTold ≡ cond (whole (x ∷ [])) (Complete t) Pending = told-opens p (rowIn s) (g .mem) before lg st x f t w in
-          let a : logNext W Config U p (at s) L (receive k) ≡ writes L t (x ∷ []) = log-by (fresh t) (whole (x ∷ [])) t q o in
-          let b : clockNext W Config U p (at s) C (receive k) ≡ resets C t = clock-by (fresh t) (whole (x ∷ [])) t q o in
+          let o : ghostTold ≡ cond (frameComplete (x ∷ [])) (Complete t) Pending = told-opens p (rowIn s) (g .mem) before lg st x f t w in
+          let a : logNext W Config U p (at s) L (receive k) ≡ writes L t (x ∷ []) = log-by (fresh t) (frameComplete (x ∷ [])) t q o in
+          let b : clockNext W Config U p (at s) C (receive k) ≡ resets C t = clock-by (fresh t) (frameComplete (x ∷ [])) t q o in
           record {
             outcome = same ∙ o;
             segments = ap (λ (y : Log). y t) a ∙ writes-same L t (x ∷ []);
             clock = ap (λ (y : ℕ → ℕ). y t) b ∙ rw (eq-eqb t t refl);
             others = λ u n. (ap (λ (y : Log). y u) a ∙ writes-other L t (x ∷ []) u n, ap (λ (y : ℕ → ℕ). y u) b ∙ rw (ne-eqb u t n));
             touches = rw (left, mem-new p (rowIn s) (s .mem) x t q) (touches-opens p t p< (w .lowest .is-slot) x f (s .mem) (h .sim .same .okA));
+            of-frame = all-of-at (x .identifier) (x .frame-length) (x ∷ []) (it-fits, tt);
+            once = apart-at (x ∷ []) ((λ i y. refl), tt);
+            bytes = bytes-now t (x ∷ []) o (ap (λ (y : Log). y t) a ∙ writes-same L t (x ∷ []));
           }
 
       one : OneCase p (rowIn s) (g .mem) before lg st x f
@@ -246,10 +286,10 @@ module _ (W : Answers) (Config : Type 0) (U : Layers W Config) (p : ℕ) (p< : p
       o-17 w = ap codeOf (same ∙ told-17 p (rowIn s) (g .mem) before lg st x f w)
 
       o-further : ((t : ℕ) × Further before x t) → codeOf outcome ≤ 1
-      o-further w = rw (further-taken (w .0) (w .1) .outcome) (taken-code (whole (x ∷ L (w .0))) (w .0))
+      o-further w = rw (further-taken (w .0) (w .1) .outcome) (taken-code (frameComplete (x ∷ L (w .0))) (w .0))
 
       o-opens : ((t : ℕ) × Opens before x t) → codeOf outcome ≤ 1
-      o-opens w = rw (opens-taken (w .0) (w .1) .outcome) (taken-code (whole (x ∷ [])) (w .0))
+      o-opens w = rw (opens-taken (w .0) (w .1) .outcome) (taken-code (frameComplete (x ∷ [])) (w .0))
 
       only-15 : codeOf outcome ≡ 15 → Fifteen before x
       only-15 q =
@@ -280,28 +320,28 @@ module _ (W : Answers) (Config : Type 0) (U : Layers W Config) (p : ℕ) (p< : p
             seventeen = record { only = λ q. only-17 (ap codeOf q); all = λ w. same ∙ told-17 p (rowIn s) (g .mem) before lg st x f w };
             further = further-taken;
             opens = opens-taken;
-            refused = refused-left;
+            rejected = refused-left;
             one-of = one;
           }
 
   ruled-from : (m : List ℕ) → 55296 ≤ length m → (es : List Event) (k : List ℕ) (g : Seg) → header k ≡ segment p g → Fits g
       → Ruled p g (historyOf W Config U p (begun m) es) (historyOf W Config U p (begun m) (es ++ (receive k ∷ []))) (taking W Config U p (runs W Config U (begun m) es) g .outcome)
-      (runs W Config U (begun m) es .mem) (receives W Config U (runs W Config U (begun m) es) k .world .mem)
+      (runs W Config U (begun m) es .mem) (runs W Config U (begun m) (es ++ (receive k ∷ [])) .mem)
   ruled-from m o es k g e f =
       let r : Reach W Config U p p< c promise [] es (start bytesOf m) (λ t. []) = reached W Config U p p< c promise m o es in
       let st : Stand (rowIn (r .state) .slots) (historyOf W Config U p (begun m) es) =
       subst (λ (w : World Config). Stand (getD (w .ends .rows) p noRow .slots) (historyOf W Config U p (begun m) es)) (r .is) (stand-from m o es) in
-      rw (log-snoc W Config U p p< c promise es (begun m) (λ t. []) (receive k), clock-snoc es (begun m) (λ t. 0) (receive k), r .is)
+      rw (log-snoc W Config U p p< c promise es (begun m) (λ t. []) (receive k), clock-snoc es (begun m) (λ t. 0) (receive k), runs-snoc W Config U es (begun m) (receive k), r .is)
       (ruled-at es (r .state) (r .ghosts) (takenSince W Config U p (begun m) es) (ticksSince W Config U p (begun m) es) (r .inv) st k g e f)
 
   fourteen-from : (m : List ℕ) → 55296 ≤ length m → (es : List Event) (k : List ℕ) (g : Seg) → header k ≡ segment p g → (Fits g → ⊥)
       → Fourteen (historyOf W Config U p (begun m) es) (historyOf W Config U p (begun m) (es ++ (receive k ∷ []))) (taking W Config U p (runs W Config U (begun m) es) g .outcome)
-      (runs W Config U (begun m) es .mem) (receives W Config U (runs W Config U (begun m) es) k .world .mem)
+      (runs W Config U (begun m) es .mem) (runs W Config U (begun m) (es ++ (receive k ∷ [])) .mem)
   fourteen-from m o es k g e f =
       let r : Reach W Config U p p< c promise [] es (start bytesOf m) (λ t. []) = reached W Config U p p< c promise m o es in
       let st : Stand (rowIn (r .state) .slots) (historyOf W Config U p (begun m) es) =
       subst (λ (w : World Config). Stand (getD (w .ends .rows) p noRow .slots) (historyOf W Config U p (begun m) es)) (r .is) (stand-from m o es) in
-      rw (log-snoc W Config U p p< c promise es (begun m) (λ t. []) (receive k), clock-snoc es (begun m) (λ t. 0) (receive k), r .is)
+      rw (log-snoc W Config U p p< c promise es (begun m) (λ t. []) (receive k), clock-snoc es (begun m) (λ t. 0) (receive k), runs-snoc W Config U es (begun m) (receive k), r .is)
       (fourteen-at es (r .state) (r .ghosts) (takenSince W Config U p (begun m) es) (ticksSince W Config U p (begun m) es) (r .inv) st k g e f)
 
   -- a packet that carries no segment of the peer's; no segment at all
@@ -326,17 +366,28 @@ module _ (W : Answers) (Config : Type 0) (U : Layers W Config) (p : ℕ) (p< : p
       ap (λ (y : Log). told-of y (clockRun W Config U p (begun m) (λ t. 0) (es ++ (receive k ∷ [])))) a ∙ ap (λ (y : ℕ → ℕ). told-of (takenSince W Config U p (begun m) es) y) b
 
   memory-left : (m : List ℕ) → 55296 ≤ length m → (es : List Event) (k : List ℕ) → ((q : ℕ) (g : Seg) → header k ≡ segment q g → ⊥)
-      → receives W Config U (runs W Config U (begun m) es) k .world .mem ≡ runs W Config U (begun m) es .mem
+      → runs W Config U (begun m) (es ++ (receive k ∷ [])) .mem ≡ runs W Config U (begun m) es .mem
   memory-left m o es k n =
       let r : Reach W Config U p p< c promise [] es (start bytesOf m) (λ t. []) = reached W Config U p p< c promise m o es in
-      rw (r .is) (rw (le-ltb (length (r .state .mem)) 55296 (r .inv .sim .same .okA)) (said-left (r .state) (header k) n))
+      let left : receives W Config U (runs W Config U (begun m) es) k .world .mem ≡ runs W Config U (begun m) es .mem =
+      rw (r .is) (rw (le-ltb (length (r .state .mem)) 55296 (r .inv .sim .same .okA)) (said-left (r .state) (header k) n)) in
+      ap (λ (w : World Config). w .mem) (runs-snoc W Config U es (begun m) (receive k)) ∙ left
 
-  rules-from : Rules W Config U p (record { config = c; rows = emptyRows })
-  rules-from =
+  answered-from : (m : List ℕ) → 55296 ≤ length m → (es : List Event) (k : List ℕ) (g : Seg) → header k ≡ segment p g
+      → receives W Config U (runs W Config U (begun m) es) k .reply
+      ≡ told W judge bytesOf p g (taking W Config U p (runs W Config U (begun m) es) g) (taking W Config U p (runs W Config U (begun m) es) g .outcome) .reply
+  answered-from m o es k g e =
+      let r : Reach W Config U p p< c promise [] es (start bytesOf m) (λ t. []) = reached W Config U p p< c promise m o es in
+      rw (r .is) (rw (le-ltb (length (r .state .mem)) 55296 (r .inv .sim .same .okA), e) refl)
+
+  every-from : EveryRun W Config U p (record { config = c; rows = emptyRows })
+  every-from =
       record {
         stands = λ m o es s l. stand-from m o es .stands s l;
         distinct = λ m o es id s t a b. holds-one (getD (runs W Config U (begun m) es .ends .rows) p noRow .slots) (historyOf W Config U p (begun m) es) (stand-from m o es) id s t a b;
+        came = λ m o es s j l. came-at W Config U p c es (takenSince W Config U p (begun m) es s) (reached W Config U p p< c promise m o es .inv .came s) j l;
         ruled = ruled-from;
+        answered = answered-from;
         fourteen = fourteen-from;
         no-segment = λ m o es k n.
             let q : historyOf W Config U p (begun m) (es ++ (receive k ∷ [])) ≡ historyOf W Config U p (begun m) es = told-left m o es k (λ g e. n p g e) in
@@ -345,7 +396,7 @@ module _ (W : Answers) (Config : Type 0) (U : Layers W Config) (p : ℕ) (p< : p
         ticked = λ m o es. (
           ap (λ (y : Log). told-of y (clockRun W Config U p (begun m) (λ t. 0) (es ++ (tick ∷ [])))) (log-snoc W Config U p p< c promise es (begun m) (λ t. []) tick)
               ∙ ap (λ (y : ℕ → ℕ). told-of (takenSince W Config U p (begun m) es) y) (clock-snoc es (begun m) (λ t. 0) tick),
-          refl,
+          ap (λ (w : World Config). w .mem) (runs-snoc W Config U es (begun m) tick),
         );
       }
     where
@@ -366,8 +417,8 @@ given-up v gs t w l = caseB (v .pending) (λ e. absurd (omega (arith, young v gs
 
 -- ---- of every set-up whose layers keep their promise
 module _ (W : Answers) (Config : Type 0) (U : Layers W Config) (p : ℕ) (Adding : Type 0) (adds : Config → Adding → Config) where
-  pub rules : (c : Config) (as′ : List Adding) → Promised W Config U (setUp Config Adding adds c as′ .config) → p < 8 → Rules W Config U p (setUp Config Adding adds c as′)
-  rules c as′ promised p< = of (setUp Config Adding adds c as′) (set-up-rows Config Adding adds as′ (record { config = c; rows = emptyRows })) promised
+  pub every-run : (c : Config) (as′ : List Adding) → Promised W Config U (setUp Config Adding adds c as′ .config) → p < 8 → EveryRun W Config U p (setUp Config Adding adds c as′)
+  every-run c as′ promised p< = of (setUp Config Adding adds c as′) (set-up-rows Config Adding adds as′ (record { config = c; rows = emptyRows })) promised
     where
-      of : (e : Endpoint Config) → e .rows ≡ emptyRows → Promised W Config U (e .config) → Rules W Config U p e
-      of e q promise = subst (λ (r : List Row). Rules W Config U p (record { config = e .config; rows = r })) (sym q) (rules-from W Config U p p< (e .config) promise)
+      of : (e : Endpoint Config) → e .rows ≡ emptyRows → Promised W Config U (e .config) → EveryRun W Config U p e
+      of e q promise = subst (λ (r : List Row). EveryRun W Config U p (record { config = e .config; rows = r })) (sym q) (every-from W Config U p p< (e .config) promise)

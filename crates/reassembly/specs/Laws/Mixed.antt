@@ -1,36 +1,26 @@
 -- A mixing, run from the start: each segment's answer.
-use mathlib.Core.Path.{_≡_, refl, sym, ap, subst, _∙_}
-use mathlib.Core.Logic.{_⊎_, inl, inr, _≢_}
-use mathlib.Core.Bool.{Bool, true, false, cond}
+use mathlib.Core.Path.{_≡_, refl, ap, subst, _∙_}
+use mathlib.Core.Bool.{true, cond}
 use mathlib.Core.List.{List, [], _∷_, _++_, map, reverseAux}
-use Prim.Native.Nat.{ℕ, zero, suc, _+_, _-_, _*_, _≤_, _<_}
+use Prim.Native.Nat.{ℕ, _+_, _-_, _<_}
 use native.Mathlib.Omega.{arith}
 use lib.ListN.{length, getD, drop, set, length-set, length-map}
 use lib.Seq.{getD-set-same}
-use lib.Dec.{ltb, leb, eqb}
+use lib.Dec.{ltb}
 use borrow.Author.Tests.{eq-eqb, eqb-true, ltb-true}
-use Rattle.reassembly.specs.Base.{caseB, clash, and-r}
-use Rattle.reassembly.specs.Slots.{Slot, Row, Note, noRow, free, older, olderRow}
-use Rattle.reassembly.specs.Take.{slotNo, Seg, Ops, Outcome, Effect, frameIn, takeSegment}
+use Rattle.reassembly.specs.Laws.Base.{caseB, clash, and-r}
+use Rattle.reassembly.specs.Slots.{Note, noRow, free, emptyRow, emptyRows}
+use Rattle.reassembly.specs.Take.{slotNo, Ops, Effect, takeSegment}
 use Rattle.reassembly.specs.Store.{slotStart}
 use Rattle.reassembly.specs.Laws.Memory.{Laws}
-use Rattle.reassembly.specs.Receive.{Answers, Answer, bare, Verdict, good, spoken, told, Seen, stranger, plain, segment, Event, receive, tick, State, Out, react, after, run}
-use Rattle.reassembly.specs.Runs.{mine, Listed, own, keeps, strike, Sim, run-sim, mine-sim, rows-older}
-use Rattle.reassembly.specs.Laws.Ghost.{Piece, ghost, ghost-laws}
-use Rattle.reassembly.specs.NonInterference.{emptyRow, emptyRows, empty-at, empty-free, start, ghostStart, start-sim}
-use Rattle.reassembly.specs.Mix.{Part, Frame, partOf, states, Cut, Item, given, other, frameOf, event, segmentsOf, times, isSegment, notSegment, Free, AllFree, Mixing}
+use Rattle.reassembly.specs.Receive.{Answers, Answer, Verdict, told, Seen, stranger, plain, segment, receive, tick}
+use Rattle.reassembly.specs.Laws.Runs.{State, react, run, mine, Listed, own, run-sim, mine-sim, rows-older}
+use Rattle.reassembly.specs.SetUp.{keeps, strike}
+use Rattle.reassembly.specs.Laws.Ghost.{ghost, ghost-laws}
+use Rattle.reassembly.specs.Laws.NonInterference.{empty-at, empty-free, start, ghostStart, start-sim}
+use Rattle.reassembly.specs.Mix.{Frame, partOf, states, Cut, Item, given, other, frameOf, event, segmentsOf, times, isSegment, notSegment, AllFree, Mixing, Right}
 use Rattle.reassembly.specs.Laws.MixFacts.{times-append}
-use Rattle.reassembly.specs.Laws.Deliver.{Seats, Owner, Seat, Step, take-step, lf, lj, tick-seats, other-seats}
-
--- what an answer to a segment of frame f must be, where `later` segments of it come after this one in the run
-pub record Right (W : Answers) (p : ℕ) (fr : Frame) (verdict : W .Good) (later : ℕ) (a : Answer W) : Type 0 where
-  -- not the last: 1
-  pub waits : 0 < later → a ≡ bare W (W .pending)
-  -- the last: 0, with what the verdict names (tenant and binding of its Context ID), in one of the peer's slots, with its bytes from 18 on
-  pub slot : ℕ
-  pub is-slot : slot < 4
-  pub delivers : later ≡ 0 → a .reply ≡ W .gives verdict (slotStart (slotNo p slot) + 18) (length (fr .content) - 18)
-  pub bytes : later ≡ 0 → a .bytes ≡ drop 18 (fr .content)
+use Rattle.reassembly.specs.Laws.Deliver.{Seats, Step, take-step, lf, lj, tick-seats, other-seats}
 
 module _ (W : Answers) (header : List ℕ → Seen W) (judge : ℕ → Note → List ℕ → Verdict W) (p : ℕ) (p< : p < 8) (frames : List Frame) (items : List Item)
     (cuts : (f : ℕ) → f < length frames → Cut W header judge p (frameOf frames f)) (mix : Mixing W header p frames items) where

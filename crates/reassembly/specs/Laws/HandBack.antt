@@ -1,20 +1,21 @@
 -- The bytes of an answer are those that the second call (the view) hands back: the part of the memory, as the receive left it, that the answer's place names.
-use mathlib.Core.Path.{_≡_, refl, sym, ap, subst, _∙_}
-use mathlib.Core.Bool.{Bool, true, false, cond, _&&_}
-use mathlib.Core.List.{List, [], _∷_, _++_}
-use Prim.Native.Nat.{ℕ, zero, suc, _+_, _-_, _*_, _≤_, _<_}
+use mathlib.Core.Path.{_≡_, refl, sym, ap}
+use mathlib.Core.Bool.{Bool, true, false, cond}
+use mathlib.Core.List.{List, []}
+use Prim.Native.Nat.{ℕ, _+_, _-_, _≤_, _<_}
 use native.Mathlib.Omega.{arith}
-use lib.ListN.{length, getD, take, drop}
-use lib.Dec.{ltb, leb, eqb}
+use lib.ListN.{length}
+use lib.Dec.{leb}
 use borrow.Author.Tests.{le-leb}
-use Rattle.reassembly.specs.Base.{caseB}
+use Rattle.reassembly.specs.Laws.Base.{caseB}
 use Rattle.reassembly.specs.Slots.{Row, Note}
-use Rattle.reassembly.specs.Take.{slotNo, Seg, Outcome, Rejected, Pending, Complete, NoMemory, Effect, frameIn, takeSegment}
-use Rattle.reassembly.specs.Laws.TakeFacts.{Fits, take-complete}
+use Rattle.reassembly.specs.Take.{slotNo, Seg, Outcome, Rejected, Pending, Complete, NoMemory, Effect, frameIn, takeSegment, Fits}
+use Rattle.reassembly.specs.Laws.TakeFacts.{take-complete}
 use Rattle.reassembly.specs.Laws.Sim.{RowOk, take-apart}
 use Rattle.reassembly.specs.Store.{slotStart, bytesOf}
 use Rattle.reassembly.specs.Laws.Store.{bytes-laws, handed, slot-inside}
-use Rattle.reassembly.specs.Receive.{Place, nowhere, partOfSlice, viewOf, Answers, Answer, bare, fill, Verdict, bad, good, spoken, told}
+use Rattle.reassembly.specs.Receive.{Place, nowhere, viewOf, Answers, Answer, bare, Verdict, bad, good, spoken, told}
+use Rattle.reassembly.specs.Laws.Runs.{fill}
 
 -- the empty place gives nothing
 pub nowhere-back : (packet m : List ℕ) (a : Place) → a ≡ nowhere → viewOf packet m a ≡ []

@@ -1,29 +1,54 @@
--- Runs, for one peer: the endpoint that sees every event, and another that sees only the ticks and this peer's packets, agree on this peer throughout.
-use mathlib.Core.Path.{_≡_, refl, sym, ap, subst, _∙_}
-use mathlib.Core.Logic.{_⊎_, inl, inr, _≢_}
-use mathlib.Core.Bool.{Bool, true, false, cond, not, _&&_, _||_}
+-- One receive, one tick, and a run of them, over any memory that is asked as `Ops` says; and for one peer: the endpoint that sees every event, and another that sees only the ticks and this peer's packets, agree on this peer throughout.
+use mathlib.Core.Path.{_≡_, refl, sym, ap, _∙_}
+use mathlib.Core.Logic.{_≢_}
+use mathlib.Core.Bool.{Bool, true, false, cond}
 use mathlib.Core.List.{List, [], _∷_, _++_, map}
-use Prim.Native.Nat.{ℕ, zero, suc, _+_, _-_, _*_, _≤_, _<_}
+use Prim.Native.Nat.{ℕ, _+_, _-_, _≤_, _<_}
 use native.Mathlib.Omega.{arith}
 use lib.ListN.{length, getD, set, length-set, length-map, List·getD-map}
 use lib.Seq.{getD-set-same, getD-set-other}
-use lib.Dec.{ltb, leb, eqb}
+use lib.Dec.{eqb}
 use borrow.Author.Tests.{eqb-true, eqb-false}
-use Rattle.reassembly.specs.Base.{caseB, either, clash}
-use Rattle.reassembly.specs.Slots.{Slot, Row, Note, noRow, slotsOf, free, older, olderRow, older-pending}
-use Rattle.reassembly.specs.Take.{slotNo, Seg, Ops, Outcome, Rejected, Pending, Complete, NoMemory, Effect, frameIn, takeSegment}
+use Rattle.reassembly.specs.Laws.Base.{caseB, either}
+use Rattle.reassembly.specs.Slots.{Slot, Row, Note, noRow, free, older, olderRow}
+use Rattle.reassembly.specs.Laws.Slots.{slotsOf, older-pending}
+use Rattle.reassembly.specs.Take.{slotNo, Seg, Ops, Outcome, Rejected, Pending, Complete, NoMemory, Effect, takeSegment}
 use Rattle.reassembly.specs.Laws.Memory.{Laws}
-use Rattle.reassembly.specs.Receive.{rowOf, Answers, Event, receive, tick, State, Answer, bare, fill, Verdict, Seen, stranger, plain, segment, spoken, told, Out, react, after, run}
-use Rattle.reassembly.specs.Laws.Sim.{Agree, RowOk, Same, Alike, Apart, take-alike, take-apart, set-cases}
+use Rattle.reassembly.specs.Receive.{rowOf, Answers, Event, receive, tick, Answer, bare, Verdict, Seen, stranger, plain, segment, told, partOfSlice}
+use Rattle.reassembly.specs.Laws.Sim.{RowOk, Same, Alike, take-alike, take-apart, set-cases}
+use Rattle.reassembly.specs.SetUp.{keeps, strike}
 
--- other senders' packets struck out, where `own` says of a packet that it is the peer's
-abbrev pub keeps : (List ℕ → Bool) → Event → Bool
-keeps own tick = true
-keeps own (receive k) = own k
+-- the rows and the memory
+pub record State (O : Ops) : Type 0 where
+  pub rows : List Row
+  pub mem : O .S
 
-abbrev pub strike : (List ℕ → Bool) → List Event → List Event
-strike own [] = []
-strike own (e ∷ es) = cond (keeps own e) (e ∷ strike own es) (strike own es)
+module _ (W : Answers) where
+  -- an answer that names a part of the packet has its bytes from there
+  abbrev pub fill : List ℕ → Answer W → Answer W
+  fill k a = cond (W .place (a .reply) .inMemory) a (record { reply = a .reply; bytes = partOfSlice k (W .place (a .reply) .start) (W .place (a .reply) .len) })
+
+  module _ (judge : ℕ → Note → List ℕ → Verdict W) (O : Ops) where
+    pub record Out : Type 0 where
+      pub answer : Answer W
+      pub state : State O
+
+    abbrev pub react : State O → Seen W → Out
+    react e (stranger a) = record { answer = bare W a; state = e }
+    react e (plain p a) = record { answer = bare W a; state = e }
+    react e (segment p g) =
+        let o : Effect O = takeSegment O p (getD (e .rows) (rowOf p) noRow) (e .mem) g in
+        record { answer = told W judge O p g o (o .outcome); state = record { rows = set (e .rows) (rowOf p) (o .row); mem = o .mem } }
+
+    module _ (header : List ℕ → Seen W) where
+      abbrev pub after : State O → Event → State O
+      after e tick = record { rows = map olderRow (e .rows); mem = e .mem }
+      after e (receive k) = react e (header k) .state
+
+      -- the state that a list of events leaves
+      abbrev pub run : State O → List Event → State O
+      run e [] = e
+      run e (ev ∷ evs) = run (after e ev) evs
 
 pub strike-ext : (own own′ : List ℕ → Bool) → ((k : List ℕ) → own k ≡ own′ k) → (es : List Event) → strike own es ≡ strike own′ es
 strike-ext own own′ h [] = refl

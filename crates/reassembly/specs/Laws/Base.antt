@@ -1,0 +1,143 @@
+-- Laws of `Base`, and case analysis that keeps the equation (of a Bool: wire's).
+use mathlib.Core.Path.{_≡_, refl, sym, ap, _∙_}
+use mathlib.Core.Logic.{_⊎_, inl, inr, _≢_}
+use mathlib.Core.Bool.{Bool, true, false, _&&_, _||_}
+use mathlib.Core.List.{List, [], _∷_, map}
+use mathlib.Core.Option.{Option, none, some}
+use Prim.Native.Nat.{ℕ, zero, suc, _+_, _-_, _<_}
+use native.Mathlib.Omega.{arith}
+use lib.ListN.{length, getD, set, length-append, List·getD-append}
+use lib.Seq.{getD-at}
+use lib.Dec.{ltb, eqb}
+use borrow.Author.Tests.{ltb-true, ltb-false, eqb-true, eqb-false}
+pub use Rattle.wire.specs.Laws.Bytes.{caseB}
+use Rattle.reassembly.specs.Base.{someBelow, allBelow, table}
+
+-- case analysis that keeps the equation: a value is handed over with what each case knows. The goal needs no motive.
+pub caseO {ℓ} : {A : Type 0} {C : Type ℓ} (o : Option A) → (o ≡ none → C) → ((a : A) → o ≡ some a → C) → C
+caseO none f g = f refl
+caseO (some a) f g = g a refl
+
+pub either {ℓ} : {A B : Type 0} {C : Type ℓ} → A ⊎ B → (A → C) → (B → C) → C
+either (inl a) f g = f a
+either (inr b) f g = g b
+
+-- two constructors that clash: `clash (cc)`
+pub clash {ℓ} : {C : Type ℓ} → _≡_ {A = ℕ} 0 1 → C
+clash e = absurd (omega arith)
+
+-- what is to be shown of each number below two
+abbrev pub below-two : (P : ℕ → Type 0) → P 0 → P 1 → (j : ℕ) → j < 2 → P j
+below-two P a b zero l = a
+below-two P a b (suc zero) l = b
+below-two P a b (suc (suc j)) l = absurd (omega arith)
+
+-- lt is lt or equal
+pub below-suc : {i n : ℕ} → i < suc n → (i < n) ⊎ (i ≡ n)
+below-suc {i} {n} h = caseB (ltb i n) (λ e. inl (ltb-true i n e)) (λ e. inr (omega (arith, ltb-false i n e)))
+
+-- a search's loop: one number more was looked at
+pub more-not : (f : ℕ → Bool) (i : ℕ) → ((t : ℕ) → t < i → f t ≡ false) → f i ≡ false → (t : ℕ) → t < i + 1 → f t ≡ false
+more-not f i h e t l =
+    caseB (eqb t i)
+    (λ q. ap f (eqb-true t i q) ∙ e)
+    (λ q. let d : t ≢ i = eqb-false t i q in h t (omega arith))
+
+-- a set element of a mapped list
+pub map-set : {A B : Type 0} (f : A → B) (l : List A) (i : ℕ) (x : A) → map f (set l i x) ≡ set (map f l) i (f x)
+map-set f [] i x = refl
+map-set f (y ∷ l) zero x = refl
+map-set {B = B} f (y ∷ l) (suc i) x = ap (λ (t : List B). f y ∷ t) (map-set f l i x)
+
+pub someBelow-ext : (n : ℕ) (f g : ℕ → Bool) → ((i : ℕ) → i < n → f i ≡ g i) → someBelow n f ≡ someBelow n g
+unfolding someBelow
+someBelow-ext zero f g h = refl
+someBelow-ext (suc n) f g h = cc (h n (omega arith), someBelow-ext n f g (λ i l. h i (omega arith)))
+
+pub allBelow-ext : (n : ℕ) (f g : ℕ → Bool) → ((i : ℕ) → i < n → f i ≡ g i) → allBelow n f ≡ allBelow n g
+unfolding allBelow
+allBelow-ext zero f g h = refl
+allBelow-ext (suc n) f g h = cc (h n (omega arith), allBelow-ext n f g (λ i l. h i (omega arith)))
+
+pub table-ext : {A : Type 0} (n : ℕ) (f g : ℕ → A) → ((i : ℕ) → i < n → f i ≡ g i) → table n f ≡ table n g
+unfolding table
+table-ext zero f g h = refl
+table-ext (suc n) f g h = cc (h n (omega arith), table-ext n f g (λ i l. h i (omega arith)))
+
+pub and-l : (a b : Bool) → (a && b) ≡ true → a ≡ true
+and-l true b e = refl
+and-l false b e = e
+
+pub and-r : (a b : Bool) → (a && b) ≡ true → b ≡ true
+and-r true b e = e
+and-r false b e = let z : true ≡ false = cc in cc
+
+pub and-yes : (b : Bool) → (b && true) ≡ b
+and-yes true = refl
+and-yes false = refl
+
+pub and-no : (b : Bool) → (b && false) ≡ false
+and-no true = refl
+and-no false = refl
+
+pub or-false-l : (a b : Bool) → (a || b) ≡ false → a ≡ false
+or-false-l true b e = e
+or-false-l false b e = refl
+
+pub or-false-r : (a b : Bool) → (a || b) ≡ false → b ≡ false
+or-false-r true b e = cc
+or-false-r false b e = e
+
+pub allBelow-at : (n : ℕ) (f : ℕ → Bool) → allBelow n f ≡ true → (i : ℕ) → i < n → f i ≡ true
+unfolding allBelow
+allBelow-at zero f e i h = absurd (omega arith)
+allBelow-at (suc n) f e i h =
+    either (below-suc h)
+    (λ l. allBelow-at n f (and-r (f n) (allBelow n f) e) i l)
+    (λ q. cc (and-l (f n) (allBelow n f) e))
+
+pub allBelow-intro : (n : ℕ) (f : ℕ → Bool) → ((i : ℕ) → i < n → f i ≡ true) → allBelow n f ≡ true
+unfolding allBelow
+allBelow-intro zero f h = refl
+allBelow-intro (suc n) f h = cc (h n (omega arith), allBelow-intro n f (λ i l. h i (omega arith)))
+
+pub someBelow-none : (n : ℕ) (f : ℕ → Bool) → ((i : ℕ) → i < n → f i ≡ false) → someBelow n f ≡ false
+unfolding someBelow
+someBelow-none zero f h = refl
+someBelow-none (suc n) f h = cc (h n (omega arith), someBelow-none n f (λ i l. h i (omega arith)))
+
+pub length-table : {A : Type 0} (n : ℕ) (f : ℕ → A) → length (table n f) ≡ n
+unfolding table
+length-table zero f = refl
+length-table (suc n) f = length-append (table n f) (f n ∷ []) ∙ omega (arith, length-table n f)
+
+pub getD-table : {A : Type 0} (n : ℕ) (f : ℕ → A) (d : A) (i : ℕ) → i < n → getD (table n f) i d ≡ f i
+unfolding table
+getD-table zero f d i h = absurd (omega arith)
+getD-table (suc n) f d i h =
+    either (below-suc h)
+    (λ l. List·getD-append (table n f) (f n ∷ []) d i (omega (arith, length-table n f)) ∙ getD-table n f d i l)
+    (λ q. rw q (getD-at (table n f) (f n) [] d n (length-table n f)))
+
+-- two tests that pass together are the same
+pub same-test : (x y : Bool) → (x ≡ true → y ≡ true) → (y ≡ true → x ≡ true) → x ≡ y
+same-test true true f g = refl
+same-test true false f g = sym (f refl)
+same-test false true f g = g refl
+same-test false false f g = refl
+
+pub or-cases : (a b : Bool) → (a || b) ≡ true → (a ≡ true) ⊎ (b ≡ true)
+or-cases true b e = inl refl
+or-cases false b e = inr e
+
+pub or-true-r : (a b : Bool) → b ≡ true → (a || b) ≡ true
+or-true-r true b e = refl
+or-true-r false b e = e
+
+pub someBelow-some : (n : ℕ) (f : ℕ → Bool) (i : ℕ) → i < n → f i ≡ true → someBelow n f ≡ true
+unfolding someBelow
+someBelow-some zero f i l e = absurd (omega arith)
+someBelow-some (suc n) f i l e =
+    either (below-suc l)
+    (λ h. or-true-r (f n) (someBelow n f) (someBelow-some n f i h e))
+    (λ q. rw (← q, e))

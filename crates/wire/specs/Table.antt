@@ -1,0 +1,198 @@
+-- DOCUMENT 01's TABLE ("The numbered answers"), the rows that the bytes of a packet decide: a condition and the number that it gives, in the paper's order.
+-- The endpoint's page (crate endpoint, specs/Table.antt) joins them with its own; compare them with the paper line by line.
+-- No reader stands here but in `Table`, THE STATEMENT: the number of what a reader answers is that of the first row that applies, and where none does,
+-- the fields that it read are those named there. Laws/Table.antt proves it (`wire-table`).
+-- Assumes nothing.
+use Prim.Native.Nat.{ℕ, _*_, _/_, _%_, _^_, _≤_}
+use mathlib.Core.Path.{_≡_}
+use mathlib.Core.Bool.{Bool, not, cond, _&&_, _||_}
+use mathlib.Core.List.{List, [], _∷_, _++_}
+use lib.ListN.{length, take, drop}
+use lib.Dec.{ltb, leb, eqb}
+use Rattle.wire.specs.Bytes.{Bytes, beAt, part}
+use Rattle.wire.specs.Sum.{total, ones, pseudo}
+use Rattle.wire.specs.Checks.{Check, _⇒_, first}
+use Rattle.wire.specs.Refusal.{codeOf}
+use Rattle.wire.specs.Ipv4.{ipv4Of}
+use Rattle.wire.specs.Carriage.{carriageOf}
+use Rattle.wire.specs.Stt.{sttOf}
+use Rattle.wire.specs.Frame.{frameOf}
+use Rattle.wire.specs.declared.ipv4.Ipv4.{Ipv4}
+use Rattle.wire.specs.declared.ipv4.Ipv4Read.{Ipv4Read}
+use Rattle.wire.specs.declared.ipv4.Ipv4Read.the-variants as I
+use Rattle.wire.specs.declared.segment.Segment.{Segment}
+use Rattle.wire.specs.declared.carriage.Tunnel.{Tunnel}
+use Rattle.wire.specs.declared.carriage.Carried.{Carried}
+use Rattle.wire.specs.declared.carriage.Carried.the-variants as C
+use Rattle.wire.specs.declared.stt.SttRead.{SttRead}
+use Rattle.wire.specs.declared.stt.SttRead.the-variants as S
+use Rattle.wire.specs.declared.frame.FrameRead.{FrameRead}
+use Rattle.wire.specs.declared.frame.FrameRead.the-variants as F
+
+-- ---- words
+
+abbrev pub Rows : Type 0
+Rows = List (Check ℕ)
+
+-- rows and then further ones, grouped to the right: how a page is written down
+infixr 18 _andThen_
+abbrev pub _andThen_ : Rows → Rows → Rows
+a andThen b = a ++ b
+
+-- the number of the first row that applies, and where none does, this one
+infix 15 _otherwise_
+abbrev pub _otherwise_ : Rows → ℕ → ℕ
+rows otherwise n = first (λ m. m) rows n
+
+abbrev pub numbered : Rows → ℕ
+numbered rows = rows otherwise 0
+
+infix 45 _is_ _isnt_ _below_ _above_ _atLeast_
+abbrev pub _is_ : ℕ → ℕ → Bool
+a is b = eqb a b
+
+abbrev pub _isnt_ : ℕ → ℕ → Bool
+a isnt b = not (eqb a b)
+
+abbrev pub _below_ : ℕ → ℕ → Bool
+a below b = ltb a b
+
+abbrev pub _above_ : ℕ → ℕ → Bool
+a above b = ltb b a
+
+abbrev pub _atLeast_ : ℕ → ℕ → Bool
+a atLeast b = leb b a
+
+-- the ones' complement sum (RFC 1071): a checksum is right where it is 0xFFFF
+abbrev pub sum : List ℕ → ℕ
+sum bytes = ones (total bytes)
+
+-- ---- the outer header (RFC 791): its fields; 3, 4, 5
+
+abbrev pub headerLengthOf : (packet : List ℕ) → ℕ
+headerLengthOf packet = 4 * (beAt packet 0 1 % 16)
+
+abbrev pub totalLengthOf : (packet : List ℕ) → ℕ
+totalLengthOf packet = beAt packet 2 2
+
+abbrev pub protocolOf : (packet : List ℕ) → ℕ
+protocolOf packet = beAt packet 9 1
+
+abbrev pub sourceOf : (packet : List ℕ) → ℕ
+sourceOf packet = beAt packet 12 4
+
+abbrev pub destinationOf : (packet : List ℕ) → ℕ
+destinationOf packet = beAt packet 16 4
+
+abbrev pub payloadOf : (packet : List ℕ) → List ℕ
+payloadOf packet = part packet (headerLengthOf packet) (totalLengthOf packet)
+
+unfoldable pub ipv4Rows : (packet : List ℕ) → Rows
+ipv4Rows packet =
+    let words : ℕ = beAt packet 0 1 % 16 in
+    let size : ℕ = totalLengthOf packet in
+    (length packet below 20 || beAt packet 0 1 / 16 isnt 4 || words below 5 || size below 4 * words || size above length packet ⇒ 3)
+    ∷ (sum (take (4 * words) packet) isnt 0xFFFF ⇒ 4)
+    ∷ (beAt packet 6 2 % 2 ^ 14 isnt 0 ⇒ 5)  -- the more-fragments bit and the fragment offset
+    ∷ []
+
+-- ---- what the IP payload carries: 9, 8, 9, 10
+
+-- the fields of an STT segment's header, and the bytes behind it
+abbrev pub dataWordsOf : (payload : List ℕ) → ℕ
+dataWordsOf payload = beAt payload 12 1 / 16
+
+abbrev pub frameLengthOf : (payload : List ℕ) → ℕ
+frameLengthOf payload = beAt payload 4 2
+
+abbrev pub offsetOf : (payload : List ℕ) → ℕ
+offsetOf payload = beAt payload 6 2
+
+abbrev pub identifierOf : (payload : List ℕ) → ℕ
+identifierOf payload = beAt payload 8 4
+
+abbrev pub segmentBytesOf : (payload : List ℕ) → List ℕ
+segmentBytesOf payload = drop (4 * dataWordsOf payload) payload
+
+unfoldable pub payloadRows : (protocol source destination sttPort : ℕ) (payload : List ℕ) → Rows
+payloadRows protocol source destination sttPort payload =
+    let udp : Bool = protocol is 17 in
+    let tcp : Bool = protocol is 6 in
+    let gre : Bool = protocol is 47 in
+    let size : ℕ = length payload in
+    let port : ℕ = beAt payload 2 2 in
+    let words : ℕ = dataWordsOf payload in
+    let wrong : Bool = sum (pseudo source destination protocol size ++ payload) isnt 0xFFFF in
+    (udp && size below 8 || tcp && size below 20 ⇒ 9)
+    ∷ (not (udp || tcp || gre) || udp && port isnt 4789 || tcp && port isnt sttPort ⇒ 8)
+    ∷ (udp && (beAt payload 4 2 isnt size || size below 16) || gre && size below 8 || tcp && (words below 5 || 4 * words above size) ⇒ 9)
+    ∷ (udp && (beAt payload 6 2 isnt 0 && wrong) || tcp && wrong ⇒ 10)
+    ∷ []
+
+-- ---- tunnel headers: 11
+
+-- VXLAN over UDP: flag 0x08
+abbrev pub vniOf : (payload : List ℕ) → ℕ
+vniOf payload = beAt payload 12 3
+
+unfoldable pub vxlanRows : (payload : List ℕ) → Rows
+vxlanRows payload = (beAt payload 8 1 / 8 % 2 isnt 1 ⇒ 11) ∷ []
+
+-- NVGRE: first byte 0x20 to 0x23, low three bits of the second 0, protocol type 0x6558
+abbrev pub vsidOf : (payload : List ℕ) → ℕ
+vsidOf payload = beAt payload 4 3
+
+unfoldable pub nvgreRows : (payload : List ℕ) → Rows
+nvgreRows payload = (beAt payload 0 1 below 0x20 || beAt payload 0 1 above 0x23 || beAt payload 1 1 % 8 isnt 0 || beAt payload 2 2 isnt 0x6558 ⇒ 11) ∷ []
+
+-- a complete STT frame: version 0; flags 0x01 and 0x02 not both set
+abbrev pub contextOf : (frame : List ℕ) → ℕ
+contextOf frame = beAt frame 8 8
+
+unfoldable pub sttRows : (frame : List ℕ) → Rows
+sttRows frame = (beAt frame 0 1 isnt 0 || beAt frame 1 1 % 4 is 3 ⇒ 11) ∷ []
+
+-- ---- the inner frame: 13. Under 14 or over 1,514 bytes; bytes 12 and 13 are 0x8100 or 0x88A8
+
+unfoldable pub badFrame : (frame : List ℕ) → Bool
+badFrame frame = length frame below 14 || length frame above 1514 || beAt frame 12 2 is 0x8100 || beAt frame 12 2 is 0x88A8
+
+-- ---- THE STATEMENT
+
+-- the number of what a reader answers: a refusal's, and what is made of what was read
+abbrev pub ipv4Number : (Ipv4 → ℕ) → Ipv4Read → ℕ
+ipv4Number f (I.Packet h) = f h
+ipv4Number f (I.Refused r) = codeOf r
+
+abbrev pub carriedNumber : (Tunnel → ℕ) → (Segment → ℕ) → Carried → ℕ
+carriedNumber f g (C.Tunnel t) = f t
+carriedNumber f g (C.Segment s) = g s
+carriedNumber f g (C.Refused r) = codeOf r
+
+abbrev pub sttNumber : (ℕ → ℕ) → SttRead → ℕ
+sttNumber f (S.Header context) = f context
+sttNumber f (S.Refused r) = codeOf r
+
+abbrev pub frameNumber : ℕ → FrameRead → ℕ
+frameNumber n F.Good = n
+frameNumber n (F.Refused r) = codeOf r
+
+pub record Table : Type 0 where
+  pub ipv4 : (f : Ipv4 → ℕ) (packet : List ℕ)
+      → ipv4Number f (ipv4Of packet)
+      ≡ (ipv4Rows packet otherwise f (record {
+        start = headerLengthOf packet;
+        end = totalLengthOf packet;
+        source = sourceOf packet;
+        destination = destinationOf packet;
+        protocol = protocolOf packet;
+      }))
+  -- a payload is a list of at most 65,535 bytes
+  pub payload : (f : Tunnel → ℕ) (g : Segment → ℕ) (protocol source destination sttPort : ℕ) (payload : List ℕ) → Bytes payload → length payload ≤ 65535
+      → carriedNumber f g (carriageOf protocol source destination sttPort payload)
+      ≡ (payloadRows protocol source destination sttPort payload otherwise
+      cond (protocol is 17) (vxlanRows payload otherwise f (record { kind = 1; network = vniOf payload; start = 16 }))
+      (cond (protocol is 47) (nvgreRows payload otherwise f (record { kind = 2; network = vsidOf payload; start = 8 }))
+      (g (record { «frame_length» = frameLengthOf payload; offset = offsetOf payload; identifier = identifierOf payload; start = 4 * dataWordsOf payload }))))
+  pub stt-frame : (f : ℕ → ℕ) (frame : List ℕ) → 18 ≤ length frame → sttNumber f (sttOf frame) ≡ (sttRows frame otherwise f (contextOf frame))
+  pub inner-frame : (n : ℕ) (frame : List ℕ) → frameNumber n (frameOf frame) ≡ ((badFrame frame ⇒ 13) ∷ [] otherwise n)
