@@ -1,6 +1,6 @@
 /*
- * The library from C: an endpoint that delivers a VXLAN frame and an STT frame in two segments, what refusals leave, and frames
- * that its peer wraps and it unwraps.
+ * The library from C: an endpoint that delivers a VXLAN frame and an STT frame in two segments, what refusals leave, frames that
+ * its peer wraps and it unwraps, and what ticks free. It is C++ as well.
  * Each step prints a line; host/ctest/run compares them with demo.expected. Whatever a line cannot show is asserted.
  */
 #undef NDEBUG
@@ -10,17 +10,6 @@
 
 #include "niulassenc.h"
 #include "packets.h"
-
-/* The boundary is not checked by anything else: the layout of each struct that crosses it. */
-static_assert(sizeof(struct niulassenc_slot) == 8, "slot");
-static_assert(offsetof(struct niulassenc_endpoint, addresses) == 768, "addresses");
-static_assert(offsetof(struct niulassenc_endpoint, own) == 800, "own");
-static_assert(offsetof(struct niulassenc_endpoint, owners) == 1004, "owners");
-static_assert(sizeof(struct niulassenc_endpoint) == 1072, "endpoint");
-static_assert(offsetof(struct niulassenc_started, code) == 1072, "started");
-static_assert(sizeof(struct niulassenc_addition) == 4, "addition");
-static_assert(sizeof(struct niulassenc_receipt) == 24, "receipt");
-static_assert(offsetof(struct niulassenc_writing, code) == 16, "writing");
 
 /* An endpoint's bytes without the 4 of padding at its end, which no promise speaks of. */
 enum { ENDPOINT_BYTES = 1068 };
@@ -33,13 +22,28 @@ static struct niulassenc_receipt receive(struct niulassenc_endpoint *endpoint, c
 {
     struct niulassenc_receipt got = niulassenc_receive(endpoint, packet, length, memory, sizeof memory);
 
-    printf("%s: code %d, tenant %d, binding %d, %zu bytes from %zu of the %s\n", what, got.code, got.tenant, got.binding,
-           got.length, got.start, got.in_memory ? "memory" : "packet");
     if (got.code == NIULASSENC_DONE) {
         struct niulassenc_part part = niulassenc_view(packet, length, memory, sizeof memory, got);
+        printf("%s: tenant %d, binding %d, %zu bytes from %zu of the %s\n", what, got.tenant, got.binding, got.length,
+               got.start, got.in_memory ? "memory" : "packet");
         assert(part.length == sizeof frame && memcmp(part.bytes, frame, sizeof frame) == 0);
+    } else {
+        printf("%s: %d, %s\n", what, got.code, niulassenc_text(got.code));
+        assert(got.tenant == NIULASSENC_NONE && got.binding == NIULASSENC_NONE);
+        assert(got.start == 0 && got.length == 0 && !got.in_memory);
     }
     return got;
+}
+
+/* Prints the answer of an adding call. */
+static struct niulassenc_addition add(const char *what, struct niulassenc_addition added)
+{
+    if (added.code == NIULASSENC_DONE)
+        printf("%s: number %d\n", what, added.number);
+    else
+        printf("%s: %d, %s\n", what, added.code, niulassenc_text(added.code));
+    assert(added.code == NIULASSENC_DONE || added.number == NIULASSENC_NONE);
+    return added;
 }
 
 /* Calls that are refused: nothing that was lent is changed. */
@@ -59,14 +63,17 @@ static void refusals(struct niulassenc_endpoint *endpoint)
     receive(endpoint, "damaged", packet, sizeof packet);
     receive(endpoint, "empty", packet, 0);
     struct niulassenc_receipt got = niulassenc_receive(endpoint, packet, 0, memory, sizeof memory - 1);
-    printf("memory of 55,295 bytes: code %d\n", got.code);
-    struct niulassenc_addition again = niulassenc_add_peer(endpoint, PEER);
-    printf("the peer again: code %d, number %d\n", again.code, again.number);
+    printf("memory of 55,295 bytes: %d, %s\n", got.code, niulassenc_text(got.code));
+    add("the peer again", niulassenc_add_peer(endpoint, PEER));
+    /* Cut to 16 bits (a kind: 8), these would be peer 0, VXLAN and tenant 7. */
+    add("peer 65,536", niulassenc_add_binding(endpoint, 65536, NIULASSENC_VXLAN, 23, 7));
+    add("kind 257", niulassenc_add_binding(endpoint, 0, 257, 23, 7));
+    add("tenant 65,543", niulassenc_add_binding(endpoint, 0, NIULASSENC_VXLAN, 23, 65543));
     assert(memcmp(&before, endpoint, ENDPOINT_BYTES) == 0 && memcmp(memory_before, memory, sizeof memory) == 0);
 }
 
 /* Wraps, and prints the answer. What is behind the packet stays as it came: all of the output, where the call is refused. */
-static size_t wrap(const struct niulassenc_endpoint *sender, const char *what, uint16_t binding, const uint8_t *bytes,
+static size_t wrap(const struct niulassenc_endpoint *sender, const char *what, uint32_t binding, const uint8_t *bytes,
                    size_t length, uint32_t segment_number, uint8_t *out, size_t size)
 {
     struct niulassenc_endpoint before;
@@ -74,7 +81,11 @@ static size_t wrap(const struct niulassenc_endpoint *sender, const char *what, u
     memcpy(&before, sender, sizeof before);
     memset(out, 0xa5, size);
     struct niulassenc_writing wrote = niulassenc_wrap(sender, binding, bytes, length, segment_number, 0x01020304, out, size);
-    printf("%s: code %d, %zu bytes, segments %zu\n", what, wrote.code, wrote.length, wrote.segments);
+    if (wrote.code == NIULASSENC_DONE)
+        printf("%s: %zu bytes, segments %u\n", what, wrote.length, (unsigned)wrote.segments);
+    else
+        printf("%s: %d, %s\n", what, wrote.code, niulassenc_text(wrote.code));
+    assert(wrote.code == NIULASSENC_DONE || (wrote.length == 0 && wrote.segments == 0));
     for (size_t i = wrote.length; i < size; i++)
         assert(out[i] == 0xa5);
     assert(memcmp(&before, sender, ENDPOINT_BYTES) == 0);
@@ -102,9 +113,10 @@ static void wraps(struct niulassenc_endpoint *endpoint)
     receive(endpoint, "unwrap segment 1", out[1], second);
     struct niulassenc_receipt got = niulassenc_receive(endpoint, out[0], first, memory, sizeof memory);
     struct niulassenc_part part = niulassenc_view(out[0], first, memory, sizeof memory, got);
-    printf("unwrap segment 0: code %d, tenant %d, binding %d, %zu bytes\n", got.code, got.tenant, got.binding, got.length);
+    printf("unwrap segment 0: tenant %d, binding %d, %zu bytes\n", got.tenant, got.binding, got.length);
     assert(part.length == sizeof large && memcmp(part.bytes, large, sizeof large) == 0);
 
+    wrap(&sender, "wrap on binding 65,536", 65536, frame, sizeof frame, 0, out[0], sizeof out[0]);
     wrap(&sender, "wrap on no binding", 2, frame, sizeof frame, 0, out[0], sizeof out[0]);
     wrap(&sender, "wrap a frame of 13 bytes", 0, frame, 13, 0, out[0], sizeof out[0]);
     wrap(&sender, "wrap above the MTU", 0, large, 541, 0, out[0], sizeof out[0]);
@@ -112,9 +124,37 @@ static void wraps(struct niulassenc_endpoint *endpoint)
     wrap(&sender, "wrap into 49 bytes", 0, frame, sizeof frame, 0, out[0], 49);
 }
 
+/* How many frames are pending. */
+static unsigned pending(const struct niulassenc_endpoint *endpoint)
+{
+    unsigned count = 0;
+
+    for (unsigned peer = 0; peer < NIULASSENC_PEERS; peer++)
+        for (unsigned slot = 0; slot < NIULASSENC_SLOTS; slot++)
+            count += endpoint->peers[peer].slots[slot].pending;
+    return count;
+}
+
+/* A frame that lost a segment is given up at its fourth tick. A tick does not say what it freed: count before and after. */
+static void ticks(struct niulassenc_endpoint *endpoint, const uint8_t *packet, size_t length)
+{
+    receive(endpoint, "STT, one segment of two", packet, length);
+    for (int tick = 1; tick <= NIULASSENC_TICKS; tick++) {
+        unsigned before = pending(endpoint);
+        uint8_t code = niulassenc_tick(endpoint);
+        printf("tick %d: %s, %u freed\n", tick, niulassenc_text(code), before - pending(endpoint));
+        assert(code == NIULASSENC_DONE);
+    }
+}
+
 /* A place that does not fit gives the empty part at the packet's start. */
 static void misfits(void)
 {
+    struct niulassenc_part_at at = niulassenc_cut(50, NIULASSENC_MEMORY_BYTES, 36, 14, false);
+    assert(at.start == 36 && at.length == 14 && !at.in_memory);
+    at = niulassenc_cut(50, NIULASSENC_MEMORY_BYTES, 37, 14, false);
+    assert(at.start == 0 && at.length == 0 && !at.in_memory);
+
     struct niulassenc_receipt place = {SIZE_MAX, 2, 0, 0, 0, true};
     struct niulassenc_part part = niulassenc_view(vxlan, sizeof vxlan, memory, sizeof memory, place);
     assert(part.bytes == vxlan && part.length == 0);
@@ -128,18 +168,22 @@ static void misfits(void)
 
 int main(void)
 {
+    if (!niulassenc_matches()) {
+        fprintf(stderr, "demo: the archive is not of the header's version\n");
+        return 1;
+    }
     struct niulassenc_started started = niulassenc_start(OWN, STT_PORT, 1500);
     struct niulassenc_endpoint endpoint = started.endpoint;
     uint8_t stt[STT_HEADER + sizeof frame];
     uint8_t first[64], second[64];
 
-    printf("start: code %d; at port 0: code %d\n", started.code, niulassenc_start(OWN, 0, 1500).code);
-    struct niulassenc_addition peer = niulassenc_add_peer(&endpoint, PEER);
-    printf("peer: code %d, number %d\n", peer.code, peer.number);
-    struct niulassenc_addition binding = niulassenc_add_binding(&endpoint, peer.number, NIULASSENC_VXLAN, 22, 7);
-    printf("VXLAN binding: code %d, number %d\n", binding.code, binding.number);
-    binding = niulassenc_add_binding(&endpoint, peer.number, NIULASSENC_STT, 0x0102030405060708, 9);
-    printf("STT binding: code %d, number %d\n", binding.code, binding.number);
+    printf("start: %s\n", niulassenc_text(started.code));
+    printf("start at port 0: %s\n", niulassenc_text(niulassenc_start(OWN, 0, 1500).code));
+    printf("start at port 65,537: %s\n", niulassenc_text(niulassenc_start(OWN, 65537, 1500).code));
+    printf("start with an MTU of 66,000: %s\n", niulassenc_text(niulassenc_start(OWN, STT_PORT, 66000).code));
+    struct niulassenc_addition peer = add("peer", niulassenc_add_peer(&endpoint, PEER));
+    add("VXLAN binding", niulassenc_add_binding(&endpoint, peer.number, NIULASSENC_VXLAN, 22, 7));
+    add("STT binding", niulassenc_add_binding(&endpoint, peer.number, NIULASSENC_STT, 0x0102030405060708, 9));
     assert(endpoint.own == OWN && endpoint.peer_count == 1 && endpoint.addresses[0] == PEER);
     assert(endpoint.binding_count == 2 && endpoint.tenants[1] == 9 && endpoint.networks[0] == 22);
 
@@ -151,12 +195,13 @@ int main(void)
     size_t second_length = segment(second, stt, sizeof stt, 20, 12, 77);
     receive(&endpoint, "STT, second segment", second, second_length);
     niulassenc_tick(&endpoint);
-    assert(endpoint.rows[0].slots[0].pending && endpoint.rows[0].slots[0].age == 1);
+    assert(endpoint.peers[0].slots[0].pending && endpoint.peers[0].slots[0].age == 1);
     receive(&endpoint, "STT, first segment", first, first_length);
-    assert(!endpoint.rows[0].slots[0].pending && memory[1728] == 0xa5);
+    assert(!endpoint.peers[0].slots[0].pending && memory[NIULASSENC_SLOT_BYTES] == 0xa5);
 
     refusals(&endpoint);
     wraps(&endpoint);
+    ticks(&endpoint, second, second_length);
     misfits();
     return 0;
 }

@@ -1,8 +1,8 @@
 /*
- * stack ANY EVERY_PACKET: how much stack each call uses. Every case runs on a painted stack of its own; the deepest byte that
+ * stack START OTHER: how much stack each call uses. Every case runs on a painted stack of its own; the deepest byte that
  * lost its paint tells the use, so only bytes that are written are seen. Counted with it are the few bytes of the frame that
  * makes the call, the struct that the call gives back where the compiler keeps it there, and what the C library's memcpy and
- * memset take. Fails where a receive or a wrap uses more than EVERY_PACKET bytes, or another call more than ANY.
+ * memset take. Fails where a start uses more than START bytes, or another call more than OTHER.
  */
 #define _XOPEN_SOURCE 700
 #undef NDEBUG
@@ -16,7 +16,7 @@
 #include "niulassenc.h"
 #include "packets.h"
 
-enum { PAINT = 0xa5, STACK_BYTES = 65536, LARGEST_FRAME = 1514, VSID = 4096, IDENTIFIER = 77 };
+enum { PAINT = 0xa5, STACK_BYTES = 65536, LARGEST_FRAME = NIULASSENC_FRAME_MAX, VSID = 4096, IDENTIFIER = 77 };
 
 /* Makes the type 0x88b5 of the frames here the tag 0x88a8: a change of its second byte. */
 enum { TO_TAG = 0xb5 ^ 0xa8 };
@@ -24,12 +24,11 @@ enum { TO_TAG = 0xb5 ^ 0xa8 };
 /* The last three of 64 bindings, all of the last of eight peers: whatever is searched for stands at the end. */
 enum { ON_VXLAN = 61, ON_NVGRE = 62, ON_STT = 63 };
 
-/* One of the six calls, its cases, and the most that they have used. */
+/* One of the calls, its cases, and the most that they have used. */
 struct subject {
     const char *name;
     void (*call)(void);
     void (*cases)(struct subject *self);
-    bool every_packet; /* made for every packet, and held to the smaller bound */
     size_t most;
     unsigned measured;
 };
@@ -44,9 +43,7 @@ static uint8_t stt[STT_HEADER + LARGEST_FRAME];
 /* What the next call is given, and the code that it gave. */
 static struct {
     uint64_t network;
-    uint32_t address, segment;
-    uint16_t port, binding;
-    uint8_t kind;
+    uint32_t address, port, kind, binding, segment;
     uint8_t packet[2000];
     size_t packet_length, memory_length, frame_length, output_length;
 } given;
@@ -74,8 +71,7 @@ static void receive(void)
 
 static void tick(void)
 {
-    niulassenc_tick(&endpoint);
-    code = NIULASSENC_DONE;
+    code = niulassenc_tick(&endpoint);
 }
 
 static void wrap(void)
@@ -83,6 +79,18 @@ static void wrap(void)
     code = niulassenc_wrap(&endpoint, given.binding, inner, given.frame_length, given.segment, IDENTIFIER, output,
                            given.output_length)
                .code;
+}
+
+static void cut(void)
+{
+    struct niulassenc_part_at at = niulassenc_cut(given.packet_length, given.memory_length, given.frame_length, 2, true);
+
+    code = at.length == 2 ? NIULASSENC_DONE : NIULASSENC_OUT_OF_RANGE;
+}
+
+static void matches(void)
+{
+    code = niulassenc_matches() ? NIULASSENC_DONE : NIULASSENC_OUT_OF_RANGE;
 }
 
 /* Makes the call on a fresh stack. That it gives the expected code shows that the case is the one meant. */
@@ -115,9 +123,9 @@ static void list(unsigned peers, unsigned bindings)
 {
     endpoint = niulassenc_start(OWN, STT_PORT, 1500).endpoint;
     for (unsigned i = 0; i < peers; i++)
-        assert(niulassenc_add_peer(&endpoint, i == 7 ? PEER : 0x0a000100 + i).code == NIULASSENC_DONE);
+        assert(niulassenc_add_peer(&endpoint, i == 7 ? (uint32_t)PEER : 0x0a000100 + i).code == NIULASSENC_DONE);
     for (unsigned i = 0; i < bindings && i < ON_VXLAN; i++)
-        assert(niulassenc_add_binding(&endpoint, (uint16_t)(i % 8), NIULASSENC_STT, 1000 + i, 1).code == NIULASSENC_DONE);
+        assert(niulassenc_add_binding(&endpoint, i % 8, NIULASSENC_STT, 1000 + i, 1).code == NIULASSENC_DONE);
     if (bindings > ON_VXLAN)
         assert(niulassenc_add_binding(&endpoint, 7, NIULASSENC_VXLAN, 22, 1).code == NIULASSENC_DONE);
     if (bindings > ON_NVGRE)
@@ -131,6 +139,8 @@ static void starts(struct subject *subject)
     given.port = STT_PORT;
     measure(subject, NIULASSENC_DONE);
     given.port = 0;
+    measure(subject, NIULASSENC_OUT_OF_RANGE);
+    given.port = 65537;
     measure(subject, NIULASSENC_OUT_OF_RANGE);
 }
 
@@ -160,7 +170,7 @@ static void bindings(struct subject *subject)
 }
 
 /* The next packet is the largest frame on VXLAN or NVGRE, as the peer wraps it. */
-static void wrapped(uint8_t kind, uint32_t network)
+static void wrapped(uint32_t kind, uint32_t network)
 {
     struct niulassenc_endpoint sender = niulassenc_start(PEER, STT_PORT, 1600).endpoint;
 
@@ -214,25 +224,25 @@ static void damaged(struct subject *subject, size_t at, uint8_t change, bool rig
 static void tunnel_refusals(struct subject *subject)
 {
     given.memory_length = sizeof memory - 1;
-    measure(subject, NIULASSENC_MEMORY);
+    measure(subject, NIULASSENC_MEMORY_TOO_SMALL);
     given.memory_length = sizeof memory;
     given.packet_length = 0;
-    measure(subject, NIULASSENC_IPV4);
-    damaged(subject, 0, 0x20, true, NIULASSENC_IPV4);
-    damaged(subject, 10, 1, false, NIULASSENC_IPV4_CHECKSUM);
+    measure(subject, NIULASSENC_NOT_IPV4);
+    damaged(subject, 0, 0x20, true, NIULASSENC_NOT_IPV4);
+    damaged(subject, 10, 1, false, NIULASSENC_BAD_IPV4_CHECKSUM);
     damaged(subject, 6, 0x20, true, NIULASSENC_FRAGMENT);
-    damaged(subject, 19, 0x80, true, NIULASSENC_DESTINATION);
-    damaged(subject, 15, 0x80, true, NIULASSENC_PEER);
-    damaged(subject, 9, 0x80, true, NIULASSENC_PROTOCOL);
-    damaged(subject, 25, 1, true, NIULASSENC_CARRIAGE);
-    damaged(subject, 27, 1, true, NIULASSENC_CHECKSUM);
-    damaged(subject, 28, 0x08, true, NIULASSENC_TUNNEL);
-    damaged(subject, 34, 1, true, NIULASSENC_BINDING);
-    damaged(subject, 49, TO_TAG, true, NIULASSENC_FRAME);
+    damaged(subject, 19, 0x80, true, NIULASSENC_NOT_FOR_US);
+    damaged(subject, 15, 0x80, true, NIULASSENC_UNKNOWN_PEER);
+    damaged(subject, 9, 0x80, true, NIULASSENC_UNKNOWN_PROTOCOL);
+    damaged(subject, 25, 1, true, NIULASSENC_BAD_TRANSPORT_HEADER);
+    damaged(subject, 27, 1, true, NIULASSENC_BAD_TRANSPORT_CHECKSUM);
+    damaged(subject, 28, 0x08, true, NIULASSENC_BAD_TUNNEL_HEADER);
+    damaged(subject, 34, 1, true, NIULASSENC_NO_BINDING);
+    damaged(subject, 49, TO_TAG, true, NIULASSENC_BAD_FRAME);
 }
 
-/* Receives the whole STT frame in one segment with one byte changed. */
-static void whole(struct subject *subject, size_t at, uint8_t change, uint8_t expected)
+/* Receives the complete STT frame in one segment with one byte changed. */
+static void complete(struct subject *subject, size_t at, uint8_t change, uint8_t expected)
 {
     endpoint = full;
     stt[at] ^= change;
@@ -243,22 +253,22 @@ static void whole(struct subject *subject, size_t at, uint8_t change, uint8_t ex
 
 static void stt_refusals(struct subject *subject)
 {
-    whole(subject, 0, 1, NIULASSENC_TUNNEL);
-    whole(subject, 8, 1, NIULASSENC_BINDING);
-    whole(subject, STT_HEADER + 13, TO_TAG, NIULASSENC_FRAME);
+    complete(subject, 0, 1, NIULASSENC_BAD_TUNNEL_HEADER);
+    complete(subject, 8, 1, NIULASSENC_NO_BINDING);
+    complete(subject, STT_HEADER + 13, TO_TAG, NIULASSENC_BAD_FRAME);
     piece(sizeof stt, 0, 500, IDENTIFIER);
     given.packet[36] ^= 1;
-    measure(subject, NIULASSENC_CHECKSUM);
+    measure(subject, NIULASSENC_BAD_TRANSPORT_CHECKSUM);
     piece(30, 0, 30, IDENTIFIER);
-    measure(subject, NIULASSENC_SEGMENT);
+    measure(subject, NIULASSENC_BAD_SEGMENT);
     for (uint32_t i = 0; i < 4; i++) {
         piece(sizeof stt, 0, 500, IDENTIFIER - i);
         measure(subject, NIULASSENC_PENDING);
     }
     piece(sizeof stt - 2, 500, 500, IDENTIFIER);
-    measure(subject, NIULASSENC_OTHER_LENGTH);
+    measure(subject, NIULASSENC_LENGTH_DIFFERS);
     piece(sizeof stt, 498, 500, IDENTIFIER);
-    measure(subject, NIULASSENC_ALREADY_HELD);
+    measure(subject, NIULASSENC_ALREADY_RECEIVED);
     piece(sizeof stt, 0, sizeof stt, IDENTIFIER + 1);
     measure(subject, NIULASSENC_NO_SLOT);
 }
@@ -270,18 +280,18 @@ static void receives(struct subject *subject)
     stt_refusals(subject);
 }
 
-/* The last receives have left four frames under way: the fourth tick frees them. */
+/* The last receives have left four frames pending: the fourth tick frees them. */
 static void ticks(struct subject *subject)
 {
     for (unsigned i = 0; i < 4; i++) {
-        assert(endpoint.rows[7].slots[3].pending);
+        assert(endpoint.peers[7].slots[3].pending);
         measure(subject, NIULASSENC_DONE);
     }
-    assert(!endpoint.rows[7].slots[3].pending);
+    assert(!endpoint.peers[7].slots[3].pending);
 }
 
 /* Wraps a frame, or its segment, into an output of this length. */
-static void wrap_on(struct subject *subject, uint16_t binding, size_t frame_length, uint32_t number, size_t output_length,
+static void wrap_on(struct subject *subject, uint32_t binding, size_t frame_length, uint32_t number, size_t output_length,
                     uint8_t expected)
 {
     given.binding = binding;
@@ -297,13 +307,28 @@ static void wraps(struct subject *subject)
     wrap_on(subject, ON_NVGRE, 1472, 0, 1500, NIULASSENC_DONE);
     wrap_on(subject, ON_STT, sizeof inner, 0, 1500, NIULASSENC_DONE);
     wrap_on(subject, ON_STT, sizeof inner, 1, 1500, NIULASSENC_DONE);
-    wrap_on(subject, ON_STT, 13, 0, 1500, NIULASSENC_FRAME);
-    wrap_on(subject, ON_VXLAN, 1464, 0, 1499, NIULASSENC_OUTPUT);
-    wrap_on(subject, ON_NVGRE, 1472, 0, 1499, NIULASSENC_OUTPUT);
-    wrap_on(subject, ON_STT, sizeof inner, 0, 1499, NIULASSENC_OUTPUT);
-    wrap_on(subject, ON_VXLAN, 1465, 0, 1500, NIULASSENC_MTU);
+    wrap_on(subject, ON_STT, 13, 0, 1500, NIULASSENC_BAD_FRAME);
+    wrap_on(subject, ON_VXLAN, 1464, 0, 1499, NIULASSENC_OUTPUT_TOO_SHORT);
+    wrap_on(subject, ON_NVGRE, 1472, 0, 1499, NIULASSENC_OUTPUT_TOO_SHORT);
+    wrap_on(subject, ON_STT, sizeof inner, 0, 1499, NIULASSENC_OUTPUT_TOO_SHORT);
+    wrap_on(subject, ON_VXLAN, 1465, 0, 1500, NIULASSENC_EXCEEDS_MTU);
     wrap_on(subject, 64, sizeof inner, 0, 1500, NIULASSENC_NO_SUCH);
+    wrap_on(subject, 65536, sizeof inner, 0, 1500, NIULASSENC_NO_SUCH);
     wrap_on(subject, ON_STT, sizeof inner, 2, 1500, NIULASSENC_NO_SUCH);
+}
+
+static void cuts(struct subject *subject)
+{
+    given.memory_length = sizeof memory;
+    given.frame_length = sizeof memory - 2;
+    measure(subject, NIULASSENC_DONE);
+    given.frame_length = sizeof memory - 1;
+    measure(subject, NIULASSENC_OUT_OF_RANGE);
+}
+
+static void once(struct subject *subject)
+{
+    measure(subject, NIULASSENC_DONE);
 }
 
 /* Prints a call's most, and says whether it keeps to the bound. */
@@ -319,21 +344,23 @@ static bool within(const struct subject *subject, size_t bound)
 int main(int count, char **arguments)
 {
     static struct subject subjects[] = {
-        {"start", start, starts, false, 0, 0},
-        {"add_peer", add_peer, peers, false, 0, 0},
-        {"add_binding", add_binding, bindings, false, 0, 0},
-        {"receive", receive, receives, true, 0, 0},
-        {"tick", tick, ticks, false, 0, 0},
-        {"wrap", wrap, wraps, true, 0, 0},
+        {"start", start, starts, 0, 0},
+        {"add_peer", add_peer, peers, 0, 0},
+        {"add_binding", add_binding, bindings, 0, 0},
+        {"receive", receive, receives, 0, 0},
+        {"tick", tick, ticks, 0, 0},
+        {"wrap", wrap, wraps, 0, 0},
+        {"cut", cut, cuts, 0, 0},
+        {"matches", matches, once, 0, 0},
     };
     bool kept = true;
 
     if (count != 3) {
-        fprintf(stderr, "usage: stack ANY EVERY_PACKET\n");
+        fprintf(stderr, "usage: stack START OTHER\n");
         return 2;
     }
-    size_t any = strtoul(arguments[1], NULL, 10);
-    size_t every_packet = strtoul(arguments[2], NULL, 10);
+    size_t of_start = strtoul(arguments[1], NULL, 10);
+    size_t of_others = strtoul(arguments[2], NULL, 10);
     for (size_t i = 0; i < sizeof inner; i++)
         inner[i] = (uint8_t)i;
     put16(inner + 12, 0x88b5);
@@ -342,7 +369,7 @@ int main(int count, char **arguments)
     full = endpoint;
     for (size_t i = 0; i < sizeof subjects / sizeof *subjects; i++) {
         subjects[i].cases(&subjects[i]);
-        kept = within(&subjects[i], subjects[i].every_packet ? every_packet : any) && kept;
+        kept = within(&subjects[i], subjects[i].call == start ? of_start : of_others) && kept;
     }
     return kept ? 0 : 1;
 }

@@ -1,4 +1,4 @@
-//! Finds the archive that `rt staticlib export` writes, and has it linked.
+//! Finds the archive that `rt staticlib niulassenc` writes, and has it linked.
 
 use std::env;
 use std::path::{Path, PathBuf};
@@ -7,8 +7,8 @@ use std::process::exit;
 /// Names another archive than the one in the repository's `target/`.
 const VARIABLE: &str = "NIULASSENC_ARCHIVE";
 
-/// Where `rt staticlib export` puts it, seen from this crate.
-const DEFAULT: &str = "../../target/staticlib/libexport.a";
+/// Where `rt staticlib niulassenc` puts it, seen from this crate.
+const DEFAULT: &str = "../../target/staticlib/libniulassenc.a";
 
 fn main() {
     println!("cargo::rerun-if-env-changed={VARIABLE}");
@@ -30,7 +30,9 @@ fn main() {
 
 fn missing(archive: &Path) -> ! {
     eprintln!("niulassenc: there is no archive {}", archive.display());
-    eprintln!("Run `rt staticlib export` in the repository's root, which proves the library and");
-    eprintln!("writes target/staticlib/libexport.a; or name an archive in {VARIABLE}.");
+    eprintln!(
+        "Run `rt staticlib niulassenc` in the repository's root, which proves the library and"
+    );
+    eprintln!("writes target/staticlib/libniulassenc.a; or name an archive in {VARIABLE}.");
     exit(1)
 }

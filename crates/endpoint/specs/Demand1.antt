@@ -1,6 +1,7 @@
 -- DEMAND 1 (document 00): any packet, memory, settings or tick get one answer of the numbered table, and a refusal changes nothing, but for the one exception.
--- One record, `Demand1`, for every call: start, adding, receive, tick, view and wrap, for every endpoint, memory, packet and number. The calls are those of the contracts (src/), which say
--- that answer, endpoint, memory and output are these definitions' for every input, and that each call ends. Which number is given when is the table's (Table.antt).
+-- One record, `Demand1`, for every call: start, adding, receive, tick, view and wrap, for every endpoint, memory, packet and number. The calls are those of
+-- the contracts (src/), which say that answer, endpoint, memory and output are these definitions' for every input; and every function ends, as the
+-- toolchain checks. Which number is given when is the table's (Table.antt).
 -- Only definitions; proved in Laws/Demand1.antt (`demand-one`).
 use Prim.Native.Nat.{ℕ, _+_, _<_, _≤_}
 use mathlib.Core.Path.{_≡_}
@@ -17,16 +18,15 @@ use Rattle.reassembly.specs.Take.{Seg}
 use Rattle.reassembly.specs.EveryRun.{mapAt, bitOf, Touches}
 use Rattle.reassembly.specs.declared.slot.Slot.{Slot}
 use Rattle.endpoint.specs.Answer.{placeOf, Values, valuesOf, startCode, AddedValues, addedValuesOf, tickCode, WrapValues, wrapValuesOf}
-use Rattle.endpoint.specs.Config.{Config, configOf, startOf, addPeerOf, addBindingOf, tickOf}
+use Rattle.endpoint.specs.Config.{configOf, startOf, addPeerOf, addBindingOf, tickOf}
 use Rattle.endpoint.specs.View.{Viewed, ViewRule}
-use Rattle.endpoint.specs.Receive.{Step, stepOf, receiptOf}
-use Rattle.endpoint.specs.Wrap.{Wrote, wrapOf}
+use Rattle.endpoint.specs.Receive.{stepOf, receiptOf}
+use Rattle.endpoint.specs.Wrap.{wrapOf}
 use Rattle.endpoint.specs.Formats.{CarriesSegment}
 use Rattle.endpoint.specs.declared.answer.Place.{Place}
 use Rattle.endpoint.specs.declared.config.Endpoint.{Endpoint}
 use Rattle.endpoint.specs.declared.config.Configured.{Configured}
 use Rattle.endpoint.specs.declared.config.Started.{Started}
-use Rattle.endpoint.specs.declared.receive.Receipt.{Receipt}
 
 -- ---- words
 
@@ -159,16 +159,20 @@ pub record ReceiveRule (e : Endpoint) (m packet : List ℕ) (v : Values) (e′ :
   -- a refusal is every number but 0 and 1
   pub refused : v .number ≢ 0 → v .number ≢ 1 → Unchanged e m e′ m′ ⊎ FoundBad e m packet (v .number) e′ m′
   -- 11, 12 or 13 on an STT segment is always the exception
-  pub found-bad : (p : ℕ) (g : Seg) → CarriesSegment (configOf e) packet p g → v .number among (11 ∷ 12 ∷ 13 ∷ []) ≡ true → FoundBad e m packet (v .number) e′ m′
+  pub found-bad : (p : ℕ) (g : Seg) → CarriesSegment (configOf e) packet p g → v .number among (11 ∷ 12 ∷ 13 ∷ []) ≡ true
+      → FoundBad e m packet (v .number) e′ m′
   -- and no receive changes the configuration
   pub configuration : SameConfiguration e e′
 
 -- ---- a tick: 0. It is given no memory and no output; the ages of the pending frames grow by 1, and those that reach 4 give their slots back
 
+-- the slot of a frame that is one tick older
+abbrev pub oneOlder : Slot → Slot
+oneOlder v = record { identifier = v .identifier; «frame_length» = v .«frame_length»; age = v .age + 1; pending = true }
+
 pub record TickRule (e : Endpoint) (number : ℕ) (e′ : Endpoint) : Type 0 where
   pub is : number ≡ 0
-  pub younger : (p s : ℕ) → slotAt e p s .pending ≡ true → slotAt e p s .age + 1 < 4
-      → slotAt e′ p s ≡ record { identifier = slotAt e p s .identifier; «frame_length» = slotAt e p s .«frame_length»; age = slotAt e p s .age + 1; pending = true }
+  pub younger : (p s : ℕ) → slotAt e p s .pending ≡ true → slotAt e p s .age + 1 < 4 → slotAt e′ p s ≡ oneOlder (slotAt e p s)
   pub given-up : (p s : ℕ) → slotAt e p s .pending ≡ true → 4 ≤ slotAt e p s .age + 1 → slotAt e′ p s .pending ≡ false
   pub idle : (p s : ℕ) → slotAt e p s .pending ≡ false → slotAt e′ p s ≡ slotAt e p s
   pub configuration : SameConfiguration e e′
@@ -187,7 +191,8 @@ pub record WrapRule (output : List ℕ) (v : WrapValues) (output′ : List ℕ) 
 pub record Demand1 : Type 0 where
   pub start : (own port mtu : ℕ) → StartRule own port mtu (startOf own port mtu)
   pub add-peer : (e : Endpoint) (address : ℕ) → AddRule e (PeerAdded e address) (addPeerOf e address)
-  pub add-binding : (e : Endpoint) (peer kind network tenant : ℕ) → AddRule e (BindingAdded e peer kind network tenant) (addBindingOf e peer kind network tenant)
+  pub add-binding : (e : Endpoint) (peer kind network tenant : ℕ)
+      → AddRule e (BindingAdded e peer kind network tenant) (addBindingOf e peer kind network tenant)
   pub receive : (e : Endpoint) (memory packet : List ℕ)
       → ReceiveRule e memory packet (valuesOf (stepOf e memory packet .answer)) (receiptOf e (stepOf e memory packet) .endpoint) (stepOf e memory packet .mem)
   pub tick : (e : Endpoint) → TickRule e (tickCode (tickOf e .answer)) (tickOf e .endpoint)

@@ -1,7 +1,9 @@
--- DEMAND 2, receiving (document 00): in every run from a set-up, with enough memory lent, a receive delivers a frame to a tenant if and only if the packet carries it by VXLAN or NVGRE for a binding of
--- our configuration, or carries the STT segment with which the segments taken since its frame opened make up exactly a good frame; and what is handed back is exactly the frame that was carried.
--- How to read it: what a packet carries and what a good frame is are the formats' own words (Formats.antt); `Gathers` and `MakesUp` are told from the run alone (crate reassembly, specs/History.antt);
--- which segments are taken, rejected or given up is `EveryRun`, a field of Demand3. Only definitions; proved in Laws/Demand2.
+-- DEMAND 2, receiving (document 00): in every run from a set-up, with enough memory lent, a receive delivers a frame to a tenant if and only if the packet
+-- carries it by VXLAN or NVGRE for a binding of our configuration, or carries the STT segment with which the segments taken since its frame opened make up
+-- exactly a good frame; and what is handed back is exactly the frame that was carried.
+-- How to read it: what a packet carries and what a good frame is are the formats' own words (Formats.antt); `Gathers` and `MakesUp` are told from the run
+-- alone (crate reassembly, specs/History.antt); which segments are taken, rejected or given up is `EveryRun`, a field of Demand3. Only definitions; proved
+-- in Laws/Demand2.
 use Prim.Native.Nat.{ℕ, _<_, _≤_, _-_}
 use mathlib.Core.Path.{_≡_}
 use mathlib.Core.Logic.{_⊎_}
@@ -33,7 +35,8 @@ pub record Delivers (e : Endpoint) (m k : List ℕ) (t : Target) (frame : List �
   pub answer : stepOf e m k .answer ≡ R.Delivered t place
   pub views : viewOf k (stepOf e m k .mem) (placeOf place) ≡ frame
 
--- the packet carries an STT segment of a listed peer's; the segments taken in the run since its frame opened, with it, make up exactly a frame; and that is good, for the target, and carries the inner frame
+-- the packet carries an STT segment of a listed peer's; the segments taken in the run since its frame opened, with it, make up exactly a frame; and that is
+-- good, for the target, and carries the inner frame
 pub record MadeUp (e : Endpoint) (m : List ℕ) (es : List Event) (k : List ℕ) (t : Target) (frame : List ℕ) : Type 0 where
   pub p : ℕ
   pub is-peer : p < 8

@@ -1,7 +1,10 @@
--- DEMAND 3, whole (document 00; document 01, "Whose packet it is"): one statement, for every set-up that a start and any adding calls can leave, refused ones too, and every peer.
--- How to read it: `Claim` (crate reassembly, specs/Claim.antt, its words in specs/Mix.antt) is the demand's claim about runs; `EveryRun` (specs/EveryRun.antt, its words in specs/History.antt) is what holds
--- of every receive and tick of every run. Both are held for the endpoint's own answers (`answers`), configuration and layers (`layers`). The other fields say what their words mean here: a run is a list of
--- the calls `receive` and `tick`, as their contracts give them; whose packet it is, a sound packet, and a good frame with the Context ID, its binding and its tenant are the published formats'.
+-- DEMAND 3 (document 00; document 01, "Whose packet it is"): one statement, for every set-up that a start and any adding calls can leave, refused ones too,
+-- and every peer.
+-- How to read it: `Claim` (crate reassembly, specs/Claim.antt, its words in specs/Mix.antt) is the demand's claim about runs; `EveryRun`
+-- (specs/EveryRun.antt, its words in specs/History.antt) is what holds of every receive and tick of every run. Both are stated for the endpoint's own
+-- answers (`answers`), configuration and layers (`layers`). The other fields say what their words mean here: a run is a list of the calls `receive` and
+-- `tick`, as their contracts give them; whose packet it is, a sound packet, and a good frame with the Context ID, its binding and its tenant are the
+-- published formats'.
 -- Only definitions; proved in Laws/Demand3.
 use Prim.Native.Nat.{ℕ}
 use mathlib.Core.Path.{_≡_}
@@ -52,5 +55,7 @@ pub record Demand3 (e : Endpoint) (p : ℕ) : Type 0 where
   pub sound : (k : List ℕ) (g : Seg) → Bytes k → headerOf (configOf e) k ≡ segment p g → CarriesSegment (configOf e) k p g
   pub sound-all : (k : List ℕ) (g : Seg) → CarriesSegment (configOf e) k p g → headerOf (configOf e) k ≡ segment p g
   -- a good frame: its Context ID, the binding and the tenant of that, and its bytes from 18 on
-  pub good-frame : (note : Note) (frame : List ℕ) (t : Target) → Bytes frame → judgeOf (configOf e) p note frame ≡ good t → GoodFrame (configOf e) p frame t (drop 18 frame)
-  pub good-all : (note : Note) (frame : List ℕ) (t : Target) (inner : List ℕ) → GoodFrame (configOf e) p frame t inner → (judgeOf (configOf e) p note frame ≡ good t) × (drop 18 frame ≡ inner)
+  pub good-frame : (note : Note) (frame : List ℕ) (t : Target) → Bytes frame → judgeOf (configOf e) p note frame ≡ good t
+      → GoodFrame (configOf e) p frame t (drop 18 frame)
+  pub good-all : (note : Note) (frame : List ℕ) (t : Target) (inner : List ℕ) → GoodFrame (configOf e) p frame t inner
+      → (judgeOf (configOf e) p note frame ≡ good t) × (drop 18 frame ≡ inner)

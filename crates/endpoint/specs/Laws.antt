@@ -11,6 +11,7 @@ pub mod Demand1
 pub mod Demand3
 pub mod Demand2
 pub mod Wrap
+pub mod Demand2Writing
 pub mod RoundTripLaws
 pub mod RoundTrip
 pub mod WorkedRoundTrip

@@ -1,4 +1,5 @@
--- A RUN of the calls (document 01, "Whose packet it is"): a list of receives and ticks, each given the endpoint and the memory that the last one left. Only definitions.
+-- A RUN of the calls (document 01, "Whose packet it is"): a list of receives and ticks, each given the endpoint and the memory that the last one left. Only
+-- definitions.
 use Prim.Native.Nat.{ℕ}
 use mathlib.Core.List.{List, [], _∷_}
 use Rattle.reassembly.specs.Receive.{Event, receive, tick}

@@ -1,21 +1,23 @@
--- The worked cases of document 01 ("Bench sheet") that are to be proved: one table of what the definitions give beside what the paper says, and one statement, that the two columns are equal.
+-- The worked cases of document 01 ("Bench sheet") that are to be proved: one table of what the definitions give beside what the paper says, and one statement,
+-- that the two columns are equal.
 -- Assumes nothing.
-use Prim.Native.Nat.{ℕ, zero, suc, _+_, _*_}
+use Prim.Native.Nat.{ℕ}
 use mathlib.Core.Path.{_≡_, refl}
-use mathlib.Core.Bool.{Bool, true, false, cond}
+use mathlib.Core.Bool.{cond}
 use mathlib.Core.List.{List, [], _∷_, _++_, map}
-use lib.ListN.{length, replicate}
-use Rattle.wire.specs.Bytes.{be, beAt}
-use Rattle.wire.specs.Sum.{total, ones}
-use Rattle.wire.specs.Laws.Sum.{complement}
+use lib.ListN.{replicate}
+use Rattle.wire.specs.Bytes.{be, beAt, part}
+use Rattle.wire.specs.Sum.{total, ones, pseudo, complement}
 use Rattle.wire.specs.Ipv4 as I
 use Rattle.wire.specs.Udp.{udp}
 use Rattle.wire.specs.Vxlan.{vxlan}
-use Rattle.wire.specs.Nvgre.{gre, nvgreChecks, nvgreOf}
+use Rattle.wire.specs.Nvgre.{gre, nvgreChecks, nvgreAt, nvgreOf}
 use Rattle.wire.specs.Refusal.{codeOf}
-use Rattle.wire.specs.Write.{ipv4With, outer, ipv4Head, packet, sourcePort, vxlanBody, nvgreBody, vxlanPacket, nvgrePacket}
-use Rattle.wire.specs.declared.nvgre.NvgreRead.{NvgreRead}
-use Rattle.wire.specs.declared.nvgre.NvgreRead.the-variants as N
+use Rattle.wire.specs.Stt.{stt}
+use Rattle.wire.specs.Segment as S
+use Rattle.wire.specs.Write.{ipv4With, outer, ipv4Head, packet, sourcePort, vxlanBody, nvgreBody, sttFrame, flagsOf, tcpWith, segmentHeader, segmentBytes, segmentBody, vxlanPacket, nvgrePacket, segmentPacket}
+use Rattle.wire.specs.declared.carriage.Carried.{Carried}
+use Rattle.wire.specs.declared.carriage.Carried.the-variants as C
 use Rattle.reassembly.specs.Base.{allBelow}
 use Rattle.reassembly.specs.Slots.{free, first, bears, isFree, noMark}
 use Rattle.reassembly.specs.Take.{Choice, reject, old, fresh, chosen, rejectionCode}
@@ -24,7 +26,11 @@ use Rattle.endpoint.specs.Wrap.{segmentsOf, segmentSize, packetOf}
 
 -- T, our own address 10.0.0.1 and the peer's 10.0.0.2
 abbrev T : List ℕ
-T = 2 ∷ 0 ∷ 0 ∷ 0 ∷ 0 ∷ 2 ∷ 2 ∷ 0 ∷ 0 ∷ 0 ∷ 0 ∷ 1 ∷ 136 ∷ 181 ∷ []
+T = 0x02 ∷ 0x00 ∷ 0x00 ∷ 0x00 ∷ 0x00 ∷ 0x02 ∷ 0x02 ∷ 0x00 ∷ 0x00 ∷ 0x00 ∷ 0x00 ∷ 0x01 ∷ 0x88 ∷ 0xb5 ∷ []
+
+-- an Ethernet header with larger words
+abbrev U : List ℕ
+U = 0xff ∷ 0xff ∷ 0xff ∷ 0xff ∷ 0xff ∷ 0xff ∷ 0x02 ∷ 0x00 ∷ 0x5e ∷ 0x10 ∷ 0x00 ∷ 0x01 ∷ 0x08 ∷ 0x00 ∷ []
 
 abbrev own : ℕ
 own = 167772161
@@ -32,13 +38,14 @@ own = 167772161
 abbrev peer : ℕ
 peer = 167772162
 
--- the number that is given to an NVGRE header with this first byte: 0, or the refusal's
-abbrev nvgreCode : NvgreRead → ℕ
-nvgreCode (N.Header vsid) = 0
-nvgreCode (N.Refused r) = codeOf r
+-- the number that is given to an NVGRE header with this first byte: the refusal's, or else 0
+abbrev carriedCode : Carried → ℕ
+carriedCode (C.Tunnel t) = 0
+carriedCode (C.Segment g) = 0
+carriedCode (C.Refused r) = codeOf r
 
 abbrev nvgreFirst : ℕ → ℕ
-nvgreFirst x = nvgreCode (nvgreOf (x ∷ 0 ∷ 101 ∷ 88 ∷ 0 ∷ 16 ∷ 0 ∷ 0 ∷ []))
+nvgreFirst x = carriedCode (nvgreOf (x ∷ 0 ∷ 101 ∷ 88 ∷ 0 ∷ 16 ∷ 0 ∷ 0 ∷ []))
 
 -- the number that is given to a first segment of one byte, of a frame of this length: 0 where a slot is found for it
 abbrev choiceCode : Choice → ℕ
@@ -74,9 +81,24 @@ cases =
     -- 2. T's source port
     ∷ (sourcePort T ∷ [] is 52408 ∷ [])
     -- 3. T on VNI 22, whole
-    ∷ (packetOf 1 own peer 7471 22 1500 T 0 0 is 69 ∷ 0 ∷ 0 ∷ 50 ∷ 0 ∷ 0 ∷ 64 ∷ 0 ∷ 64 ∷ 17 ∷ 38 ∷ 185 ∷ 10 ∷ 0 ∷ 0 ∷ 1 ∷ 10 ∷ 0 ∷ 0 ∷ 2 ∷ 204 ∷ 184 ∷ 18 ∷ 181 ∷ 0 ∷ 30 ∷ 0 ∷ 0 ∷ 8 ∷ 0 ∷ 0 ∷ 0 ∷ 0 ∷ 0 ∷ 22 ∷ 0 ∷ 2 ∷ 0 ∷ 0 ∷ 0 ∷ 0 ∷ 2 ∷ 2 ∷ 0 ∷ 0 ∷ 0 ∷ 0 ∷ 1 ∷ 136 ∷ 181 ∷ [])
+    ∷ (packetOf 1 own peer 7471 22 1500 T 0 0
+    is (0x45 ∷ 0x00 ∷ 0x00 ∷ 0x32 ∷ 0x00 ∷ 0x00 ∷ 0x40 ∷ 0x00 ∷ 0x40 ∷ 0x11 ∷ 0x26 ∷ 0xb9 ∷ 0x0a ∷ 0x00 ∷ 0x00 ∷ 0x01 ∷ 0x0a ∷ 0x00 ∷ 0x00 ∷ 0x02
+    ∷ 0xcc ∷ 0xb8 ∷ 0x12 ∷ 0xb5 ∷ 0x00 ∷ 0x1e ∷ 0x00 ∷ 0x00 ∷ 0x08 ∷ 0x00 ∷ 0x00 ∷ 0x00 ∷ 0x00 ∷ 0x00 ∷ 0x16 ∷ 0x00 ∷ []) ++ T)
     -- 4. T on VSID 4,096, whole
-    ∷ (packetOf 2 own peer 7471 4096 1500 T 0 0 is 69 ∷ 0 ∷ 0 ∷ 42 ∷ 0 ∷ 0 ∷ 64 ∷ 0 ∷ 64 ∷ 47 ∷ 38 ∷ 163 ∷ 10 ∷ 0 ∷ 0 ∷ 1 ∷ 10 ∷ 0 ∷ 0 ∷ 2 ∷ 32 ∷ 0 ∷ 101 ∷ 88 ∷ 0 ∷ 16 ∷ 0 ∷ 0 ∷ 2 ∷ 0 ∷ 0 ∷ 0 ∷ 0 ∷ 2 ∷ 2 ∷ 0 ∷ 0 ∷ 0 ∷ 0 ∷ 1 ∷ 136 ∷ 181 ∷ [])
+    ∷ (packetOf 2 own peer 7471 4096 1500 T 0 0
+    is (0x45 ∷ 0x00 ∷ 0x00 ∷ 0x2a ∷ 0x00 ∷ 0x00 ∷ 0x40 ∷ 0x00 ∷ 0x40 ∷ 0x2f ∷ 0x26 ∷ 0xa3 ∷ 0x0a ∷ 0x00 ∷ 0x00 ∷ 0x01 ∷ 0x0a ∷ 0x00 ∷ 0x00 ∷ 0x02
+    ∷ 0x20 ∷ 0x00 ∷ 0x65 ∷ 0x58 ∷ 0x00 ∷ 0x10 ∷ 0x00 ∷ 0x00 ∷ []) ++ T)
+    -- not of the paper: U's seven words sum to 223,246, which leaves 10,254 by 16,384; by 8,192 it leaves 2,062, and with end-around carries 10,257
+    ∷ (sourcePort U ∷ [] is 59406 ∷ [])
+    -- nor these: MTU 576, U and 505 bytes 0x07 on Context ID 0x0102030405060708, identifier 0xdeadbeef: the first segment, whole, and the last
+    ∷ (packetOf 3 own peer 7471 0x0102030405060708 576 (U ++ replicate 505 0x07) 0 0xdeadbeef
+    is (0x45 ∷ 0x00 ∷ 0x02 ∷ 0x40 ∷ 0x00 ∷ 0x00 ∷ 0x40 ∷ 0x00 ∷ 0x40 ∷ 0x06 ∷ 0x24 ∷ 0xb6 ∷ 0x0a ∷ 0x00 ∷ 0x00 ∷ 0x01 ∷ 0x0a ∷ 0x00 ∷ 0x00 ∷ 0x02
+    ∷ 0xe8 ∷ 0x0e ∷ 0x1d ∷ 0x2f ∷ 0x02 ∷ 0x19 ∷ 0x00 ∷ 0x00 ∷ 0xde ∷ 0xad ∷ 0xbe ∷ 0xef ∷ 0x50 ∷ 0x10 ∷ 0x00 ∷ 0x00 ∷ 0x91 ∷ 0xb5 ∷ 0x00 ∷ 0x00
+    ∷ 0x00 ∷ 0x00 ∷ 0x00 ∷ 0x00 ∷ 0x00 ∷ 0x00 ∷ 0x00 ∷ 0x00 ∷ 0x01 ∷ 0x02 ∷ 0x03 ∷ 0x04 ∷ 0x05 ∷ 0x06 ∷ 0x07 ∷ 0x08 ∷ 0x00 ∷ 0x00 ∷ []) ++ U ++ replicate 504 0x07)
+    ∷ (packetOf 3 own peer 7471 0x0102030405060708 576 (U ++ replicate 505 0x07) 1 0xdeadbeef
+    is 0x45 ∷ 0x00 ∷ 0x00 ∷ 0x29 ∷ 0x00 ∷ 0x00 ∷ 0x40 ∷ 0x00 ∷ 0x40 ∷ 0x06 ∷ 0x26 ∷ 0xcd ∷ 0x0a ∷ 0x00 ∷ 0x00 ∷ 0x01 ∷ 0x0a ∷ 0x00 ∷ 0x00 ∷ 0x02
+    ∷ 0xe8 ∷ 0x0e ∷ 0x1d ∷ 0x2f ∷ 0x02 ∷ 0x19 ∷ 0x02 ∷ 0x18 ∷ 0xde ∷ 0xad ∷ 0xbe ∷ 0xef ∷ 0x50 ∷ 0x18 ∷ 0x00 ∷ 0x00 ∷ 0xed ∷ 0xbc ∷ 0x00 ∷ 0x00
+    ∷ 0x07 ∷ [])
     -- 5. MTU 576, inner 1,514: three segments of 536, 536, 460. MTU 1,500: inner 1,442 makes one, 1,443 makes two
     ∷ (segmentsOf 3 1514 576 ∷ segmentSize 1514 576 0 ∷ segmentSize 1514 576 1 ∷ segmentSize 1514 576 2 ∷ [] is 3 ∷ 536 ∷ 536 ∷ 460 ∷ [])
     ∷ (segmentsOf 3 1442 1500 ∷ segmentsOf 3 1443 1500 ∷ [] is 1 ∷ 2 ∷ [])
@@ -91,5 +113,5 @@ cases =
 
 -- THE STATEMENT
 pub worked : map given cases ≡ map paper cases
-unfolding cases total ones be beAt I.header complement udp vxlan gre nvgreChecks nvgreOf ipv4With outer ipv4Head packet sourcePort vxlanBody nvgreBody vxlanPacket nvgrePacket allBelow first bears isFree chosen isOn bitAt setBit setBits segmentsOf packetOf
+unfolding cases total ones be beAt I.header complement udp vxlan gre nvgreChecks nvgreAt nvgreOf ipv4With outer ipv4Head packet sourcePort vxlanBody nvgreBody vxlanPacket nvgrePacket stt sttFrame flagsOf tcpWith S.header pseudo part segmentHeader segmentBytes segmentBody segmentPacket allBelow first bears isFree chosen isOn bitAt setBit setBits segmentsOf packetOf
 worked = refl

@@ -6,7 +6,7 @@ use mathlib.Core.Bool.{Bool, true, false, not}
 use mathlib.Core.List.{List, [], _∷_, _++_}
 use lib.ListN.{length, getD}
 use lib.Dec.{ltb, leb, eqb}
-use Rattle.wire.specs.Laws.Bytes.{wrote}
+use Rattle.wire.specs.Bytes.{wrote}
 use Rattle.wire.specs.Checks.{Check, _⇒_, first, pick}
 use Rattle.wire.specs.Frame.{frameOf}
 use Rattle.wire.specs.Write.{vxlanPacket, nvgrePacket, segmentPacket}

@@ -1,12 +1,13 @@
--- The answers as they cross to C, computed: each case of the endpoint's answers beside its flat struct. Every value is another number, so that no two of them can change places unseen:
--- tenant and binding, start and length, length and segments.
+-- The answers as they cross to C, computed: each case of the endpoint's answers beside its flat struct. Every value is another number, so that no two of
+-- them can change places unseen: tenant and binding, start and length, length and segments.
 -- Assumes nothing.
 use Prim.Native.Nat.{ℕ}
 use mathlib.Core.Path.{_≡_, refl}
 use mathlib.Core.Bool.{true, false}
-use mathlib.Core.List.{List, [], _∷_, map}
+use mathlib.Core.List.{[], _∷_, map}
 use Rattle.wire.specs.declared.refusal.Refusal.{Refusal}
 use Rattle.wire.specs.declared.refusal.Refusal.the-variants as F
+use Rattle.reassembly.specs.declared.take.Rejection.{Rejection}
 use Rattle.reassembly.specs.declared.take.Rejection.the-variants as J
 use Rattle.endpoint.specs.Answer.{valuesOf, wrapValuesOf}
 use Rattle.endpoint.specs.declared.answer.Drop.{Drop}
@@ -35,6 +36,9 @@ dropped d = flatOf (valuesOf (R.Dropped d))
 abbrev broken : Refusal → Receipt
 broken r = dropped (D.Format r)
 
+abbrev rejected : Rejection → Receipt
+rejected r = dropped (D.Segment r)
+
 abbrev notAdded : ConfigRefusal → Addition
 notAdded r = additionOf (A.Refused r)
 
@@ -50,13 +54,14 @@ pub record WorkedAnswers : Type 0 where
       ≡ record { code = 0; tenant = 5; binding = 2; start = 36; length = 14; «in_memory» = false }
   pub pending : flatOf (valuesOf R.Pending) ≡ refusal 1
   pub drops : map dropped (D.Memory ∷ D.Destination ∷ D.Peer ∷ D.Binding ∷ []) ≡ map refusal (2 ∷ 6 ∷ 7 ∷ 12 ∷ [])
-  pub outer-headers : map broken (F.Truncated ∷ F.Version ∷ F.HeaderLength ∷ F.TotalLength ∷ F.HeaderChecksum ∷ F.Fragment ∷ []) ≡ map refusal (3 ∷ 3 ∷ 3 ∷ 3 ∷ 4 ∷ 5 ∷ [])
+  pub outer-headers : map broken (F.Truncated ∷ F.Version ∷ F.HeaderLength ∷ F.TotalLength ∷ F.HeaderChecksum ∷ F.Fragment ∷ [])
+      ≡ map refusal (3 ∷ 3 ∷ 3 ∷ 3 ∷ 4 ∷ 5 ∷ [])
   pub carriages : map broken (F.Protocol ∷ F.Port ∷ F.Short ∷ F.UdpLength ∷ F.TcpLength ∷ F.DataOffset ∷ F.UdpChecksum ∷ F.TcpChecksum ∷ [])
       ≡ map refusal (8 ∷ 8 ∷ 9 ∷ 9 ∷ 9 ∷ 9 ∷ 10 ∷ 10 ∷ [])
   pub tunnels : map broken (F.VxlanFlag ∷ F.GreFlags ∷ F.GreVersion ∷ F.GreTypeHigh ∷ F.GreTypeLow ∷ F.SttVersion ∷ F.SttFlags ∷ [])
       ≡ map refusal (11 ∷ 11 ∷ 11 ∷ 11 ∷ 11 ∷ 11 ∷ 11 ∷ [])
   pub frames : map broken (F.FrameLength ∷ F.FrameTag ∷ []) ≡ map refusal (13 ∷ 13 ∷ [])
-  pub segments : map dropped (D.Segment J.Empty ∷ D.Segment J.FrameLength ∷ D.Segment J.PastEnd ∷ D.Segment J.OtherLength ∷ D.Segment J.AlreadyReceived ∷ D.Segment J.NoSlot ∷ [])
+  pub segments : map rejected (J.Empty ∷ J.FrameLength ∷ J.PastEnd ∷ J.OtherLength ∷ J.AlreadyReceived ∷ J.NoSlot ∷ [])
       ≡ map refusal (14 ∷ 14 ∷ 14 ∷ 15 ∷ 16 ∷ 17 ∷ [])
   -- start and adding: 0 with the number of the new entry; 18 to 20
   pub started : (e : Endpoint) → startedOf (record { endpoint = e; answer = S.Done }) ≡ record { endpoint = e; code = 0 }

@@ -1,8 +1,11 @@
--- EVERY RUN (demands 2 and 3; document 01, "The numbered answers" and "Reassembly memory"): one statement about runs from a set-up, mixing or not, for each peer. Only definitions; proved in Laws/EveryRun.
--- How to read it: `h` is what the run so far tells of the peer's slots (History.antt), `h′` what it tells with one event more, `m` and `m′` the memory before and after. `EveryRun`, at the end, says of
--- every event what it is answered, what it adds to the history, and which bytes of the memory it changes; so the history is never taken on trust. In order: when a segment is rejected by 15, 16 or 17,
--- that a new frame takes the lowest free slot, that a segment's bytes go to their place and nothing else changes, that a frame is pending for three ticks at most, and that a complete frame is made up of
--- exactly the segments taken for it since it opened. The numbers are the paper's, written out: nothing here is measured by the definitions of Slots and Store.
+-- EVERY RUN (demands 2 and 3; document 01, "The numbered answers" and "Reassembly memory"): one statement about runs from a set-up, mixing or not, for each
+-- peer. Only definitions; proved in Laws/EveryRun.
+-- How to read it: `h` is what the run so far tells of the peer's slots (History.antt), `h′` what it tells with one event more, `m` and `m′` the memory
+-- before and after. `EveryRun`, at the end, says of every event what it is answered, what it adds to the history, and which bytes of the memory it changes;
+-- so the history is never taken on trust. In order: when a segment is rejected by 15, 16 or 17, that a new frame takes the lowest free slot, that a
+-- segment's bytes go to their place and nothing else changes, that a frame is pending for three ticks at most, and that a complete frame is made up of
+-- exactly the segments taken for it since it opened. The numbers are the paper's, written out: nothing here is measured by the definitions of Slots and
+-- Store.
 use mathlib.Core.Path.{_≡_}
 use mathlib.Core.Logic.{_⊎_, _≢_}
 use mathlib.Core.Bool.{Bool, true, false, cond, _||_}
@@ -86,7 +89,8 @@ pub record Fourteen (h h′ : History) (o : Outcome) (m m′ : List ℕ) : Type 
   pub rejected : o ≡ Rejected cause
   pub unchanged : Unchanged h h′ m m′
 
--- slot v of the endpoint is as the run tells: a frame is pending in it exactly if the run says so, with the identifier and the length that its segments state, and its age is the ticks since it opened
+-- slot v of the endpoint is as the run tells: a frame is pending in it exactly if the run says so, with the identifier and the length that its segments
+-- state, and its age is the ticks since it opened
 pub record Stands (v : Slot) (gs : List Seg) (ticks : ℕ) : Type 0 where
   pub pending : v .pending ≡ framePending gs ticks
   pub identifier : v .pending ≡ true → v .identifier ≡ identifierOf gs
@@ -113,10 +117,12 @@ module _ (W : Answers) (Config : Type 0) (U : Layers W Config) (p : ℕ) (e : En
         → CameIn W Config U p (e .config) es (getD (history m es .taken s) j noSeg)
     -- a sound segment of the peer's that passes 14 meets the rules
     pub ruled : (m : List ℕ) → 55296 ≤ length m → (es : List Event) (k : List ℕ) (g : Seg) → U .header (e .config) k ≡ segment p g → Fits g
-        → Ruled p g (history m es) (history m (es ++ (receive k ∷ []))) (taking W Config U p (after m es) g .outcome) (after m es .mem) (after m (es ++ (receive k ∷ [])) .mem)
+        → Ruled p g (history m es) (history m (es ++ (receive k ∷ []))) (taking W Config U p (after m es) g .outcome) (after m es .mem)
+        (after m (es ++ (receive k ∷ [])) .mem)
     -- one that does not pass 14 is rejected by it
     pub fourteen : (m : List ℕ) → 55296 ≤ length m → (es : List Event) (k : List ℕ) (g : Seg) → U .header (e .config) k ≡ segment p g → (Fits g → ⊥)
-        → Fourteen (history m es) (history m (es ++ (receive k ∷ []))) (taking W Config U p (after m es) g .outcome) (after m es .mem) (after m (es ++ (receive k ∷ [])) .mem)
+        → Fourteen (history m es) (history m (es ++ (receive k ∷ []))) (taking W Config U p (after m es) g .outcome) (after m es .mem)
+        (after m (es ++ (receive k ∷ [])) .mem)
     -- what taking tells is what the receive answers: 14 to 17, 1, or the judgement of the complete frame
     pub answered : (m : List ℕ) → 55296 ≤ length m → (es : List Event) (k : List ℕ) (g : Seg) → U .header (e .config) k ≡ segment p g
         → receives W Config U (after m es) k .reply
@@ -128,4 +134,5 @@ module _ (W : Answers) (Config : Type 0) (U : Layers W Config) (p : ℕ) (e : En
         → history m (es ++ (receive k ∷ [])) ≡ history m es
     -- a tick counts for each slot, and touches no memory
     pub ticked : (m : List ℕ) → 55296 ≤ length m → (es : List Event)
-        → (history m (es ++ (tick ∷ [])) ≡ record { taken = history m es .taken; ticks = onceMore (history m es .ticks) }) × (after m (es ++ (tick ∷ [])) .mem ≡ after m es .mem)
+        → (history m (es ++ (tick ∷ [])) ≡ record { taken = history m es .taken; ticks = onceMore (history m es .ticks) })
+        × (after m (es ++ (tick ∷ [])) .mem ≡ after m es .mem)

@@ -1,6 +1,7 @@
 -- WHAT A RUN TELLS OF A PEER'S SLOTS, and the slot rules' words (document 01, "The numbered answers" and "Reassembly memory"). Only definitions.
--- For each of the four slots: the segments taken for the frame that opened there last, and the ticks since it opened (`History`). From these alone: whether a frame is pending in the slot, when a segment
--- is rejected by 15, 16 or 17, when it is a further segment of a pending frame, when it opens one, and which frame the segments make up. No slot record, map or memory is looked at.
+-- For each of the four slots: the segments taken for the frame that opened there last, and the ticks since it opened (`History`). From these alone: whether
+-- a frame is pending in the slot, when a segment is rejected by 15, 16 or 17, when it is a further segment of a pending frame, when it opens one, and which
+-- frame the segments make up. No slot record, map or memory is looked at.
 use mathlib.Core.Path.{_≡_}
 use mathlib.Core.Logic.{_⊎_, _≢_}
 use mathlib.Core.Bool.{Bool, true, false, cond, not, _&&_, _||_}
@@ -45,7 +46,8 @@ lengthOf (g ∷ gs) = g .frame-length
 unfoldable pub frameComplete : List Seg → Bool
 frameComplete gs = allBelow (lengthOf gs) (λ i. covered gs i)
 
--- the frame that opened last in a slot is pending ("under way"): fewer than four ticks came since the segment that opened it, and some byte of it is covered by none
+-- the frame that opened last in a slot is pending ("under way"): fewer than four ticks came since the segment that opened it, and some byte of it is
+-- covered by none
 unfoldable pub framePending : List Seg → ℕ → Bool
 framePending gs ticks = ltb ticks 4 && not (frameComplete gs)
 
@@ -63,7 +65,8 @@ pub record OfFrame (id n : ℕ) (g : Seg) : Type 0 where
   pub size : g .frame-length ≡ n
   pub fits : Fits g
 
--- the segments make up exactly this frame, the one of segment g: each states its identifier and its length and passes 14, and each byte is from the one segment that covers it
+-- the segments make up exactly this frame, the one of segment g: each states its identifier and its length and passes 14, and each byte is from the one
+-- segment that covers it
 pub record MakesUp (g : Seg) (gs : List Seg) (frame : List ℕ) : Type 0 where
   pub size : length frame ≡ g .frame-length
   pub of-frame : (j : ℕ) → j < length gs → OfFrame (g .identifier) (g .frame-length) (getD gs j noSeg)
@@ -127,7 +130,8 @@ pub record Opens (h : History) (g : Seg) (s : ℕ) : Type 0 where
   pub none-bears : NoneBears h (g .identifier)
   pub lowest : Lowest h s
 
--- the segments of the frame that segment g is for, with it: those taken since that frame opened, if it is pending; g alone, if no pending frame has its identifier and a slot is free
+-- the segments of the frame that segment g is for, with it: those taken since that frame opened, if it is pending; g alone, if no pending frame has its
+-- identifier and a slot is free
 abbrev pub Gathers : History → Seg → List Seg → Type 0
 Gathers h g gs = ((s : ℕ) × (Bears h (g .identifier) s × (gs ≡ g ∷ h .taken s))) ⊎ ((s : ℕ) × (Opens h g s × (gs ≡ g ∷ [])))
 

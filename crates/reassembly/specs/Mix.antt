@@ -41,7 +41,14 @@ partOf f j = getD (f .parts) j noPart
 
 -- what part j states of itself
 abbrev pub states : Frame → ℕ → Seg
-states f j = record { identifier = f .identifier; frame-length = length (f .content); offset = offsetOf (f .parts) j; bytes = partOf f j .bytes; mark = partOf f j .mark }
+states f j =
+    record {
+      identifier = f .identifier;
+      frame-length = length (f .content);
+      offset = offsetOf (f .parts) j;
+      bytes = partOf f j .bytes;
+      mark = partOf f j .mark;
+    }
 
 -- what is noted of the frame's first n parts, in the order of their offsets; of all
 unfoldable pub noteTo : Frame → ℕ → Note
@@ -149,7 +156,7 @@ abbrev pub Only : List Item → Type 0
 Only [] = Unit {0}
 Only (x ∷ xs) = Given1 x × Only xs
 
--- one after another: the same segment packets alone, whole frame by whole frame
+-- one after another: the same segment packets alone, frame by frame ("whole frame by whole frame")
 pub record InTurn (frames : List Frame) (items : List Item) : Type 0 where
   pub once : (f j : ℕ) → times f j items ≡ cond (isSegment frames f j) 1 0
   pub only : Only items

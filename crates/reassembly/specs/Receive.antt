@@ -1,5 +1,6 @@
 -- One receive, one tick, and a run of them, over any memory that is asked as `Ops` says.
--- Parameters: what an answer is and carries (`Answers`); the header layer, which says whose packet it is and what it carries; and the judgement of a complete frame, which is applied here, above taking.
+-- Parameters: what an answer is and carries (`Answers`); the header layer, which says whose packet it is and what it carries; and the judgement of a
+-- complete frame, which is applied here, above taking.
 use mathlib.Core.Path.{_≡_}
 use mathlib.Core.Bool.{Bool, true, false, cond}
 use mathlib.Core.List.{List, []}
@@ -77,8 +78,8 @@ module _ (W : Answers) where
     good : W .Good → Verdict
 
   -- what the header layer makes of a packet, with the memory large enough:
-  -- another sender's, refused by one of the checks 3 to 7; a listed peer's that never comes to reassembly (refused by 8 to 10, or of another kind than STT), with its answer;
-  -- or a listed peer's STT packet that passes 3 to 10, with the segment that it carries
+  -- another sender's, refused by one of the checks 3 to 7; a listed peer's that never comes to reassembly (refused by 8 to 10, or of another kind than
+  -- STT), with its answer; or a listed peer's STT packet that passes 3 to 10, with the segment that it carries
   pub data Seen : Type 0 where
     stranger : W .A → Seen
     plain : ℕ → W .A → Seen

@@ -1,5 +1,6 @@
--- A RUN (document 01, "Whose packet it is"): a set-up, receives and ticks over the bytes of one lent memory, and a peer's answers. Only definitions; what is claimed of runs stands in Claim.antt and EveryRun.antt.
--- A user supplies what an answer is (`Answers`), and the layers that read a configuration: header, judgement and source (`Layers`).
+-- A RUN (document 01, "Whose packet it is"): a set-up, receives and ticks over the bytes of one lent memory, and a peer's answers. Only definitions; what
+-- is claimed of runs stands in Claim.antt and EveryRun.antt. A user supplies what an answer is (`Answers`), and the layers that read a configuration:
+-- header, judgement and source (`Layers`).
 use mathlib.Core.Path.{_≡_}
 use mathlib.Core.Bool.{Bool, true, false, cond}
 use mathlib.Core.List.{List, [], _∷_, _++_, map}
@@ -28,7 +29,8 @@ peerOf W (stranger a) = none
 peerOf W (plain q a) = some q
 peerOf W (segment q g) = some q
 
--- what a configuration's layers promise: a listed peer's number is below 8; an answer that needs no reassembly does not name the memory; and the header layer's peer is the packet's source
+-- what a configuration's layers promise: a listed peer's number is below 8; an answer that needs no reassembly does not name the memory; and the header
+-- layer's peer is the packet's source
 abbrev pub Kept : (W : Answers) → Seen W → Type 0
 Kept W (stranger a) = W .place a ≡ nowhere
 Kept W (plain q a) = (q < 8) × (W .place a .inMemory ≡ false)
@@ -72,7 +74,7 @@ module _ (W : Answers) (Config : Type 0) (U : Layers W Config) where
     pub reply : W .A
     pub world : World Config
 
-  -- one receive, whole: what it answers, the endpoint and the memory that it leaves. Check 2 is first
+  -- one receive: what it answers, the endpoint and the memory that it leaves. Check 2 is first
   abbrev pub saidOf : World Config → Seen W → Said
   saidOf w (stranger a) = record { reply = a; world = w }
   saidOf w (plain p a) = record { reply = a; world = w }

@@ -1,4 +1,5 @@
--- Slots and rows (document 01, "Reassembly memory"): a free slot, a slot that a frame holds, ageing, the search of a row; and the note that a slot keeps of its segments.
+-- Slots and rows (document 01, "Reassembly memory"): a free slot, a slot with a pending frame, ageing, the search of a row; and the note that a slot keeps of
+-- its segments.
 use mathlib.Core.Bool.{Bool, true, false, cond, not, _&&_}
 use mathlib.Core.List.{List, [], map}
 use mathlib.Core.Option.{Option, none, some}
@@ -37,7 +38,7 @@ noted n at k = n
 abbrev pub free : Slot
 free = record { identifier = 0; «frame_length» = 0; age = 0; pending = false }
 
--- a slot that a frame holds: its identifier, its length, its age, and what is noted of its segments
+-- a slot with a pending frame: its identifier, its length, its age, and what is noted of its segments
 abbrev pub pendingSlot : ℕ → ℕ → ℕ → Note → Slot
 pendingSlot identifier size age note = record { identifier = identifier; «frame_length» = size; age = age; pending = true }
 

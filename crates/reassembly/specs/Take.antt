@@ -1,5 +1,5 @@
--- Taking a segment (document 01, "The numbered answers" and "Reassembly memory"): 14, then 15 and 16 if the identifier is pending, otherwise 17; then the segment is taken.
--- No judgement of a frame is known here. What is asked of the memory is a parameter (`Ops`).
+-- Taking a segment (document 01, "The numbered answers" and "Reassembly memory"): 14, then 15 and 16 if the identifier is pending, otherwise 17; then the
+-- segment is taken. No judgement of a frame is known here. What is asked of the memory is a parameter (`Ops`).
 use mathlib.Core.Path.{_≡_}
 use mathlib.Core.Bool.{Bool, true, false, cond, _||_}
 use mathlib.Core.List.{List}
@@ -77,7 +77,7 @@ chosen row g =
     (cond (ltb (g .frame-length) (g .offset + length (g .bytes))) (reject PastEnd)
     (choose row g (first (bears (g .identifier)) row))))
 
--- slot s holds the segment's frame
+-- the segment's frame is pending in slot s
 pub record Old (row : List Slot) (g : Seg) (s : ℕ) : Type 0 where
   pub fits : Fits g
   pub is-slot : s < 4
@@ -85,7 +85,7 @@ pub record Old (row : List Slot) (g : Seg) (s : ℕ) : Type 0 where
   pub identifier : getD row s free .identifier ≡ g .identifier
   pub size : getD row s free .«frame_length» ≡ g .frame-length
 
--- no slot bears the segment's identifier, and slot s is free
+-- no pending frame bears the segment's identifier, and slot s is free
 pub record Fresh (row : List Slot) (g : Seg) (s : ℕ) : Type 0 where
   pub fits : Fits g
   pub is-slot : s < 4

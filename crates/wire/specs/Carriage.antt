@@ -1,25 +1,20 @@
 -- What an IP payload carries (document 01, "Carriage and tunnel headers"): a frame on a VXLAN or NVGRE network, or a segment of an STT frame.
 -- Assumes nothing.
-use Prim.Native.Nat.{ℕ, zero, suc, _+_, _-_, _<_, _≤_}
+use Prim.Native.Nat.{ℕ, _+_, _/_, _%_, _≤_}
 use mathlib.Core.Path.{_≡_}
 use mathlib.Core.Logic.{_⊎_}
-use mathlib.Core.List.{List, [], _∷_, _++_}
+use mathlib.Core.List.{List, _++_}
 use lib.ListN.{length, drop}
 use lib.Dec.{eqb}
+use Rattle.wire.specs.Bytes.{Bytes, beAt}
+use Rattle.wire.specs.Sum.{total, ones, pseudo}
 use Rattle.wire.specs.Checks.{pick}
 use Rattle.wire.specs.Udp.{IsUdp, udpOf}
 use Rattle.wire.specs.Vxlan.{IsVxlan, vxlanOf}
 use Rattle.wire.specs.Nvgre.{IsNvgre, nvgreOf}
-use Rattle.wire.specs.Segment.{segmentOf}
+use Rattle.wire.specs.Segment.{header, IsSegment, segmentOf}
 use Rattle.wire.specs.declared.refusal.Refusal.the-variants as R
-use Rattle.wire.specs.declared.udp.UdpRead.{UdpRead}
-use Rattle.wire.specs.declared.udp.UdpRead.the-variants as U
-use Rattle.wire.specs.declared.vxlan.VxlanRead.{VxlanRead}
-use Rattle.wire.specs.declared.vxlan.VxlanRead.the-variants as X
-use Rattle.wire.specs.declared.nvgre.NvgreRead.{NvgreRead}
-use Rattle.wire.specs.declared.nvgre.NvgreRead.the-variants as N
-use Rattle.wire.specs.declared.segment.SegmentRead.{SegmentRead}
-use Rattle.wire.specs.declared.segment.SegmentRead.the-variants as S
+use Rattle.wire.specs.declared.segment.Segment.{Segment}
 use Rattle.wire.specs.declared.carriage.Tunnel.{Tunnel}
 use Rattle.wire.specs.declared.carriage.Carried.{Carried}
 use Rattle.wire.specs.declared.carriage.Carried.the-variants as C
@@ -40,37 +35,41 @@ Tunnels kind protocol source destination id frame payload =
 
 -- ---- what the reader answers
 
-abbrev pub vxlan? : VxlanRead → Carried
-vxlan? (X.Header vni) = C.Tunnel (record { start = 16; network = vni; kind = 1 })
-vxlan? (X.Refused r) = C.Refused r
-
-unfoldable pub vxlanIn : List ℕ → Carried
-vxlanIn s = vxlan? (vxlanOf s)
-
-abbrev pub udp? : UdpRead → Carried → Carried
-udp? (U.Datagram port) next = next
-udp? (U.Refused r) next = C.Refused r
-
-unfoldable pub vxlanUdpOf : (source destination : ℕ) → List ℕ → Carried
-vxlanUdpOf source destination s = udp? (udpOf source destination s) (vxlanIn (drop 8 s))
-
-abbrev pub nvgre? : NvgreRead → Carried
-nvgre? (N.Header vsid) = C.Tunnel (record { start = 8; network = vsid; kind = 2 })
-nvgre? (N.Refused r) = C.Refused r
-
-unfoldable pub nvgreIpOf : List ℕ → Carried
-nvgreIpOf s = nvgre? (nvgreOf s)
-
-abbrev pub segment? : SegmentRead → Carried
-segment? (S.Segment g) = C.Segment g
-segment? (S.Refused r) = C.Refused r
-
-unfoldable pub sttIpOf : (source destination port : ℕ) → List ℕ → Carried
-sttIpOf source destination port s = segment? (segmentOf source destination port s)
-
 unfoldable pub carriageOf : (protocol source destination port : ℕ) → List ℕ → Carried
 carriageOf protocol source destination port s =
-    pick (eqb protocol 17) (vxlanUdpOf source destination s)
-    (pick (eqb protocol 47) (nvgreIpOf s)
-    (pick (eqb protocol 6) (sttIpOf source destination port s)
+    pick (eqb protocol 17) (udpOf source destination s)
+    (pick (eqb protocol 47) (nvgreOf s)
+    (pick (eqb protocol 6) (segmentOf source destination port s)
     (C.Refused R.Protocol)))
+
+-- ---- THE STATEMENT: every payload that carries a frame or a segment is read, as what it says and where it lies; what is read is one; what document 01 ignores
+-- does not count
+
+-- the reader answers the network, and where the frame lies
+pub record Found (read : Carried) (kind id : ℕ) (frame payload : List ℕ) : Type 0 where
+  pub start : ℕ
+  pub is : read ≡ C.Tunnel (record { start = start; network = id; kind = kind })
+  pub frame-is : drop start payload ≡ frame
+  pub long : length payload ≡ start + length frame
+
+pub record ReadsCarriage : Type 0 where
+  pub tunnel-complete : (kind protocol source destination port id : ℕ) (frame payload : List ℕ) → Tunnels kind protocol source destination id frame payload
+      → Found (carriageOf protocol source destination port payload) kind id frame payload
+  pub tunnel-sound : (protocol source destination port : ℕ) (s : List ℕ) → Bytes s → (t : Tunnel) → carriageOf protocol source destination port s ≡ C.Tunnel t
+      → Tunnels (t .kind) protocol source destination (t .network) (drop (t .start) s) s × (t .start ≤ length s)
+  pub segment-complete : (source destination port frameLength offset identifier : ℕ) (bytes payload : List ℕ)
+      (w : IsSegment source destination port frameLength offset identifier bytes payload)
+      → let n = length (header (w .f)) in
+      (carriageOf 6 source destination port payload ≡ C.Segment (record { start = n; identifier = identifier; «frame_length» = frameLength; offset = offset }))
+      × (drop n payload ≡ bytes)
+  pub segment-sound : (protocol source destination port : ℕ) (s : List ℕ) → Bytes s → (g : Segment) → carriageOf protocol source destination port s ≡ C.Segment g
+      → (protocol ≡ 6) × IsSegment source destination port (g .«frame_length») (g .offset) (g .identifier) (drop (g .start) s) s × (g .start ≤ length s)
+  -- VXLAN: the answer depends on the length, the flag I and the VNI alone
+  pub vxlan-ignores : (s t : List ℕ) → length s ≡ length t → beAt s 0 1 / 8 % 2 ≡ beAt t 0 1 / 8 % 2 → beAt s 4 3 ≡ beAt t 4 3 → vxlanOf s ≡ vxlanOf t
+  -- NVGRE: on the length, bits 0 to 5 and 13 to 15, the protocol type and the VSID alone
+  pub nvgre-ignores : (s t : List ℕ) → length s ≡ length t → beAt s 0 1 / 4 ≡ beAt t 0 1 / 4 → beAt s 1 1 % 8 ≡ beAt t 1 1 % 8
+      → beAt s 2 1 ≡ beAt t 2 1 → beAt s 3 1 ≡ beAt t 3 1 → beAt s 4 3 ≡ beAt t 4 3 → nvgreOf s ≡ nvgreOf t
+  -- STT: on the length, the port, the data offset, the checksum being right, and the segment's three numbers alone
+  pub segment-ignores : (source destination port : ℕ) (s t : List ℕ) → length s ≡ length t → beAt s 2 2 ≡ beAt t 2 2 → beAt s 12 1 / 16 ≡ beAt t 12 1 / 16
+      → ones (total (pseudo source destination 6 (length s) ++ s)) ≡ ones (total (pseudo source destination 6 (length t) ++ t))
+      → beAt s 4 2 ≡ beAt t 4 2 → beAt s 6 2 ≡ beAt t 6 2 → beAt s 8 4 ≡ beAt t 8 4 → segmentOf source destination port s ≡ segmentOf source destination port t

@@ -1,14 +1,14 @@
 -- IPv4 (RFC 791, 3.1): what a packet is, and what the reader answers.
 -- Assumes nothing.
-use Prim.Native.Nat.{ℕ, zero, suc, _+_, _-_, _*_, _/_, _%_, _^_, _<_, _≤_}
-use mathlib.Core.Path.{_≡_, sym}
-use mathlib.Core.Bool.{Bool, true, false, not}
+use Prim.Native.Nat.{ℕ, _+_, _*_, _/_, _%_, _^_, _<_, _≤_}
+use mathlib.Core.Path.{_≡_}
+use mathlib.Core.Bool.{not}
 use mathlib.Core.List.{List, [], _∷_, _++_}
 use lib.ListN.{length, take}
-use lib.Dec.{ltb, leb, eqb}
-use Rattle.wire.specs.Bytes.{be, beAt, part, _then_}
+use lib.Dec.{ltb, eqb}
+use Rattle.wire.specs.Bytes.{Bytes, be, beAt, part, _then_}
 use Rattle.wire.specs.Sum.{total, ones}
-use Rattle.wire.specs.Checks.{Check, _⇒_, first, At, given, decided, Passed, pass}
+use Rattle.wire.specs.Checks.{Check, _⇒_, first}
 use Rattle.wire.specs.declared.refusal.Refusal.{Refusal}
 use Rattle.wire.specs.declared.refusal.Refusal.the-variants as R
 use Rattle.wire.specs.declared.ipv4.Ipv4.{Ipv4}
@@ -87,23 +87,6 @@ sizeAt s = beAt s 2 2
 abbrev pub offsetAt : List ℕ → ℕ
 offsetAt s = beAt s 6 2 % 2 ^ 13
 
--- All of them.
-unfoldable pub headerAt : List ℕ → Header
-headerAt s = record {
-  words = wordsAt s - 5;
-  service = beAt s 1 1;
-  size = sizeAt s;
-  id = beAt s 4 2;
-  flags = beAt s 6 2 / 2 ^ 13;
-  offset = offsetAt s;
-  life = beAt s 8 1;
-  protocol = beAt s 9 1;
-  checksum = beAt s 10 2;
-  source = beAt s 12 4;
-  destination = beAt s 16 4;
-  options = part s 20 (4 * wordsAt s);
-}
-
 -- The checks 3 to 5 of document 01, in their order.
 unfoldable pub ipv4Checks : List ℕ → List (Check Refusal)
 ipv4Checks s =
@@ -123,14 +106,13 @@ ipv4At s = record { start = 4 * wordsAt s; end = sizeAt s; source = beAt s 12 4;
 unfoldable pub ipv4Of : List ℕ → Ipv4Read
 ipv4Of s = first I.Refused (ipv4Checks s) (I.Packet (ipv4At s))
 
--- the reader's exit number n
-pub ipv4-exit : (s : List ℕ) (n : ℕ) → At (ipv4Checks s) n → ipv4Of s ≡ given I.Refused (ipv4Checks s) (I.Packet (ipv4At s)) n
-unfolding ipv4Of
-ipv4-exit s n p = decided I.Refused (ipv4Checks s) (I.Packet (ipv4At s)) n p
-
-pub ipv4-accepts : (s : List ℕ) (start end source destination protocol : ℕ) → Passed (ipv4Checks s)
-    → start ≡ 4 * (beAt s 0 1 % 16) → end ≡ beAt s 2 2 → source ≡ beAt s 12 4 → destination ≡ beAt s 16 4 → protocol ≡ beAt s 9 1
-    → I.Packet (record { start = start; end = end; source = source; destination = destination; protocol = protocol }) ≡ ipv4Of s
-unfolding ipv4Of ipv4At
-ipv4-accepts s start end source destination protocol p e1 e2 e3 e4 e5 =
-    rw (e1, e2, e3, e4, e5) (sym (pass I.Refused (ipv4Checks s) (I.Packet (ipv4At s)) p))
+-- THE STATEMENT: every packet is read, as what it says and where its payload lies; what is read is a packet; bytes behind it do not count.
+pub record ReadsIpv4 : Type 0 where
+  pub complete : (source destination protocol : ℕ) (payload s : List ℕ) (w : IsIpv4 source destination protocol payload s)
+      → let n = length (header (w .f)) in
+      (ipv4Of s ≡ I.Packet (record { start = n; end = n + length payload; source = source; destination = destination; protocol = protocol }))
+      × (part s n (n + length payload) ≡ payload)
+  pub sound : (s : List ℕ) → Bytes s → (h : Ipv4) → ipv4Of s ≡ I.Packet h
+      → IsIpv4 (h .source) (h .destination) (h .protocol) (part s (h .start) (h .end)) s × (h .start ≤ h .end) × (h .end ≤ length s)
+  -- two lists that agree in their first n bytes, where the total length is at most n
+  pub ignores-trailing : (n : ℕ) (s t : List ℕ) → take n s ≡ take n t → 20 ≤ n → n ≤ length s → n ≤ length t → beAt s 2 2 ≤ n → ipv4Of s ≡ ipv4Of t

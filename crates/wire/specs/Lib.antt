@@ -12,4 +12,5 @@ pub mod Frame
 pub mod Carriage
 pub mod Table
 pub mod Write
+pub mod Layout
 pub mod Laws

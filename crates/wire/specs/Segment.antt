@@ -1,19 +1,19 @@
 -- A segment of STT (draft-davie-stt-06, 3.2): what it is, and what the reader answers.
 -- Assumes nothing.
-use Prim.Native.Nat.{ℕ, zero, suc, _+_, _-_, _*_, _/_, _%_, _^_, _<_, _≤_}
-use mathlib.Core.Path.{_≡_, sym}
-use mathlib.Core.Bool.{Bool, true, false, not}
+use Prim.Native.Nat.{ℕ, _+_, _-_, _*_, _/_, _^_, _<_}
+use mathlib.Core.Path.{_≡_}
+use mathlib.Core.Bool.{not}
 use mathlib.Core.List.{List, [], _∷_, _++_}
 use lib.ListN.{length}
-use lib.Dec.{ltb, leb, eqb}
-use Rattle.wire.specs.Bytes.{be, beAt, part, _then_}
+use lib.Dec.{ltb, eqb}
+use Rattle.wire.specs.Bytes.{be, beAt, _then_}
 use Rattle.wire.specs.Sum.{total, ones, pseudo}
-use Rattle.wire.specs.Checks.{Check, _⇒_, first, At, given, decided, Passed, pass}
+use Rattle.wire.specs.Checks.{Check, _⇒_, first}
 use Rattle.wire.specs.declared.refusal.Refusal.{Refusal}
 use Rattle.wire.specs.declared.refusal.Refusal.the-variants as R
 use Rattle.wire.specs.declared.segment.Segment.{Segment}
-use Rattle.wire.specs.declared.segment.SegmentRead.{SegmentRead}
-use Rattle.wire.specs.declared.segment.SegmentRead.the-variants as S
+use Rattle.wire.specs.declared.carriage.Carried.{Carried}
+use Rattle.wire.specs.declared.carriage.Carried.the-variants as C
 
 -- The header's fields.
 pub record Header : Type 0 where
@@ -83,18 +83,5 @@ segmentChecks source destination port s =
 unfoldable pub segmentAt : List ℕ → Segment
 segmentAt s = record { start = 4 * wordsAt s; identifier = beAt s 8 4; «frame_length» = beAt s 4 2; offset = beAt s 6 2 }
 
-unfoldable pub segmentOf : (source destination port : ℕ) → List ℕ → SegmentRead
-segmentOf source destination port s = first S.Refused (segmentChecks source destination port s) (S.Segment (segmentAt s))
-
--- the reader's exit number n
-pub segment-exit : (source destination port : ℕ) (s : List ℕ) (n : ℕ) → At (segmentChecks source destination port s) n
-    → segmentOf source destination port s ≡ given S.Refused (segmentChecks source destination port s) (S.Segment (segmentAt s)) n
-unfolding segmentOf
-segment-exit source destination port s n p = decided S.Refused (segmentChecks source destination port s) (S.Segment (segmentAt s)) n p
-
-pub segment-accepts : (source destination port : ℕ) (s : List ℕ) (start identifier frameLength offset : ℕ) → Passed (segmentChecks source destination port s)
-    → start ≡ 4 * wordsAt s → identifier ≡ beAt s 8 4 → frameLength ≡ beAt s 4 2 → offset ≡ beAt s 6 2
-    → S.Segment (record { start = start; identifier = identifier; «frame_length» = frameLength; offset = offset }) ≡ segmentOf source destination port s
-unfolding segmentOf segmentAt
-segment-accepts source destination port s start identifier frameLength offset p e1 e2 e3 e4 =
-    rw (e1, e2, e3, e4) (sym (pass S.Refused (segmentChecks source destination port s) (S.Segment (segmentAt s)) p))
+unfoldable pub segmentOf : (source destination port : ℕ) → List ℕ → Carried
+segmentOf source destination port s = first C.Refused (segmentChecks source destination port s) (C.Segment (segmentAt s))

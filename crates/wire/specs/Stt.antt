@@ -1,14 +1,14 @@
 -- An STT frame (draft-davie-stt-06, 3.1): what it is, and what the reader of a complete one answers.
 -- Assumes nothing.
-use Prim.Native.Nat.{ℕ, zero, suc, _+_, _-_, _*_, _/_, _%_, _^_, _<_, _≤_}
-use mathlib.Core.Path.{_≡_, sym}
+use Prim.Native.Nat.{ℕ, _%_, _^_, _<_, _≤_}
+use mathlib.Core.Path.{_≡_}
 use mathlib.Core.Logic.{_≢_}
-use mathlib.Core.Bool.{Bool, true, false, not}
-use mathlib.Core.List.{List, [], _∷_, _++_}
-use lib.ListN.{length}
+use mathlib.Core.Bool.{not}
+use mathlib.Core.List.{List, [], _∷_}
+use lib.ListN.{length, drop}
 use lib.Dec.{ltb, eqb}
-use Rattle.wire.specs.Bytes.{be, beAt, _then_}
-use Rattle.wire.specs.Checks.{Check, _⇒_, first, At, given, decided, Passed, pass}
+use Rattle.wire.specs.Bytes.{Bytes, be, beAt, _then_}
+use Rattle.wire.specs.Checks.{Check, _⇒_, first}
 use Rattle.wire.specs.declared.refusal.Refusal.{Refusal}
 use Rattle.wire.specs.declared.refusal.Refusal.the-variants as R
 use Rattle.wire.specs.declared.stt.SttRead.{SttRead}
@@ -51,11 +51,8 @@ sttChecks s =
 unfoldable pub sttOf : List ℕ → SttRead
 sttOf s = first T.Refused (sttChecks s) (T.Header (beAt s 8 8))
 
--- the reader's exit number n
-pub stt-exit : (s : List ℕ) (n : ℕ) → At (sttChecks s) n → sttOf s ≡ given T.Refused (sttChecks s) (T.Header (beAt s 8 8)) n
-unfolding sttOf
-stt-exit s n p = decided T.Refused (sttChecks s) (T.Header (beAt s 8 8)) n p
-
-pub stt-accepts : (s : List ℕ) (context : ℕ) → Passed (sttChecks s) → context ≡ beAt s 8 8 → T.Header context ≡ sttOf s
-unfolding sttOf
-stt-accepts s context p e = rw e (sym (pass T.Refused (sttChecks s) (T.Header (beAt s 8 8)) p))
+-- THE STATEMENT: every STT frame is read, as its Context ID; what is read is one; the other flags, the hints, the tag and the padding do not count.
+pub record ReadsStt : Type 0 where
+  pub complete : (context : ℕ) (frame s : List ℕ) → IsStt context frame s → (sttOf s ≡ T.Header context) × (drop 18 s ≡ frame)
+  pub sound : (s : List ℕ) → Bytes s → (context : ℕ) → sttOf s ≡ T.Header context → IsStt context (drop 18 s) s × (18 ≤ length s)
+  pub ignores : (s t : List ℕ) → length s ≡ length t → beAt s 0 1 ≡ beAt t 0 1 → beAt s 1 1 % 4 ≡ beAt t 1 1 % 4 → beAt s 8 8 ≡ beAt t 8 8 → sttOf s ≡ sttOf t

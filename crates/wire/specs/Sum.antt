@@ -1,7 +1,7 @@
 -- The ones' complement sum (RFC 1071), over lists of bytes. A checksum is right exactly when the sum over everything, its field included, is 0xFFFF.
 -- Assumes nothing.
-use Prim.Native.Nat.{ℕ, zero, suc, _+_, _-_, _*_, _/_, _%_, _<_}
-use mathlib.Core.List.{List, [], _∷_, _++_}
+use Prim.Native.Nat.{ℕ, zero, suc, _+_, _-_, _*_, _%_}
+use mathlib.Core.List.{List, [], _∷_}
 use Rattle.wire.specs.Bytes.{be, _then_}
 
 -- the plain sum of the 16-bit big-endian words; a last odd byte is padded with a byte 0
@@ -19,3 +19,7 @@ ones (suc n) = n % 65535 + 1
 unfoldable pub pseudo : (source destination protocol size : ℕ) → List ℕ
 pseudo source destination protocol size =
     be 4 source then be 4 destination then be 1 0 then be 1 protocol then be 2 size
+
+-- What a writer puts into a checksum's field: the complement of the sum over all else.
+unfoldable pub complement : List ℕ → ℕ
+complement s = 65535 - ones (total s)

@@ -1,19 +1,20 @@
 -- UDP (RFC 768): what a datagram is, and what the reader answers.
 -- Assumes nothing.
-use Prim.Native.Nat.{ℕ, zero, suc, _+_, _-_, _*_, _/_, _%_, _^_, _<_, _≤_}
-use mathlib.Core.Path.{_≡_, sym}
-use mathlib.Core.Bool.{Bool, true, false, not}
+use Prim.Native.Nat.{ℕ, _+_, _^_, _<_}
+use mathlib.Core.Path.{_≡_}
+use mathlib.Core.Bool.{not}
 use mathlib.Core.Logic.{_⊎_}
 use mathlib.Core.List.{List, [], _∷_, _++_}
-use lib.ListN.{length}
+use lib.ListN.{length, drop}
 use lib.Dec.{ltb, eqb}
 use Rattle.wire.specs.Bytes.{be, beAt, _then_}
 use Rattle.wire.specs.Sum.{total, ones, pseudo}
-use Rattle.wire.specs.Checks.{pick, Check, _⇒_, first, At, given, decided, Passed, pass}
+use Rattle.wire.specs.Checks.{pick, Check, _⇒_, first}
 use Rattle.wire.specs.declared.refusal.Refusal.{Refusal}
 use Rattle.wire.specs.declared.refusal.Refusal.the-variants as R
-use Rattle.wire.specs.declared.udp.UdpRead.{UdpRead}
-use Rattle.wire.specs.declared.udp.UdpRead.the-variants as U
+use Rattle.wire.specs.declared.carriage.Carried.{Carried}
+use Rattle.wire.specs.declared.carriage.Carried.the-variants as C
+use Rattle.wire.specs.Vxlan.{vxlanOf}
 
 unfoldable pub udp : (from to size checksum : ℕ) → List ℕ → List ℕ
 udp from to size checksum payload = be 2 from then be 2 to then be 2 size then be 2 checksum then payload
@@ -44,16 +45,6 @@ udpChecks source destination s =
     ∷ (not (eqb (udpSum source destination s) 65535) ⇒ R.UdpChecksum)
     ∷ []
 
-unfoldable pub udpOf : (source destination : ℕ) → List ℕ → UdpRead
-udpOf source destination s = first U.Refused (udpChecks source destination s) (U.Datagram (beAt s 2 2))
-
--- the reader's exit number n
-pub udp-exit : (source destination : ℕ) (s : List ℕ) (n : ℕ) → At (udpChecks source destination s) n
-    → udpOf source destination s ≡ given U.Refused (udpChecks source destination s) (U.Datagram (beAt s 2 2)) n
-unfolding udpOf
-udp-exit source destination s n p = decided U.Refused (udpChecks source destination s) (U.Datagram (beAt s 2 2)) n p
-
-pub udp-accepts : (source destination : ℕ) (s : List ℕ) (port : ℕ) → Passed (udpChecks source destination s) → port ≡ beAt s 2 2
-    → U.Datagram port ≡ udpOf source destination s
-unfolding udpOf
-udp-accepts source destination s port p e = rw e (sym (pass U.Refused (udpChecks source destination s) (U.Datagram (beAt s 2 2)) p))
+-- What is accepted is what VXLAN's reader answers to the payload.
+unfoldable pub udpOf : (source destination : ℕ) → List ℕ → Carried
+udpOf source destination s = first C.Refused (udpChecks source destination s) (vxlanOf (drop 8 s))

@@ -1,17 +1,18 @@
 -- VXLAN (RFC 7348, 5): what the header in front of a frame is, and what the reader answers.
 -- Assumes nothing.
-use Prim.Native.Nat.{ℕ, zero, suc, _+_, _*_, _/_, _%_, _^_, _<_}
-use mathlib.Core.Path.{_≡_, sym}
-use mathlib.Core.Bool.{Bool, true, false, not}
-use mathlib.Core.List.{List, [], _∷_, _++_}
+use Prim.Native.Nat.{ℕ, _/_, _%_, _^_, _<_}
+use mathlib.Core.Path.{_≡_}
+use mathlib.Core.Bool.{not}
+use mathlib.Core.List.{List, [], _∷_}
 use lib.ListN.{length}
 use lib.Dec.{ltb, eqb}
 use Rattle.wire.specs.Bytes.{be, beAt, _then_}
-use Rattle.wire.specs.Checks.{Check, _⇒_, first, At, given, decided, Passed, pass}
+use Rattle.wire.specs.Checks.{Check, _⇒_, first}
 use Rattle.wire.specs.declared.refusal.Refusal.{Refusal}
 use Rattle.wire.specs.declared.refusal.Refusal.the-variants as R
-use Rattle.wire.specs.declared.vxlan.VxlanRead.{VxlanRead}
-use Rattle.wire.specs.declared.vxlan.VxlanRead.the-variants as T
+use Rattle.wire.specs.declared.carriage.Tunnel.{Tunnel}
+use Rattle.wire.specs.declared.carriage.Carried.{Carried}
+use Rattle.wire.specs.declared.carriage.Carried.the-variants as C
 
 -- Flags, 24 reserved bits, the VNI, 8 reserved bits, and the inner frame.
 unfoldable pub vxlan : (flags reserved vni last : ℕ) → List ℕ → List ℕ
@@ -37,14 +38,9 @@ vxlanChecks s =
     ∷ (not (eqb (beAt s 0 1 / 8 % 2) 1) ⇒ R.VxlanFlag)
     ∷ []
 
-unfoldable pub vxlanOf : List ℕ → VxlanRead
-vxlanOf s = first T.Refused (vxlanChecks s) (T.Header (vniAt s))
+-- What is accepted: the network, and the frame behind 8 bytes of UDP and 8 of VXLAN.
+unfoldable pub vxlanAt : List ℕ → Tunnel
+vxlanAt s = record { start = 16; network = vniAt s; kind = 1 }
 
--- the reader's exit number n
-pub vxlan-exit : (s : List ℕ) (n : ℕ) → At (vxlanChecks s) n → vxlanOf s ≡ given T.Refused (vxlanChecks s) (T.Header (vniAt s)) n
-unfolding vxlanOf
-vxlan-exit s n p = decided T.Refused (vxlanChecks s) (T.Header (vniAt s)) n p
-
-pub vxlan-accepts : (s : List ℕ) (vni : ℕ) → Passed (vxlanChecks s) → vni ≡ vniAt s → T.Header vni ≡ vxlanOf s
-unfolding vxlanOf
-vxlan-accepts s vni p e = rw e (sym (pass T.Refused (vxlanChecks s) (T.Header (vniAt s)) p))
+unfoldable pub vxlanOf : List ℕ → Carried
+vxlanOf s = first C.Refused (vxlanChecks s) (C.Tunnel (vxlanAt s))

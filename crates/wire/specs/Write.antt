@@ -1,15 +1,13 @@
 -- What we write (document 01, "Wrapping"), by the same functions of fields to bytes that the readers are proved against.
 -- Assumes nothing.
-use Prim.Native.Nat.{ℕ, _+_, _-_, _%_}
+use Prim.Native.Nat.{ℕ, _+_, _%_}
 use mathlib.Core.Path.{_≡_}
 use mathlib.Core.Bool.{Bool, true, false}
 use mathlib.Core.List.{List, [], _∷_, _++_}
 use lib.ListN.{length, take}
 use lib.Dec.{ltb}
-use Rattle.wire.specs.Bytes.{be, part}
-use Rattle.wire.specs.Laws.Bytes.{wrote}
-use Rattle.wire.specs.Sum.{total, pseudo}
-use Rattle.wire.specs.Laws.Sum.{complement}
+use Rattle.wire.specs.Bytes.{part, wrote}
+use Rattle.wire.specs.Sum.{total, pseudo, complement}
 use Rattle.wire.specs.Checks.{Check, _⇒_, first, pick}
 use Rattle.wire.specs.Ipv4 as I
 use Rattle.wire.specs.Udp.{udp}
@@ -73,8 +71,8 @@ sttFrame context frame = stt 0 0 0 0 0 0 context 0 frame
 
 -- ACK, and PSH besides on a frame's last segment
 unfoldable pub flagsOf : Bool → ℕ
-flagsOf true = 24
-flagsOf false = 16
+flagsOf true = 0x18
+flagsOf false = 0x10
 
 -- no options, window and urgent pointer 0
 abbrev pub tcp : (from to frameLength offset identifier flags sum : ℕ) → S.Header

@@ -2,6 +2,10 @@
 ghost use mathlib.Core.Path.{_≡_};
 ghost use Rattle.wire.specs.Frame.{frameOf};
 use crate::be::be16;
+use crate::number::FRAME_LEAST;
+use crate::number::FRAME_MOST;
+use crate::number::TYPE_SERVICE_VLAN;
+use crate::number::TYPE_VLAN;
 use crate::refusal::Refusal;
 
 pub enum FrameRead {
@@ -12,17 +16,17 @@ pub enum FrameRead {
 pub fn read(s: &[u8]) -> FrameRead
     ensures { λ r. ⌜ r ≡ frameOf (now (s .entry)) ⌝ }
 {
-    if s.len() < 14 {
+    if s.len() < FRAME_LEAST {
         return FrameRead::Refused(Refusal::FrameLength);
     }
-    if 1514 < s.len() {
+    if FRAME_MOST < s.len() {
         return FrameRead::Refused(Refusal::FrameLength);
     }
     let kind = be16(s, 12);
-    if kind == 0x8100 {
+    if kind == TYPE_VLAN {
         return FrameRead::Refused(Refusal::FrameTag);
     }
-    if kind == 0x88A8 {
+    if kind == TYPE_SERVICE_VLAN {
         return FrameRead::Refused(Refusal::FrameTag);
     }
     FrameRead::Good

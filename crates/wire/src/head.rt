@@ -7,6 +7,10 @@ ghost use Rattle.wire.specs.Udp.{udp};
 ghost use Rattle.wire.specs.Vxlan.{vxlan};
 ghost use Rattle.wire.specs.Nvgre.{gre};
 ghost use Rattle.wire.specs.Write.{ipv4With, ipv4Head, tcpWith, sttFrame};
+use crate::number::GRE_TYPE_HIGH;
+use crate::number::GRE_TYPE_LOW;
+use crate::number::TIME_TO_LIVE;
+use crate::number::VXLAN_FLAG;
 use crate::sum::sum;
 
 // The bytes of a number, the lowest first, in the very terms of `be`.
@@ -41,20 +45,20 @@ fn above(x: u64) -> u64
     x / 256 / 256 / 256 / 256
 }
 
-// IPv4 (RFC 791, 3.1): no options, don't fragment, time to live 64.
+// IPv4 (RFC 791, 3.1): no options (0x45), don't fragment (0x4000).
 fn ipv4_with(protocol: u8, size: u64, source: u64, destination: u64, checksum: u64) -> [u8; 20]
     ensures { λ r. ⌜ r ≡ ipv4With protocol size source destination checksum ⌝ }
 {
     [
-        69,
+        0x45,
         0,
         b1(size),
         b0(size),
         0,
         0,
-        64,
+        0x40,
         0,
-        64,
+        TIME_TO_LIVE,
         protocol,
         b1(checksum),
         b0(checksum),
@@ -74,24 +78,24 @@ pub(crate) fn ipv4(protocol: u8, size: u64, source: u64, destination: u64) -> [u
     ensures { λ r. ⌜ r ≡ ipv4Head protocol size source destination ⌝ }
 {
     let blank = ipv4_with(protocol, size, source, destination, 0);
-    let checksum = 65535 - sum(0, &blank) as u64;
+    let checksum = 0xFFFF - sum(0, &blank) as u64;
     ipv4_with(protocol, size, source, destination, checksum)
 }
 
-// UDP (RFC 768) with no checksum, and VXLAN (RFC 7348, 5) with the flag I alone.
+// UDP (RFC 768) to VXLAN's port 4789 (0x12B5) with no checksum, and VXLAN (RFC 7348, 5) with the flag I alone.
 pub(crate) fn vxlan(port: u64, size: u64, vni: u64) -> [u8; 16]
     ensures { λ r. ⌜ r ≡ udp port 4789 size 0 (vxlan 8 0 vni 0 []) ⌝ }
 {
     [
         b1(port),
         b0(port),
-        18,
-        181,
+        0x12,
+        0xB5,
         b1(size),
         b0(size),
         0,
         0,
-        8,
+        VXLAN_FLAG,
         0,
         0,
         0,
@@ -102,11 +106,20 @@ pub(crate) fn vxlan(port: u64, size: u64, vni: u64) -> [u8; 16]
     ]
 }
 
-// GRE with the network's key (RFC 7637, 3.2).
+// GRE with the network's key (RFC 7637, 3.2), whose flag is 0x20.
 pub(crate) fn nvgre(vsid: u64) -> [u8; 8]
     ensures { λ r. ⌜ r ≡ gre 0 0 vsid 0 [] ⌝ }
 {
-    [32, 0, 101, 88, b2(vsid), b1(vsid), b0(vsid), 0]
+    [
+        0x20,
+        0,
+        GRE_TYPE_HIGH,
+        GRE_TYPE_LOW,
+        b2(vsid),
+        b1(vsid),
+        b0(vsid),
+        0,
+    ]
 }
 
 // An STT frame's header (draft-davie-stt-06, 3.1): only the Context ID is not 0.
@@ -160,7 +173,7 @@ pub(crate) fn segment(
         b2(identifier),
         b1(identifier),
         b0(identifier),
-        80,
+        0x50,
         flags,
         0,
         0,

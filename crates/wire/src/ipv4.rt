@@ -7,6 +7,8 @@ use crate::be::be32;
 use crate::bits::high4;
 use crate::bits::low4;
 use crate::bits::low14;
+use crate::number::ALL_ONES;
+use crate::number::IPV4_HEADER;
 use crate::refusal::Refusal;
 use crate::sum::sum;
 
@@ -27,7 +29,7 @@ pub enum Ipv4Read {
 pub fn read(s: &[u8]) -> Ipv4Read
     ensures { λ r. ⌜ r ≡ ipv4Of (now (s .entry)) ⌝ }
 {
-    if s.len() < 20 {
+    if s.len() < IPV4_HEADER {
         return Ipv4Read::Refused(Refusal::Truncated);
     }
     let first = be8(s, 0);
@@ -46,7 +48,7 @@ pub fn read(s: &[u8]) -> Ipv4Read
     if s.len() < end {
         return Ipv4Read::Refused(Refusal::TotalLength);
     }
-    if sum(0, &s[..start]) != 65535 {
+    if sum(0, &s[..start]) != ALL_ONES {
         return Ipv4Read::Refused(Refusal::HeaderChecksum);
     }
     if low14(be16(s, 6)) != 0 {

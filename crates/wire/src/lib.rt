@@ -5,6 +5,7 @@ pub mod carriage;
 pub mod frame;
 pub mod head;
 pub mod ipv4;
+pub mod number;
 pub mod nvgre;
 pub mod put;
 pub mod refusal;

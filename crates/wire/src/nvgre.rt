@@ -1,38 +1,40 @@
-// NVGRE (RFC 7637, 3.2): GRE with a key (RFC 2784, RFC 2890). The inner frame starts at byte 8.
+// NVGRE (RFC 7637, 3.2): GRE with a key (RFC 2784, RFC 2890).
 ghost use mathlib.Core.Path.{_≡_};
 ghost use Rattle.wire.specs.Nvgre.{nvgreOf};
 use crate::be::be8;
 use crate::be::be24;
+use crate::bits::high6;
 use crate::bits::low3;
+use crate::carriage::Carried;
+use crate::carriage::Tunnel;
+use crate::number::GRE_HEADER;
+use crate::number::GRE_TYPE_HIGH;
+use crate::number::GRE_TYPE_LOW;
+use crate::number::KIND_NVGRE;
 use crate::refusal::Refusal;
 
-// The VSID.
-pub enum NvgreRead {
-    Header(u32),
-    Refused(Refusal),
-}
-
-pub fn read(s: &[u8]) -> NvgreRead
+// Of the first byte, the two lowest bits are reserved and ignored (RFC 2784, 2.1); of the others, the key's alone is set: 0x20.
+pub fn read(s: &[u8]) -> Carried
     ensures { λ r. ⌜ r ≡ nvgreOf (now (s .entry)) ⌝ }
 {
-    if s.len() < 8 {
-        return NvgreRead::Refused(Refusal::Short);
+    if s.len() < GRE_HEADER {
+        return Carried::Refused(Refusal::Short);
     }
-    let first = be8(s, 0);
-    if first < 32 {
-        return NvgreRead::Refused(Refusal::GreFlags);
-    }
-    if 35 < first {
-        return NvgreRead::Refused(Refusal::GreFlags);
+    if high6(be8(s, 0)) != 0x20 {
+        return Carried::Refused(Refusal::GreFlags);
     }
     if low3(be8(s, 1)) != 0 {
-        return NvgreRead::Refused(Refusal::GreVersion);
+        return Carried::Refused(Refusal::GreVersion);
     }
-    if be8(s, 2) != 101 {
-        return NvgreRead::Refused(Refusal::GreTypeHigh);
+    if be8(s, 2) != GRE_TYPE_HIGH {
+        return Carried::Refused(Refusal::GreTypeHigh);
     }
-    if be8(s, 3) != 88 {
-        return NvgreRead::Refused(Refusal::GreTypeLow);
+    if be8(s, 3) != GRE_TYPE_LOW {
+        return Carried::Refused(Refusal::GreTypeLow);
     }
-    NvgreRead::Header(be24(s, 4))
+    Carried::Tunnel(Tunnel {
+        start: GRE_HEADER,
+        network: be24(s, 4),
+        kind: KIND_NVGRE,
+    })
 }

@@ -5,6 +5,11 @@ use crate::be::be8;
 use crate::be::be16;
 use crate::be::be32;
 use crate::bits::high4;
+use crate::carriage::Carried;
+use crate::number::ALL_ONES;
+use crate::number::LENGTH_MOST;
+use crate::number::PROTOCOL_TCP;
+use crate::number::TCP_HEADER;
 use crate::refusal::Refusal;
 use crate::sum::sum_behind;
 
@@ -16,37 +21,32 @@ pub struct Segment {
     pub offset: u16,
 }
 
-pub enum SegmentRead {
-    Segment(Segment),
-    Refused(Refusal),
-}
-
 // The port is asked between the causes of refusal 9, and the checksum comes last. A payload that the pseudo header's 16-bit length cannot
 // tell is no segment; no IPv4 packet carries one.
-pub fn read(source: u32, destination: u32, port: u16, s: &[u8]) -> SegmentRead
+pub fn read(source: u32, destination: u32, port: u16, s: &[u8]) -> Carried
     ensures { λ r. ⌜ r ≡ segmentOf source destination port (now (s .entry)) ⌝ }
 {
-    if s.len() < 20 {
-        return SegmentRead::Refused(Refusal::Short);
+    if s.len() < TCP_HEADER {
+        return Carried::Refused(Refusal::Short);
     }
     if be16(s, 2) != port {
-        return SegmentRead::Refused(Refusal::Port);
+        return Carried::Refused(Refusal::Port);
     }
-    if 65535 < s.len() {
-        return SegmentRead::Refused(Refusal::TcpLength);
+    if LENGTH_MOST < s.len() {
+        return Carried::Refused(Refusal::TcpLength);
     }
     let words = high4(be8(s, 12)) as usize;
     if words < 5 {
-        return SegmentRead::Refused(Refusal::DataOffset);
+        return Carried::Refused(Refusal::DataOffset);
     }
     let start = 4 * words;
     if s.len() < start {
-        return SegmentRead::Refused(Refusal::DataOffset);
+        return Carried::Refused(Refusal::DataOffset);
     }
-    if sum_behind(source, destination, 6, s) != 65535 {
-        return SegmentRead::Refused(Refusal::TcpChecksum);
+    if sum_behind(source, destination, PROTOCOL_TCP, s) != ALL_ONES {
+        return Carried::Refused(Refusal::TcpChecksum);
     }
-    SegmentRead::Segment(Segment {
+    Carried::Segment(Segment {
         start: start,
         identifier: be32(s, 8),
         frame_length: be16(s, 4),

@@ -4,6 +4,7 @@ ghost use Rattle.wire.specs.Stt.{sttOf};
 use crate::be::be8;
 use crate::be::be64;
 use crate::bits::low2;
+use crate::number::STT_HEADER;
 use crate::refusal::Refusal;
 
 // The Context ID.
@@ -15,13 +16,13 @@ pub enum SttRead {
 pub fn read(s: &[u8]) -> SttRead
     ensures { λ r. ⌜ r ≡ sttOf (now (s .entry)) ⌝ }
 {
-    if s.len() < 18 {
+    if s.len() < STT_HEADER {
         return SttRead::Refused(Refusal::Short);
     }
     if be8(s, 0) != 0 {
         return SttRead::Refused(Refusal::SttVersion);
     }
-    if low2(be8(s, 1)) == 3 {
+    if low2(be8(s, 1)) == 0x03 {
         return SttRead::Refused(Refusal::SttFlags);
     }
     SttRead::Header(be64(s, 8))

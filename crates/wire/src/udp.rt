@@ -4,14 +4,14 @@ ghost use Prim.Native.Nat.{_≤_};
 ghost use lib.ListN.{length};
 ghost use Rattle.wire.specs.Udp.{udpSum, udpOf};
 use crate::be::be16;
+use crate::carriage::Carried;
+use crate::number::ALL_ONES;
+use crate::number::PROTOCOL_UDP;
+use crate::number::UDP_HEADER;
+use crate::number::UDP_VXLAN_HEADERS;
+use crate::number::VXLAN_PORT;
 use crate::refusal::Refusal;
 use crate::sum::sum_behind;
-
-// The destination port of a datagram that is whole and whose checksum is none or right; its payload starts at byte 8.
-pub enum UdpRead {
-    Datagram(u16),
-    Refused(Refusal),
-}
 
 // The sum by which a datagram is judged: all ones where there is no checksum.
 pub(crate) fn judged(source: u32, destination: u32, s: &[u8]) -> u16
@@ -19,30 +19,29 @@ pub(crate) fn judged(source: u32, destination: u32, s: &[u8]) -> u16
     ensures { λ r. ⌜ r ≡ udpSum source destination (now (s .entry)) ⌝ }
 {
     if be16(s, 6) == 0 {
-        return 65535;
+        return ALL_ONES;
     }
-    sum_behind(source, destination, 17, s)
+    sum_behind(source, destination, PROTOCOL_UDP, s)
 }
 
-// The port is asked between the two causes of refusal 9, and the checksum comes last.
-pub fn read(source: u32, destination: u32, s: &[u8]) -> UdpRead
+// The port tells what the datagram carries. It is asked between the two causes of refusal 9, and the checksum comes last.
+pub fn read(source: u32, destination: u32, s: &[u8]) -> Carried
     ensures { λ r. ⌜ r ≡ udpOf source destination (now (s .entry)) ⌝ }
 {
-    if s.len() < 8 {
-        return UdpRead::Refused(Refusal::Short);
+    if s.len() < UDP_HEADER {
+        return Carried::Refused(Refusal::Short);
     }
-    let port = be16(s, 2);
-    if port != 4789 {
-        return UdpRead::Refused(Refusal::Port);
+    if be16(s, 2) != VXLAN_PORT {
+        return Carried::Refused(Refusal::Port);
     }
     if be16(s, 4) as usize != s.len() {
-        return UdpRead::Refused(Refusal::UdpLength);
+        return Carried::Refused(Refusal::UdpLength);
     }
-    if s.len() < 16 {
-        return UdpRead::Refused(Refusal::UdpLength);
+    if s.len() < UDP_VXLAN_HEADERS {
+        return Carried::Refused(Refusal::UdpLength);
     }
-    if judged(source, destination, s) != 65535 {
-        return UdpRead::Refused(Refusal::UdpChecksum);
+    if judged(source, destination, s) != ALL_ONES {
+        return Carried::Refused(Refusal::UdpChecksum);
     }
-    UdpRead::Datagram(port)
+    crate::vxlan::read(&s[UDP_HEADER..])
 }

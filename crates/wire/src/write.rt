@@ -4,13 +4,28 @@ ghost use mathlib.Core.Path.{_≡_};
 ghost use Prim.Native.Nat.{_+_, _-_, _≤_};
 ghost use mathlib.Core.List.{_++_};
 ghost use lib.ListN.{length};
-ghost use Rattle.wire.specs.Bytes.{laid, be};
-ghost use Rattle.wire.specs.Laws.Bytes.{wrote};
-ghost use Rattle.wire.specs.Sum.{pseudo};
-ghost use Rattle.wire.specs.Laws.Sum.{complement};
+ghost use Rattle.wire.specs.Bytes.{laid, wrote, be};
+ghost use Rattle.wire.specs.Sum.{pseudo, complement};
 ghost use Rattle.wire.specs.Write.{sourcePort, flagsOf, fits, segmentFits, segmentBytes, segmentBody, vxlanPacket, nvgrePacket, segmentPacket, Written};
 use crate::be::be16;
 use crate::head;
+use crate::number::FRAME_LEAST;
+use crate::number::IPV4_HEADER;
+use crate::number::LENGTH_MOST;
+use crate::number::NVGRE_OVERHEAD;
+use crate::number::PORT_LEAST;
+use crate::number::PORTS;
+use crate::number::PROTOCOL_GRE;
+use crate::number::PROTOCOL_TCP;
+use crate::number::PROTOCOL_UDP;
+use crate::number::SEGMENT_OVERHEAD;
+use crate::number::STT_HEADER;
+use crate::number::TCP_ACK;
+use crate::number::TCP_CHECKSUM;
+use crate::number::TCP_HEADER;
+use crate::number::TCP_PSH_ACK;
+use crate::number::UDP_VXLAN_HEADERS;
+use crate::number::VXLAN_OVERHEAD;
 use crate::put::put;
 use crate::put::put_part;
 use crate::sum::sum_behind;
@@ -25,7 +40,7 @@ fn source_port(frame: &[u8]) -> u64
         + be16(frame, 4) as u64
         + be16(frame, 6) as u64;
     let b = be16(frame, 8) as u64 + be16(frame, 10) as u64 + be16(frame, 12) as u64;
-    49152 + (a + b) % 16384
+    PORT_LEAST + (a + b) % PORTS
 }
 
 // Do a frame of n bytes and the headers in front of it make a packet, and does the output have room for it?
@@ -33,13 +48,13 @@ fn frame_fits(headers: usize, n: usize, room: usize) -> bool
     requires { ⌜ headers ≤ 100 ⌝ }
     ensures { λ r. ⌜ r ≡ fits headers n room ⌝ }
 {
-    if n < 14 {
+    if n < FRAME_LEAST {
         return false;
     }
-    if 65535 < n {
+    if LENGTH_MOST < n {
         return false;
     }
-    if 65535 < headers + n {
+    if LENGTH_MOST < headers + n {
         return false;
     }
     if room < headers + n {
@@ -54,22 +69,27 @@ fn vxlan_packet(out: &mut [u8], source: u32, destination: u32, vni: u32, frame: 
     ensures { λ _. ⌜ now (out .exit) ≡ wrote (now (out .entry)) (vxlanPacket source destination vni (now (frame .entry))) ⌝ }
 {
     let n = frame.len() as u64;
-    let ip = head::ipv4(17, 36 + n, source as u64, destination as u64);
-    let outer = head::vxlan(source_port(frame), 16 + n, vni as u64);
+    let ip = head::ipv4(
+        PROTOCOL_UDP,
+        VXLAN_OVERHEAD as u64 + n,
+        source as u64,
+        destination as u64,
+    );
+    let outer = head::vxlan(source_port(frame), UDP_VXLAN_HEADERS as u64 + n, vni as u64);
     put(out, 0, &ip);
-    put(out, 20, &outer);
-    put(out, 36, frame);
+    put(out, IPV4_HEADER, &outer);
+    put(out, VXLAN_OVERHEAD, frame);
 }
 
 // A packet that carries the frame over VXLAN (RFC 7348, 5): its length, or 0.
 pub fn vxlan(out: &mut [u8], source: u32, destination: u32, vni: u32, frame: &[u8]) -> usize
     ensures { λ r. ⌜ Written (fits 36 (length (now (frame .entry))) (length (now (out .entry)))) (vxlanPacket source destination vni (now (frame .entry))) (now (out .entry)) (now (out .exit)) r ⌝ }
 {
-    if !frame_fits(36, frame.len(), out.len()) {
+    if !frame_fits(VXLAN_OVERHEAD, frame.len(), out.len()) {
         return 0;
     }
     vxlan_packet(out, source, destination, vni, frame);
-    36 + frame.len()
+    VXLAN_OVERHEAD + frame.len()
 }
 
 // Outer header, GRE header, and the frame, one behind the other.
@@ -78,44 +98,49 @@ fn nvgre_packet(out: &mut [u8], source: u32, destination: u32, vsid: u32, frame:
     ensures { λ _. ⌜ now (out .exit) ≡ wrote (now (out .entry)) (nvgrePacket source destination vsid (now (frame .entry))) ⌝ }
 {
     let n = frame.len() as u64;
-    let ip = head::ipv4(47, 28 + n, source as u64, destination as u64);
+    let ip = head::ipv4(
+        PROTOCOL_GRE,
+        NVGRE_OVERHEAD as u64 + n,
+        source as u64,
+        destination as u64,
+    );
     let outer = head::nvgre(vsid as u64);
     put(out, 0, &ip);
-    put(out, 20, &outer);
-    put(out, 28, frame);
+    put(out, IPV4_HEADER, &outer);
+    put(out, NVGRE_OVERHEAD, frame);
 }
 
 // A packet that carries the frame over NVGRE (RFC 7637, 3.2): its length, or 0.
 pub fn nvgre(out: &mut [u8], source: u32, destination: u32, vsid: u32, frame: &[u8]) -> usize
     ensures { λ r. ⌜ Written (fits 28 (length (now (frame .entry))) (length (now (out .entry)))) (nvgrePacket source destination vsid (now (frame .entry))) (now (out .entry)) (now (out .exit)) r ⌝ }
 {
-    if !frame_fits(28, frame.len(), out.len()) {
+    if !frame_fits(NVGRE_OVERHEAD, frame.len(), out.len()) {
         return 0;
     }
     nvgre_packet(out, source, destination, vsid, frame);
-    28 + frame.len()
+    NVGRE_OVERHEAD + frame.len()
 }
 
 // Does the segment lie in the STT frame of an inner frame of n bytes, do their numbers fit, and does the output have room for it?
 fn segment_fits(n: usize, offset: usize, count: usize, room: usize) -> bool
     ensures { λ r. ⌜ r ≡ segmentFits n offset count room ⌝ }
 {
-    if n < 14 {
+    if n < FRAME_LEAST {
         return false;
     }
-    if 65517 < n {
+    if LENGTH_MOST - STT_HEADER < n {
         return false;
     }
-    if 18 + n < offset {
+    if STT_HEADER + n < offset {
         return false;
     }
-    if 18 + n - offset < count {
+    if STT_HEADER + n - offset < count {
         return false;
     }
-    if 65535 < 40 + count {
+    if LENGTH_MOST < SEGMENT_OVERHEAD + count {
         return false;
     }
-    if room < 40 + count {
+    if room < SEGMENT_OVERHEAD + count {
         return false;
     }
     true
@@ -126,28 +151,28 @@ fn flags(last: bool) -> u8
     ensures { λ r. ⌜ r ≡ flagsOf last ⌝ }
 {
     if last {
-        return 24;
+        return TCP_PSH_ACK;
     }
-    16
+    TCP_ACK
 }
 
 // A place in an STT frame, as one in its 18 bytes of header, and as one in the inner frame behind them.
 fn in_header(x: usize) -> usize
     ensures { λ r. ⌜ r ≡ x - (x - 18) ⌝ }
 {
-    if x < 18 {
+    if x < STT_HEADER {
         return x;
     }
-    18
+    STT_HEADER
 }
 
 fn in_frame(x: usize) -> usize
     ensures { λ r. ⌜ r ≡ x - 18 ⌝ }
 {
-    if x < 18 {
+    if x < STT_HEADER {
         return 0;
     }
-    x - 18
+    x - STT_HEADER
 }
 
 // The segment's bytes, straight from the header and the inner frame to behind the segment's own header: the STT frame is never built.
@@ -159,8 +184,14 @@ fn segment_bytes(s: &mut [u8], context: u64, offset: usize, count: usize, frame:
     let end = offset + count;
     let a = in_header(offset);
     let e = in_header(end);
-    put_part(s, 20, &header, a, e);
-    put_part(s, 20 + (e - a), frame, in_frame(offset), in_frame(end));
+    put_part(s, TCP_HEADER, &header, a, e);
+    put_part(
+        s,
+        TCP_HEADER + (e - a),
+        frame,
+        in_frame(offset),
+        in_frame(end),
+    );
 }
 
 // The TCP checksum of what stands in s with a field of 0, over the pseudo header too, into the field.
@@ -168,9 +199,9 @@ fn seal(s: &mut [u8], source: u32, destination: u32)
     requires { ⌜ (20 ≤ length (now s)) × (length (now s) ≤ 65535) ⌝ }
     ensures { λ _. ⌜ now (s .exit) ≡ laid (now (s .entry)) 16 (be 2 (complement (pseudo source destination 6 (length (now (s .entry))) ++ now (s .entry)))) ⌝ }
 {
-    let sum = sum_behind(source, destination, 6, &s[..]);
-    let field = head::checksum(65535 - sum as u64);
-    put(s, 16, &field);
+    let sum = sum_behind(source, destination, PROTOCOL_TCP, &s[..]);
+    let field = head::checksum(0xFFFF - sum as u64);
+    put(s, TCP_CHECKSUM, &field);
 }
 
 // The segment, header and bytes, in place of all of s.
@@ -188,8 +219,8 @@ fn segment_body(
     requires { ⌜ (14 ≤ length (now frame)) × (length (now frame) ≤ 65517) × (20 ≤ length (now s)) × (length (now s) ≤ 65535) × (offset + (length (now s) - 20) ≤ 18 + length (now frame)) ⌝ }
     ensures { λ _. ⌜ now (s .exit) ≡ segmentBody source destination port context identifier offset (length (now (s .entry)) - 20) last (now (frame .entry)) ⌝ }
 {
-    let count = s.len() - 20;
-    let size = 18 + frame.len() as u64;
+    let count = s.len() - TCP_HEADER;
+    let size = STT_HEADER as u64 + frame.len() as u64;
     let header = head::segment(
         source_port(frame),
         port as u64,
@@ -219,11 +250,11 @@ fn segment_packet(
     requires { ⌜ (14 ≤ length (now frame)) × (length (now frame) ≤ 65517) × (offset + count ≤ 18 + length (now frame)) × (40 + count ≤ 65535) × (40 + count ≤ length (now out)) ⌝ }
     ensures { λ _. ⌜ now (out .exit) ≡ wrote (now (out .entry)) (segmentPacket source destination port context identifier offset count last (now (frame .entry))) ⌝ }
 {
-    let end = 40 + count;
-    let ip = head::ipv4(6, end as u64, source as u64, destination as u64);
+    let end = SEGMENT_OVERHEAD + count;
+    let ip = head::ipv4(PROTOCOL_TCP, end as u64, source as u64, destination as u64);
     put(out, 0, &ip);
     segment_body(
-        &mut out[20..end],
+        &mut out[IPV4_HEADER..end],
         source,
         destination,
         port,
@@ -265,5 +296,5 @@ pub fn segment(
         last,
         frame,
     );
-    40 + count
+    SEGMENT_OVERHEAD + count
 }

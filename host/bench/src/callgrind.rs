@@ -65,6 +65,7 @@ fn read(folder: &Path, cases: usize) -> Result<Vec<[f64; 2]>, String> {
 fn total(folder: &Path, number: usize) -> Result<f64, String> {
     let mut path = out_file(folder).into_os_string();
     path.push(format!(".{number}"));
+    let path = PathBuf::from(path);
     let text = std::fs::read_to_string(&path).map_err(|e| format!("{}: {e}", path.display()))?;
     let line = text.lines().find_map(|line| line.strip_prefix("totals: "));
     let total: f64 = line

@@ -41,7 +41,7 @@ impl Listing {
         }
     }
 
-    fn size(self) -> (u16, u16) {
+    fn size(self) -> (u32, u32) {
         match self {
             Listing::Small => (1, 1),
             Listing::Full => (8, 64),
@@ -49,7 +49,7 @@ impl Listing {
     }
 
     /// The number of the binding that the packets are on.
-    pub fn binding(self) -> u16 {
+    pub fn binding(self) -> u32 {
         self.size().1 - 1
     }
 }
@@ -58,7 +58,7 @@ impl Listing {
 pub struct Case {
     pub name: String,
     pub call: Call,
-    /// The code that every measured call must give; nothing for a tick.
+    /// The code that every measured call must give.
     pub code: u8,
     /// How the network of the packets is carried.
     pub kind: u8,
@@ -100,14 +100,14 @@ impl Case {
         let (peers, bindings) = self.listing.size();
         let mut endpoint = S::start(OWN, PORT, 1600);
         for number in 1..peers {
-            endpoint.add_peer(OWN + 100 + u32::from(number));
+            endpoint.add_peer(OWN + 100 + number);
         }
         endpoint.add_peer(PEER_A);
         for number in 1..bindings {
-            let (peer, kind) = (number % peers, (number % 3) as u8 + 1);
+            let (peer, kind) = (number % peers, number % 3 + 1);
             endpoint.add_binding(peer, kind, 4096 + u64::from(number), number);
         }
-        endpoint.add_binding(peers - 1, self.kind, NETWORK, bindings);
+        endpoint.add_binding(peers - 1, self.kind.into(), NETWORK, bindings);
         endpoint
     }
 }
@@ -137,7 +137,7 @@ fn vxlan_summed(length: usize) -> Vec<u8> {
 pub fn all() -> Vec<Case> {
     let mut cases = Vec::new();
     deliveries(&mut cases);
-    held(&mut cases);
+    segments(&mut cases);
     refusals(&mut cases);
     ticks(&mut cases);
     wraps(&mut cases);
@@ -164,9 +164,9 @@ fn deliveries(cases: &mut Vec<Case>) {
     }
 }
 
-/// A frame of 1,532 bytes in two segments: the first is held, the second
-/// completes it.
-fn held(cases: &mut Vec<Case>) {
+/// A frame of 1,532 bytes in two segments: after the first it is pending, the
+/// second completes it.
+fn segments(cases: &mut Vec<Case>) {
     let (first, second) = (segment(1514, 0, 766), segment(1514, 766, 1532));
     let case = |name: &str, code, packet| {
         let name = format!("STT segment of 766 bytes, {name}");
@@ -174,7 +174,7 @@ fn held(cases: &mut Vec<Case>) {
     };
     cases.push(Case {
         after: vec![second.clone()],
-        ..case("held", 1, first.clone())
+        ..case("frame pending", 1, first.clone())
     });
     cases.push(Case {
         before: vec![first],
@@ -213,7 +213,7 @@ fn ticks(cases: &mut Vec<Case>) {
         call: Call::Tick,
         ..Case::receive(name.to_string(), STT, Listing::Full, 0, Vec::new())
     };
-    cases.push(tick("tick, nothing under way"));
+    cases.push(tick("tick, no frame pending"));
     let frame = packet::stt_frame(NETWORK, &inner(64));
     // These are refused as repeats until the frames are given up.
     let before = (0..4).map(|identifier| {
@@ -222,7 +222,7 @@ fn ticks(cases: &mut Vec<Case>) {
     });
     cases.push(Case {
         before: before.collect(),
-        ..tick("tick, four frames under way")
+        ..tick("tick, four frames pending")
     });
 }
 

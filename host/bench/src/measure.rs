@@ -36,12 +36,12 @@ fn counted_receive<S: Side>(side: &mut S, packet: &[u8], memory: &mut [u8]) -> u
 }
 
 #[inline(never)]
-fn counted_tick<S: Side>(side: &mut S) {
-    side.tick();
+fn counted_tick<S: Side>(side: &mut S) -> u8 {
+    side.tick()
 }
 
 #[inline(never)]
-fn counted_wrap<S: Side>(side: &mut S, binding: u16, frame: &[u8], output: &mut [u8]) -> u8 {
+fn counted_wrap<S: Side>(side: &mut S, binding: u32, frame: &[u8], output: &mut [u8]) -> u8 {
     side.wrap(binding, frame, output)
 }
 
@@ -65,10 +65,7 @@ impl<'a, S: Side> Bench<'a, S> {
     fn call(&mut self) -> u8 {
         match &self.case.call {
             Call::Receive(packet) => counted_receive(&mut self.side, packet, &mut self.memory),
-            Call::Tick => {
-                counted_tick(&mut self.side);
-                0
-            }
+            Call::Tick => counted_tick(&mut self.side),
             Call::Wrap(frame) => {
                 let binding = self.case.listing.binding();
                 counted_wrap(&mut self.side, binding, frame, &mut self.output)

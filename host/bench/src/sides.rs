@@ -9,10 +9,10 @@ pub trait Side {
 
     fn start(own: u32, port: u16, mtu: u16) -> Self;
     fn add_peer(&mut self, address: u32);
-    fn add_binding(&mut self, peer: u16, kind: u8, network: u64, tenant: u16);
+    fn add_binding(&mut self, peer: u32, kind: u32, network: u64, tenant: u32);
     fn receive(&mut self, packet: &[u8], memory: &mut [u8]) -> u8;
-    fn tick(&mut self);
-    fn wrap(&mut self, binding: u16, frame: &[u8], output: &mut [u8]) -> u8;
+    fn tick(&mut self) -> u8;
+    fn wrap(&mut self, binding: u32, frame: &[u8], output: &mut [u8]) -> u8;
 }
 
 /// The library, called as C would call it.
@@ -20,7 +20,7 @@ impl Side for numbers::Endpoint {
     const NAME: &'static str = "library";
 
     fn start(own: u32, port: u16, mtu: u16) -> Self {
-        let (endpoint, code) = numbers::Endpoint::start(own, port, mtu);
+        let (endpoint, code) = numbers::Endpoint::start(own, port.into(), mtu.into());
         assert_eq!(code, 0);
         endpoint
     }
@@ -29,7 +29,7 @@ impl Side for numbers::Endpoint {
         assert_eq!(numbers::Endpoint::add_peer(self, address).code, 0);
     }
 
-    fn add_binding(&mut self, peer: u16, kind: u8, network: u64, tenant: u16) {
+    fn add_binding(&mut self, peer: u32, kind: u32, network: u64, tenant: u32) {
         let added = numbers::Endpoint::add_binding(self, peer, kind, network, tenant);
         assert_eq!(added.code, 0);
     }
@@ -40,12 +40,12 @@ impl Side for numbers::Endpoint {
     }
 
     #[inline(always)]
-    fn tick(&mut self) {
-        numbers::Endpoint::tick(self);
+    fn tick(&mut self) -> u8 {
+        numbers::Endpoint::tick(self)
     }
 
     #[inline(always)]
-    fn wrap(&mut self, binding: u16, frame: &[u8], output: &mut [u8]) -> u8 {
+    fn wrap(&mut self, binding: u32, frame: &[u8], output: &mut [u8]) -> u8 {
         numbers::Endpoint::wrap(self, binding, frame, 0, 7, output).code
     }
 }
@@ -54,7 +54,7 @@ impl Side for reference::Endpoint {
     const NAME: &'static str = "reference";
 
     fn start(own: u32, port: u16, mtu: u16) -> Self {
-        let (endpoint, code) = reference::Endpoint::start(own, port, mtu);
+        let (endpoint, code) = reference::Endpoint::start(own, port.into(), mtu.into());
         assert_eq!(code, 0);
         endpoint
     }
@@ -63,7 +63,7 @@ impl Side for reference::Endpoint {
         assert_eq!(reference::Endpoint::add_peer(self, address).code, 0);
     }
 
-    fn add_binding(&mut self, peer: u16, kind: u8, network: u64, tenant: u16) {
+    fn add_binding(&mut self, peer: u32, kind: u32, network: u64, tenant: u32) {
         let added = reference::Endpoint::add_binding(self, peer, kind, network, tenant);
         assert_eq!(added.code, 0);
     }
@@ -74,12 +74,12 @@ impl Side for reference::Endpoint {
     }
 
     #[inline(always)]
-    fn tick(&mut self) {
-        reference::Endpoint::tick(self);
+    fn tick(&mut self) -> u8 {
+        reference::Endpoint::tick(self)
     }
 
     #[inline(always)]
-    fn wrap(&mut self, binding: u16, frame: &[u8], output: &mut [u8]) -> u8 {
+    fn wrap(&mut self, binding: u32, frame: &[u8], output: &mut [u8]) -> u8 {
         reference::Endpoint::wrap(self, binding, frame, 0, 7, output).code
     }
 }

@@ -39,9 +39,17 @@ fn or_none(number: Option<u16>) -> u16 {
     number.unwrap_or(library::numbers::NONE)
 }
 
-/// The code of an answer in the wrapper's types.
+/// The code of an answer in the cover's types.
 fn code_of<T>(result: Result<T, library::Refusal>) -> u8 {
     result.map_or_else(library::Refusal::number, |_| 0)
+}
+
+fn place_of_library(place: library::Place) -> (bool, usize, usize) {
+    (place.in_memory, place.start, place.length)
+}
+
+fn place_of_reference(place: reference::Place) -> (bool, usize, usize) {
+    (place.in_memory, place.start, place.length)
 }
 
 impl Default for Pair {
@@ -89,8 +97,9 @@ impl Pair {
             }
             Record::Receive { packet } => self.receive(packet),
             Record::Tick => {
-                self.library.tick();
-                Ok(self.reference.tick())
+                let code = self.library.as_numbers().tick();
+                same("code", code, self.reference.tick())?;
+                Ok(code)
             }
             Record::View {
                 in_memory,
@@ -101,14 +110,17 @@ impl Pair {
         }
     }
 
-    fn start(&mut self, own: u32, port: u16, mtu: u16) -> Result<u8, String> {
+    fn start(&mut self, own: u32, port: u32, mtu: u32) -> Result<u8, String> {
         let (endpoint, code) = library::numbers::Endpoint::start(own, port, mtu);
         self.library = endpoint.into();
         let (endpoint, expected) = reference::Endpoint::start(own, port, mtu);
         self.reference = endpoint;
         same("code", code, expected)?;
-        let typed = library::Endpoint::start(own.into(), port, mtu);
-        same("code in the wrapper", code_of(typed), expected)?;
+        // The cover's own types have no wider numbers.
+        if let (Ok(port), Ok(mtu)) = (port.try_into(), mtu.try_into()) {
+            let typed = library::Endpoint::start(own.into(), port, mtu);
+            same("code in the cover", code_of(typed), expected)?;
+        }
         Ok(code)
     }
 
@@ -120,7 +132,7 @@ impl Pair {
         Ok(added.code)
     }
 
-    fn binding(&mut self, peer: u16, kind: u8, id: u64, tenant: u16) -> Result<u8, String> {
+    fn binding(&mut self, peer: u32, kind: u32, id: u64, tenant: u32) -> Result<u8, String> {
         let numbers = self.library.as_numbers();
         let added = numbers.add_binding(peer, kind, id, tenant);
         let expected = self.reference.add_binding(peer, kind, id, tenant);
@@ -138,22 +150,17 @@ impl Pair {
         same("code", receipt.code, expected.code)?;
         same("tenant", receipt.tenant, or_none(expected.tenant))?;
         same("binding", receipt.binding, or_none(expected.binding))?;
-        let place = expected.place;
         same(
             "place (in memory, start, length)",
-            (
-                receipt.place.in_memory,
-                receipt.place.start,
-                receipt.place.length,
-            ),
-            (place.in_memory, place.start, place.length),
+            place_of_library(receipt.place),
+            place_of_reference(expected.place),
         )?;
         self.delivered(&receipt, &expected)?;
         same("packet", packet, &self.last_packet[..])?;
         Ok(receipt.code)
     }
 
-    /// The answer in the wrapper's types, and the bytes that it hands out.
+    /// The answer in the cover's types, and the bytes that it hands out.
     fn delivered(
         &self,
         receipt: &library::numbers::Receipt,
@@ -183,9 +190,15 @@ impl Pair {
             length,
         };
         let packet = &self.last_packet;
+        let memory = self.library_memory.contents();
+        same(
+            "cut (in memory, start, length)",
+            place_of_library(ours.cut(packet.len(), memory.len())),
+            place_of_reference(reference::cut(packet.len(), memory.len(), theirs)),
+        )?;
         same(
             "view",
-            ours.view(packet, self.library_memory.contents()),
+            ours.view(packet, memory),
             reference::view(packet, &self.reference_memory, theirs),
         )?;
         Ok(0)
@@ -211,12 +224,12 @@ impl Pair {
             .wrap(*binding, frame, *segment, *identifier, &mut output);
         same("code", wrapped.code, expected.code)?;
         same("length", wrapped.length, expected.length)?;
-        same("segments", wrapped.segments, expected.segments as usize)?;
+        same("segments", wrapped.segments, expected.segments)?;
         lent.check("output", &output)?;
         Ok(wrapped.code)
     }
 
-    /// Settings, listing and the frames under way.
+    /// Settings, listing and the pending frames.
     fn endpoints(&self) -> Result<(), String> {
         let (ours, theirs) = (&self.library, &self.reference);
         let config = theirs.config();
@@ -267,7 +280,7 @@ impl Pair {
         let reference = &self.reference;
         same("peer count", peers, reference.peers().len())?;
         same("binding count", bindings, reference.bindings().len())?;
-        let slots = raw.rows.iter().flat_map(|row| &row.slots);
+        let slots = raw.peers.iter().flat_map(|peer| &peer.slots);
         let free = slots.filter(|slot| !slot.pending);
         zeros("unused addresses", raw.addresses.into_iter().skip(peers))?;
         zeros("unused networks", raw.networks.into_iter().skip(bindings))?;

@@ -30,6 +30,8 @@ pub fn all(seed: u64) -> Vec<Sweep> {
         ("every cut of a frame", cuts(prng)),
         ("full listings", full_listings(prng)),
         ("starts and bindings at their bounds", bounds()),
+        ("numbers beyond 16 bits", wide(prng)),
+        ("places at their bounds", places(prng)),
         ("noise", noise(prng)),
         ("every length of a wrap", wraps(prng)),
     ];
@@ -52,11 +54,11 @@ fn set_up(prng: &mut Prng) -> Vec<Record> {
     set_up_at(prng, 1500)
 }
 
-fn set_up_at(prng: &mut Prng, mtu: u16) -> Vec<Record> {
+fn set_up_at(prng: &mut Prng, mtu: u32) -> Vec<Record> {
     let mut run = vec![
         Record::Start {
             own: OWN,
-            port: PORT,
+            port: PORT.into(),
             mtu,
         },
         Record::Peer {
@@ -65,9 +67,9 @@ fn set_up_at(prng: &mut Prng, mtu: u16) -> Vec<Record> {
     ];
     run.extend([VXLAN, NVGRE, STT].map(|kind| Record::Binding {
         peer: 0,
-        kind,
+        kind: kind.into(),
         id: ID,
-        tenant: 100 + u16::from(kind),
+        tenant: 100 + u32::from(kind),
     }));
     run.push(lend(prng));
     run
@@ -95,7 +97,7 @@ fn inner(prng: &mut Prng, length: usize) -> Vec<u8> {
 }
 
 /// Also the outer values of every 16-bit word; with the checksums repaired and
-/// without. A segment that is held is given up before its slot is needed.
+/// without. A pending frame is given up before its slot is needed.
 fn header_bytes(prng: &mut Prng) -> Vec<Record> {
     let mut run = set_up(prng);
     for packet in packets(&inner(prng, 21)) {
@@ -215,15 +217,15 @@ fn from_peer(number: u32) -> Path {
 }
 
 /// Peer, kind and id of the full listings' bindings.
-fn networks() -> impl Iterator<Item = (u16, u8, u64)> {
-    (0..66u16).map(|n| (n % 8, (n / 8 % 3) as u8 + 1, 4096 + u64::from(n) / 5))
+fn networks() -> impl Iterator<Item = (u32, u32, u64)> {
+    (0..66u32).map(|n| (n % 8, n / 8 % 3 + 1, 4096 + u64::from(n) / 5))
 }
 
 /// Eight peers and 64 bindings, then some that no longer fit.
 fn full_set_up(prng: &mut Prng) -> Vec<Record> {
     let mut run = vec![Record::Start {
         own: OWN,
-        port: PORT,
+        port: PORT.into(),
         mtu: 1600,
     }];
     run.extend((0..10).map(|peer| Record::Peer {
@@ -233,7 +235,7 @@ fn full_set_up(prng: &mut Prng) -> Vec<Record> {
         peer,
         kind,
         id,
-        tenant: prng.draw() as u16,
+        tenant: prng.draw() as u32 & 0xFFFF,
     }));
     run.push(lend(prng));
     run
@@ -245,7 +247,7 @@ fn full_listings(prng: &mut Prng) -> Vec<Record> {
     let mut identifier = 0;
     for _ in 0..20 {
         for (peer, _, id) in networks() {
-            let (path, id) = (from_peer(u32::from(peer)), id + prng.below(2) as u64);
+            let (path, id) = (from_peer(peer), id + prng.below(2) as u64);
             let length = prng.between(14, 90);
             let frame = inner(prng, length);
             identifier += 1;
@@ -288,13 +290,96 @@ fn bounds() -> Vec<Record> {
     let ids = [0, 1, 4095, 4096, 0xFF_FFFE, 0xFF_FFFF, 0x100_0000, u64::MAX];
     for id in ids {
         for kind in 0..=255 {
-            for peer in [0, 7, 8, u16::MAX] {
+            for peer in [0, 7, 8, 65_535] {
                 run.push(Record::Binding {
                     peer,
                     kind,
                     id,
-                    tenant: u16::from(kind),
+                    tenant: kind,
                 });
+            }
+        }
+    }
+    run
+}
+
+/// Numbers whose low bits would be in range: with each of a call's numbers in
+/// turn, and with all.
+fn wide(prng: &mut Prng) -> Vec<Record> {
+    let mut run = Vec::new();
+    let far = [256, 65_536, 1 << 17, 1 << 24, 1 << 31, u32::MAX - 65_535];
+    for more in far {
+        for (port, mtu) in [(more, 0), (0, more), (more, more)] {
+            let (port, mtu) = (u32::from(PORT) + port, 1500 + mtu);
+            run.push(Record::Start {
+                own: OWN,
+                port,
+                mtu,
+            });
+            run.push(Record::Peer {
+                address: FROM_A.from,
+            });
+        }
+        run.push(Record::Start {
+            own: OWN,
+            port: more + 1,
+            mtu: 66_000,
+        });
+    }
+    run.extend(set_up(prng));
+    for more in far {
+        for which in 1..8u32 {
+            let by = |bit: u32| if which & bit == 0 { 0 } else { more };
+            for (kind, tenant) in [(1, 7), (2, 0), (3, 65_535)] {
+                run.push(Record::Binding {
+                    peer: by(1),
+                    kind: kind + by(2),
+                    id: ID + 1,
+                    tenant: by(4).wrapping_add(tenant),
+                });
+            }
+        }
+        for binding in 0..3 {
+            run.push(Record::Wrap {
+                binding: binding + more,
+                segment: 0,
+                identifier: 1,
+                output_length: 200,
+                frame: inner(prng, 60),
+            });
+        }
+    }
+    run
+}
+
+/// Places that just fit, just do not, and whose numbers are near the largest:
+/// of packets of several lengths, and of a long and of a short memory.
+fn places(prng: &mut Prng) -> Vec<Record> {
+    let mut run = set_up(prng);
+    for memory in [0, 1, 1728, ENOUGH] {
+        run.push(Record::Lend {
+            length: memory as u32,
+            seed: prng.draw() as u32,
+        });
+        for packet in [0, 1, 20, 50, 1500] {
+            run.push(receive(vec![0; packet]));
+            let ends = [0, 1, packet, memory, 1 << 32, usize::MAX];
+            let near = |end: usize| (0..5usize).map(move |i| end.wrapping_add(i).wrapping_sub(2));
+            let numbers: Vec<u64> = ends
+                .into_iter()
+                .flat_map(near)
+                .map(|number| number as u64)
+                .collect();
+            for &start in &numbers {
+                for &length in &numbers {
+                    for in_memory in [false, true] {
+                        run.push(Record::View {
+                            in_memory,
+                            start,
+                            length,
+                        });
+                    }
+                }
             }
         }
     }
@@ -324,14 +409,14 @@ fn wraps(prng: &mut Prng) -> Vec<Record> {
         run.extend(set_up(prng));
         run.push(Record::Start {
             own: OWN,
-            port: PORT,
+            port: PORT.into(),
             mtu,
         });
         let listing: Vec<Record> = run[1..5].to_vec();
         run.extend(listing);
         for length in 0..=1516 {
             let frame = inner(prng, length);
-            let room = usize::from(mtu) - 40;
+            let room = mtu as usize - 40;
             let segments = (18 + length).div_ceil(room);
             for (binding, segment) in (0..=segments as u32).map(|segment| (2, segment)).chain([
                 (0, 0),

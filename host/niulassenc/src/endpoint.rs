@@ -2,13 +2,14 @@
 
 use crate::ffi;
 use crate::kind::Kind;
+use crate::limits::SLOTS;
 use crate::numbers;
 use crate::place::Place;
 use crate::refusal::Refusal;
 use core::net::Ipv4Addr;
 
 /// One tunnel endpoint: settings, peers, bindings, and what it knows of the
-/// frames under way. It is a plain value of 1,072 bytes that refers to nothing.
+/// pending frames. It is a plain value of 1,072 bytes that refers to nothing.
 #[derive(Clone, Debug, PartialEq, Eq)]
 pub struct Endpoint {
     numbers: numbers::Endpoint,
@@ -19,7 +20,7 @@ pub struct Endpoint {
 pub enum Received<'a> {
     /// Answer 0: a frame for a tenant.
     Delivered(Frame<'a>),
-    /// Answer 1: the segment is held, its frame is not yet whole.
+    /// Answer 1: the segment is received, its frame is not yet complete.
     Pending,
 }
 
@@ -49,7 +50,7 @@ pub struct Binding {
     pub tenant: u16,
 }
 
-/// An STT frame under way.
+/// An STT frame that is not yet complete.
 #[derive(Clone, Copy, Debug, PartialEq, Eq)]
 pub struct Pending {
     /// The identifier of its segments.
@@ -66,7 +67,7 @@ pub struct Wrapped {
     /// Bytes of the packet, at the start of the output.
     pub length: usize,
     /// How many segments the frame has: 1 but for STT.
-    pub segments: usize,
+    pub segments: u32,
 }
 
 impl Endpoint {
@@ -74,7 +75,7 @@ impl Endpoint {
     /// expected, and the largest outer packet that is written (576 to 1,600).
     /// Refused with 18 where one of them is out of its range.
     pub fn start(own: Ipv4Addr, stt_port: u16, mtu: u16) -> Result<Endpoint, Refusal> {
-        let (numbers, code) = numbers::Endpoint::start(own.into(), stt_port, mtu);
+        let (numbers, code) = numbers::Endpoint::start(own.into(), stt_port.into(), mtu.into());
         Refusal::check(code)?;
         Ok(Endpoint { numbers })
     }
@@ -95,7 +96,9 @@ impl Endpoint {
         network: u64,
         tenant: u16,
     ) -> Result<u16, Refusal> {
-        let added = self.numbers.add_binding(peer, kind.into(), network, tenant);
+        let added = self
+            .numbers
+            .add_binding(peer.into(), kind.into(), network, tenant.into());
         Refusal::check(added.code)?;
         Ok(added.number)
     }
@@ -123,15 +126,17 @@ impl Endpoint {
         self.numbers.receive(packet, memory).read(packet, memory)
     }
 
-    /// One tick of the clock: each frame under way grows older by 1, and those
-    /// that reach 4 are given up.
+    /// One tick of the clock: each pending frame grows older by 1, and those that
+    /// reach 4 are given up. It always succeeds (answer 0). To learn how many
+    /// frames it gave up, count those of [`pending`](Endpoint::pending) before and
+    /// after.
     pub fn tick(&mut self) {
         self.numbers.tick();
     }
 
     /// Writes segment number `segment` of an inner frame to the start of
     /// `output`; VXLAN and NVGRE have segment 0 only. The identifier, any number
-    /// that no other frame under way to this peer has, is used by STT alone.
+    /// that no other frame pending at this peer has, is used by STT alone.
     /// Refused with 13 or 21 to 23.
     pub fn wrap(
         &self,
@@ -143,7 +148,7 @@ impl Endpoint {
     ) -> Result<Wrapped, Refusal> {
         let wrapped = self
             .numbers
-            .wrap(binding, frame, segment, identifier, output);
+            .wrap(binding.into(), frame, segment, identifier, output);
         Refusal::check(wrapped.code)?;
         Ok(Wrapped {
             length: wrapped.length,
@@ -186,11 +191,17 @@ impl Endpoint {
         })
     }
 
-    /// The frames under way from a peer, by slot; none for a number that no
-    /// peer can have.
-    pub fn pending(&self, peer: u16) -> [Option<Pending>; 4] {
-        let row = self.raw().rows.get(usize::from(peer));
-        row.map_or([None; 4], |row| row.slots.map(pending))
+    /// The pending frames of a peer, by slot; none for a number that no peer can
+    /// have.
+    pub fn pending(&self, peer: u16) -> [Option<Pending>; SLOTS] {
+        let peer = self.raw().peers.get(usize::from(peer));
+        peer.map_or([None; SLOTS], |peer| peer.slots.map(pending))
+    }
+
+    /// How many frames are pending, of all peers.
+    pub fn pending_count(&self) -> usize {
+        let slots = self.raw().peers.iter().flat_map(|peer| &peer.slots);
+        slots.filter(|slot| slot.pending).count()
     }
 
     /// The endpoint for the calls with plain numbers.

@@ -1,13 +1,11 @@
-//! The archive's structs and functions, as `crates/export/src` declares them. A
-//! slice crosses as a pointer and a length, a lent endpoint as a pointer.
+//! The archive's structs and functions, as `include/niulassenc.h` declares them.
+//! A slice crosses as a pointer and a length, a lent endpoint as a pointer.
 
 use core::mem::{align_of, offset_of, size_of};
 
-pub const PEERS: usize = 8;
-pub const BINDINGS: usize = 64;
-pub const SLOTS: usize = 4;
+use crate::limits::{BINDINGS, PEERS, SLOTS};
 
-/// A slot of the reassembly memory: a frame under way, or free, every number 0.
+/// A slot of the reassembly memory: a pending frame, or free, every number 0.
 #[repr(C)]
 #[derive(Clone, Copy, Debug, PartialEq, Eq)]
 pub struct Slot {
@@ -17,14 +15,14 @@ pub struct Slot {
     pub frame_length: u16,
     /// Ticks since its first segment.
     pub age: u8,
-    /// Whether a frame is under way.
+    /// Whether a frame is pending.
     pub pending: bool,
 }
 
 /// The slots of one peer.
 #[repr(C)]
 #[derive(Clone, Copy, Debug, PartialEq, Eq)]
-pub struct Row {
+pub struct Peer {
     /// By number.
     pub slots: [Slot; SLOTS],
 }
@@ -37,7 +35,7 @@ pub struct Endpoint {
     /// The network id of each binding.
     pub networks: [u64; BINDINGS],
     /// The slots of each peer.
-    pub rows: [Row; PEERS],
+    pub peers: [Peer; PEERS],
     /// The address of each peer.
     pub addresses: [u32; PEERS],
     /// Our own address.
@@ -81,23 +79,34 @@ pub struct Receipt {
 }
 
 #[repr(C)]
-pub struct Wrapped {
+pub struct Writing {
     pub length: usize,
-    pub segments: usize,
+    pub segments: u32,
     pub code: u8,
 }
 
+#[repr(C)]
+pub struct PartAt {
+    pub start: usize,
+    pub length: usize,
+    pub in_memory: bool,
+}
+
 extern "C" {
-    pub fn niulassenc_start(own: u32, port: u16, mtu: u16) -> Started;
+    pub fn niulassenc_version() -> u32;
+
+    pub fn niulassenc_endpoint_bytes() -> u32;
+
+    pub fn niulassenc_start(own: u32, port: u32, mtu: u32) -> Started;
 
     pub fn niulassenc_add_peer(endpoint: *mut Endpoint, address: u32) -> Addition;
 
     pub fn niulassenc_add_binding(
         endpoint: *mut Endpoint,
-        peer: u16,
-        kind: u8,
+        peer: u32,
+        kind: u32,
         network: u64,
-        tenant: u16,
+        tenant: u32,
     ) -> Addition;
 
     pub fn niulassenc_receive(
@@ -108,18 +117,26 @@ extern "C" {
         memory_length: usize,
     ) -> Receipt;
 
-    pub fn niulassenc_tick(endpoint: *mut Endpoint);
+    pub fn niulassenc_tick(endpoint: *mut Endpoint) -> u8;
 
     pub fn niulassenc_wrap(
         endpoint: *const Endpoint,
-        binding: u16,
+        binding: u32,
         frame: *const u8,
         frame_length: usize,
         segment: u32,
         identifier: u32,
         output: *mut u8,
         output_length: usize,
-    ) -> Wrapped;
+    ) -> Writing;
+
+    pub fn niulassenc_cut(
+        packet_length: usize,
+        memory_length: usize,
+        start: usize,
+        length: usize,
+        in_memory: bool,
+    ) -> PartAt;
 }
 
 /// Stops the build where a size or an offset is not the archive's.
@@ -134,10 +151,11 @@ macro_rules! layout {
 }
 
 layout!(Slot: 8, 4; identifier 0, frame_length 4, age 6, pending 7);
-layout!(Row: 32, 4; slots 0);
-layout!(Endpoint: 1072, 8; networks 0, rows 512, addresses 768, own 800, tenants 804, port 932,
+layout!(Peer: 32, 4; slots 0);
+layout!(Endpoint: 1072, 8; networks 0, peers 512, addresses 768, own 800, tenants 804, port 932,
     mtu 934, peer_count 936, binding_count 938, kinds 940, owners 1004);
 layout!(Started: 1080, 8; endpoint 0, code 1072);
 layout!(Addition: 4, 2; number 0, code 2);
 layout!(Receipt: 24, 8; start 0, length 8, tenant 16, binding 18, code 20, in_memory 21);
-layout!(Wrapped: 24, 8; length 0, segments 8, code 16);
+layout!(Writing: 16, 8; length 0, segments 8, code 12);
+layout!(PartAt: 24, 8; start 0, length 8, in_memory 16);

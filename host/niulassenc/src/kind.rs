@@ -2,7 +2,7 @@
 
 use crate::refusal::Refusal;
 
-/// The three tunnels; the discriminant is the number in the listing.
+/// The three tunnels; the discriminant is the number in the configuration.
 #[derive(Clone, Copy, Debug, PartialEq, Eq, Hash)]
 #[repr(u8)]
 pub enum Kind {
@@ -20,7 +20,13 @@ impl From<Kind> for u8 {
     }
 }
 
-/// Any other number than 1, 2 and 3 is refused with 18, as the listing does.
+impl From<Kind> for u32 {
+    fn from(kind: Kind) -> u32 {
+        u32::from(u8::from(kind))
+    }
+}
+
+/// Any other number than 1, 2 and 3 is refused with 18, as an adding call does.
 impl TryFrom<u8> for Kind {
     type Error = Refusal;
 

@@ -2,7 +2,7 @@
 //!
 //! Outer IPv4 packets go in; inner Ethernet frames come out, each with the
 //! tenant whose it is. STT is reassembled in memory that the caller lends. This
-//! crate is a thin, safe cover over the archive that `rt staticlib export`
+//! crate is a thin, safe cover over the archive that `rt staticlib niulassenc`
 //! writes: it allocates nothing, keeps no global state, and needs no `std`.
 //!
 //! ```
@@ -26,7 +26,7 @@
 //!         assert_eq!(frame.tenant, 7);
 //!         assert_eq!(frame.bytes, &packet[36..]);
 //!     }
-//!     Ok(Received::Pending) => unreachable!("a VXLAN packet holds a whole frame"),
+//!     Ok(Received::Pending) => unreachable!("a VXLAN packet has a complete frame"),
 //!     Err(refusal) => panic!("dropped: {refusal}"),
 //! }
 //!
@@ -45,24 +45,24 @@
 //! ```
 
 #![no_std]
-#![warn(missing_docs)]
-#![deny(unsafe_op_in_unsafe_fn, clippy::undocumented_unsafe_blocks)]
+#![deny(missing_docs, unsafe_op_in_unsafe_fn)]
+#![deny(clippy::undocumented_unsafe_blocks)]
 
 mod endpoint;
 mod ffi;
 mod kind;
+pub mod limits;
 pub mod numbers;
 mod place;
 mod refusal;
+mod version;
 
-pub use endpoint::Wrapped;
-pub use endpoint::{Binding, Endpoint, Frame, Pending, Received};
+pub use endpoint::{Binding, Endpoint, Frame, Pending, Received, Wrapped};
 pub use kind::Kind;
+pub use limits::MEMORY_NEEDED;
 pub use place::Place;
-pub use refusal::Refusal;
-
-/// Least length of the reassembly memory.
-pub const MEMORY_NEEDED: usize = 55_296;
+pub use refusal::{text, Refusal};
+pub use version::{matches, version, VERSION};
 
 /// README's Rust program is run with this crate's tests.
 #[cfg(doctest)]

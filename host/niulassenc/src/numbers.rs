@@ -1,9 +1,10 @@
 //! The calls with plain numbers in and out, as C has them: an answer is document
-//! 01's number, an address or a kind is a number that may be out of its range.
-//! The crate's own types stand on these; they serve who has numbers anyway.
+//! 01's number; a setting, a kind or the number of a peer, a tenant or a binding
+//! is 32 bits wide and may be out of its range. The crate's own types stand on
+//! these; they serve who has numbers anyway.
 
 use crate::ffi;
-pub use crate::ffi::{Endpoint as Raw, Row, Slot};
+pub use crate::ffi::{Endpoint as Raw, Peer, Slot};
 use crate::place::Place;
 
 /// What stands for a tenant, a binding or a new number where there is none.
@@ -43,7 +44,7 @@ pub struct Wrapped {
     /// Bytes of the packet; 0 in a refusal.
     pub length: usize,
     /// How many segments the frame has; 0 in a refusal.
-    pub segments: usize,
+    pub segments: u32,
     /// 0, 13, 21, 22 or 23.
     pub code: u8,
 }
@@ -51,7 +52,13 @@ pub struct Wrapped {
 impl Endpoint {
     /// A fresh endpoint and 0; or 18 and an endpoint with every number 0, to
     /// which nothing can be added.
-    pub fn start(own: u32, stt_port: u16, mtu: u16) -> (Endpoint, u8) {
+    ///
+    /// # Panics
+    ///
+    /// Where the archive is of another version than this crate
+    /// ([`matches`](crate::matches)): its calls could write past an endpoint.
+    pub fn start(own: u32, stt_port: u32, mtu: u32) -> (Endpoint, u8) {
+        assert!(crate::matches(), "the archive is of another version");
         // SAFETY: three numbers go in and a struct comes back by value, whose
         // layout `ffi` asserts. Every contract of the archive is proved for
         // every input, so it has no precondition beyond its types.
@@ -77,7 +84,7 @@ impl Endpoint {
     /// Binds a network of a listed peer to a tenant. Kinds are 1 (VXLAN), 2
     /// (NVGRE) and 3 (STT).
     #[inline]
-    pub fn add_binding(&mut self, peer: u16, kind: u8, network: u64, tenant: u16) -> Addition {
+    pub fn add_binding(&mut self, peer: u32, kind: u32, network: u64, tenant: u32) -> Addition {
         // SAFETY: as in `add_peer`.
         let added =
             unsafe { ffi::niulassenc_add_binding(&mut self.raw, peer, kind, network, tenant) };
@@ -115,9 +122,9 @@ impl Endpoint {
         }
     }
 
-    /// One tick of the clock.
+    /// One tick of the clock. The answer is always 0.
     #[inline]
-    pub fn tick(&mut self) {
+    pub fn tick(&mut self) -> u8 {
         // SAFETY: as in `add_peer`.
         unsafe { ffi::niulassenc_tick(&mut self.raw) }
     }
@@ -126,7 +133,7 @@ impl Endpoint {
     #[inline]
     pub fn wrap(
         &self,
-        binding: u16,
+        binding: u32,
         frame: &[u8],
         segment: u32,
         identifier: u32,

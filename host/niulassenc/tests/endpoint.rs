@@ -81,8 +81,9 @@ fn a_frame_in_the_memory() {
     let mut memory = vec![0xAA; MEMORY_NEEDED];
     let at_18 = memory[18..].as_ptr();
     let last = last_segment();
-    let held = endpoint.receive(&last, &mut memory);
-    assert_eq!(held, Ok(Received::Pending));
+    let received = endpoint.receive(&last, &mut memory);
+    assert_eq!(received, Ok(Received::Pending));
+    assert_eq!(endpoint.pending_count(), 1);
     endpoint.tick();
     let pending = Pending {
         identifier: 5,
@@ -108,8 +109,8 @@ fn a_frame_given_up_after_four_ticks() {
     let mut memory = vec![0; MEMORY_NEEDED];
     let last = last_segment();
     for (ticks, left) in [(3, true), (4, false)] {
-        let held = endpoint.receive(&last, &mut memory);
-        assert_eq!(held, Ok(Received::Pending));
+        let pending = endpoint.receive(&last, &mut memory);
+        assert_eq!(pending, Ok(Received::Pending));
         for _ in 0..ticks {
             endpoint.tick();
         }
@@ -130,17 +131,17 @@ fn refusals_leave_everything() {
         packet
     };
     let refused = endpoint.receive(&[], &mut memory[1..]);
-    assert_eq!(refused, Err(Refusal::MemoryTooShort));
+    assert_eq!(refused, Err(Refusal::MemoryTooSmall));
     let refused = endpoint.receive(&[], &mut memory);
-    assert_eq!(refused, Err(Refusal::MalformedIpv4));
+    assert_eq!(refused, Err(Refusal::NotIpv4));
     let refused = endpoint.receive(&wrong_sum, &mut memory);
-    assert_eq!(refused, Err(Refusal::Ipv4Checksum));
+    assert_eq!(refused, Err(Refusal::BadIpv4Checksum));
     assert_eq!(endpoint, before);
     assert!(memory.iter().all(|&byte| byte == 7));
 }
 
 #[test]
-fn the_listing() {
+fn the_configuration() {
     let mut endpoint = endpoint();
     assert_eq!(endpoint.own_address(), OWN);
     assert_eq!((endpoint.stt_port(), endpoint.mtu()), (7471, 1500));
@@ -162,7 +163,7 @@ fn the_listing() {
         assert_eq!(added, Ok(u16::from(last) - 2));
     }
     let full = endpoint.add_peer(Ipv4Addr::new(10, 0, 0, 10));
-    assert_eq!(full, Err(Refusal::ListingFull));
+    assert_eq!(full, Err(Refusal::Full));
     let reserved = endpoint.add_binding(0, Kind::Nvgre, 4095, 1);
     assert_eq!(reserved, Err(Refusal::OutOfRange));
     let again = endpoint.add_binding(0, Kind::Vxlan, 22, 9);
@@ -197,11 +198,10 @@ fn numbers_of_refusals_and_kinds() {
     for &refusal in Refusal::ALL {
         assert_eq!(Refusal::from_number(refusal.number()), Some(refusal));
     }
-    for number in [0, 1, 24, 255] {
-        assert_eq!(Refusal::from_number(number), None);
-    }
+    assert_eq!(Refusal::from_number(0), None);
+    assert_eq!(Refusal::from_number(1), None);
     let text = Refusal::NotForUs.to_string();
-    assert_eq!(text, "destination is not our address (6)");
+    assert_eq!(text, "not for our address (6)");
     for number in 0..=255 {
         match Kind::try_from(number) {
             Ok(kind) => assert_eq!(u8::from(kind), number),
@@ -211,6 +211,44 @@ fn numbers_of_refusals_and_kinds() {
             }
         }
     }
+}
+
+/// A later version of the library may answer more than this one knows.
+#[test]
+fn an_unknown_code_is_a_refusal() {
+    for number in 24..=255 {
+        let refusal = Refusal::Unknown(number);
+        assert_eq!(Refusal::from_number(number), Some(refusal));
+        assert_eq!(refusal.number(), number);
+        assert_eq!(refusal.to_string(), format!("unknown code ({number})"));
+        let receipt = numbers::Receipt {
+            place: Place::default(),
+            tenant: numbers::NONE,
+            binding: numbers::NONE,
+            code: number,
+        };
+        assert_eq!(receipt.read(&[], &[]), Err(refusal));
+    }
+}
+
+#[test]
+fn numbers_beyond_16_bits_are_refused() {
+    let own = u32::from(OWN);
+    for (port, mtu) in [(65_537, 1500), (7471, 66_000), (7471, 65_536 + 1500)] {
+        let (refused, code) = numbers::Endpoint::start(own, port, mtu);
+        assert_eq!(code, 18);
+        assert_eq!((refused.raw().own, refused.raw().port), (0, 0));
+    }
+    let mut endpoint = endpoint();
+    let endpoint = endpoint.as_numbers();
+    for (peer, kind, tenant) in [(65_536, 1, 7), (0, 257, 7), (0, 1, 65_536)] {
+        let added = endpoint.add_binding(peer, kind, 23, tenant);
+        assert_eq!((added.code, added.number), (18, numbers::NONE));
+    }
+    let mut output = [0; 100];
+    let wrapped = endpoint.wrap(65_536, &T, 0, 0, &mut output);
+    assert_eq!((wrapped.code, wrapped.length, wrapped.segments), (23, 0, 0));
+    assert_eq!(endpoint.tick(), 0);
 }
 
 #[test]

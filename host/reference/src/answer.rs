@@ -6,19 +6,19 @@ pub type Code = u8;
 /// Delivered, written or done.
 pub const DONE: Code = 0;
 
-/// Segment held, its frame not yet complete.
-pub const HELD: Code = 1;
+/// Segment received, its frame not yet complete.
+pub const PENDING: Code = 1;
 
 /// Why a call was refused; the discriminant is the number in the paper's table.
 #[derive(Clone, Copy, Debug, PartialEq, Eq)]
 #[repr(u8)]
 pub enum Refusal {
     /// Reassembly memory under 55,296 bytes.
-    MemoryTooShort = 2,
+    MemoryTooSmall = 2,
     /// Too short, not version 4, or lengths that contradict each other.
-    MalformedIpv4 = 3,
+    NotIpv4 = 3,
     /// IPv4 header checksum wrong.
-    Ipv4Checksum = 4,
+    BadIpv4Checksum = 4,
     /// More-fragments bit set or fragment offset not 0.
     Fragment = 5,
     /// Destination is not our address.
@@ -26,37 +26,37 @@ pub enum Refusal {
     /// Source is not a listed peer.
     UnknownPeer = 7,
     /// Protocol or destination port of no tunnel.
-    NotATunnel = 8,
+    UnknownProtocol = 8,
     /// UDP, GRE or TCP-shaped header broken.
-    BrokenCarriage = 9,
+    BadTransportHeader = 9,
     /// UDP checksum non-zero and wrong, or TCP checksum wrong.
-    TransportChecksum = 10,
+    BadTransportChecksum = 10,
     /// VXLAN, NVGRE or STT frame header wrong.
-    TunnelHeader = 11,
+    BadTunnelHeader = 11,
     /// No binding for this peer, kind and network id.
     NoBinding = 12,
     /// Inner frame breaks its rule.
-    InnerFrame = 13,
+    BadFrame = 13,
     /// Segment empty, frame length out of range, or segment past its frame.
-    SegmentBounds = 14,
+    BadSegment = 14,
     /// The identifier is pending with another length.
-    LengthMismatch = 15,
-    /// Some byte of the segment is already held.
-    Overlap = 16,
+    LengthDiffers = 15,
+    /// Some byte of the segment was received already.
+    AlreadyReceived = 16,
     /// A new identifier, and the peer's four slots are taken.
-    SlotsFull = 17,
+    NoSlot = 17,
     /// A setting or binding outside its range, or naming a peer not listed.
     OutOfRange = 18,
     /// Peer or binding already listed.
     AlreadyListed = 19,
     /// Peers or bindings full.
-    ListingFull = 20,
+    Full = 20,
     /// Output shorter than the packet.
     OutputTooShort = 21,
     /// VXLAN or NVGRE packet would exceed the MTU.
     ExceedsMtu = 22,
     /// No such binding, or no such segment number.
-    NoSuchBindingOrSegment = 23,
+    NoSuch = 23,
 }
 
 impl Refusal {
@@ -161,5 +161,20 @@ pub fn view<'a>(packet: &'a [u8], memory: &'a [u8], place: Place) -> &'a [u8] {
         &slice[place.start..place.start + place.length]
     } else {
         &packet[..0]
+    }
+}
+
+/// The place that [`view`] hands back, of a packet and a memory of which only
+/// the lengths are known.
+pub fn cut(packet_length: usize, memory_length: usize, place: Place) -> Place {
+    let room = if place.in_memory {
+        memory_length
+    } else {
+        packet_length
+    };
+    if place.fits(room) {
+        place
+    } else {
+        Place::EMPTY
     }
 }

@@ -1,6 +1,6 @@
 //! The endpoint: listing, pending frames, and the order of the checks.
 
-use crate::answer::{Added, Answer, Code, Place, Refusal, Wrapped, DONE, HELD};
+use crate::answer::{Added, Answer, Code, Place, Refusal, Wrapped, DONE, PENDING};
 use crate::headers::{self, Carriage, Ipv4, Segment};
 use crate::headers::{GRE_HEADER, STT_HEADER, UDP_HEADER, VXLAN_HEADER};
 use crate::listing::{Binding, Config, Kind, Listing, MAX_PEERS};
@@ -19,7 +19,7 @@ pub struct Endpoint {
 impl Endpoint {
     /// A fresh endpoint, and 0; or, when a setting is out of range, 18 and an
     /// endpoint with every number 0 and no listing.
-    pub fn start(own: u32, stt_port: u16, mtu: u16) -> (Endpoint, Code) {
+    pub fn start(own: u32, stt_port: u32, mtu: u32) -> (Endpoint, Code) {
         let (config, code) = match Config::checked(own, stt_port, mtu) {
             Ok(config) => (config, DONE),
             Err(refusal) => (Config::default(), refusal.code()),
@@ -47,7 +47,7 @@ impl Endpoint {
         self.listing.bindings()
     }
 
-    /// The frames under way, by peer and slot.
+    /// The pending frames, by peer and slot.
     pub fn pending(&self) -> &[Row; MAX_PEERS] {
         self.reassembly.rows()
     }
@@ -59,7 +59,7 @@ impl Endpoint {
 
     /// Lists a network of a peer: 18, 19, 20, or 0 with its number. On a
     /// refused start no peer is listed, so every binding is 18.
-    pub fn add_binding(&mut self, peer: u16, kind: u8, network_id: u64, tenant: u16) -> Added {
+    pub fn add_binding(&mut self, peer: u32, kind: u32, network_id: u64, tenant: u32) -> Added {
         self.listing
             .add_binding(peer, kind, network_id, tenant)
             .into()
@@ -81,7 +81,7 @@ impl Endpoint {
     /// identifier is used by STT only; VXLAN and NVGRE have segment 0 alone.
     pub fn wrap(
         &self,
-        binding: u16,
+        binding: u32,
         frame: &[u8],
         segment: u32,
         identifier: u32,
@@ -103,7 +103,7 @@ impl Endpoint {
     /// Checks 2 to 7, then those of the carriage, then those of the kind.
     fn try_receive(&mut self, packet: &[u8], memory: &mut [u8]) -> Result<Answer, Refusal> {
         if memory.len() < MEMORY_NEEDED {
-            return Err(Refusal::MemoryTooShort);
+            return Err(Refusal::MemoryTooSmall);
         }
         let ip = Ipv4::parse(packet)?;
         if ip.destination != self.config.own {
@@ -146,7 +146,7 @@ impl Endpoint {
         memory: &mut [u8],
     ) -> Result<Answer, Refusal> {
         let (start, length) = match self.reassembly.take(peer, segment, memory)? {
-            Taken::Held => return Ok(Answer::without_frame(HELD)),
+            Taken::Pending => return Ok(Answer::without_frame(PENDING)),
             Taken::Complete { start, length } => (start, length),
         };
         let frame = &memory[start..start + length];

@@ -60,7 +60,7 @@ impl<'a> Ipv4<'a> {
     /// Checks 3, 4 and 5, in this order.
     pub fn parse(packet: &'a [u8]) -> Result<Ipv4<'a>, Refusal> {
         if packet.len() < IPV4_HEADER || packet[0] >> 4 != 4 {
-            return Err(Refusal::MalformedIpv4);
+            return Err(Refusal::NotIpv4);
         }
         let header_length = usize::from(packet[0] & 0x0F) * 4;
         let total_length = usize::from(be16(packet, 2));
@@ -68,11 +68,11 @@ impl<'a> Ipv4<'a> {
             || total_length < header_length
             || total_length > packet.len()
         {
-            return Err(Refusal::MalformedIpv4);
+            return Err(Refusal::NotIpv4);
         }
         // RFC 1071, section 1 (3): right when the sum, field included, is all ones.
         if checksum::sum(&packet[..header_length]) != 0xFFFF {
-            return Err(Refusal::Ipv4Checksum);
+            return Err(Refusal::BadIpv4Checksum);
         }
         // More-fragments (0x2000) and the offset; 0x4000 and 0x8000 are free.
         if be16(packet, 6) & 0x3FFF != 0 {
@@ -122,9 +122,9 @@ impl<'a> Carriage<'a> {
         match ip.protocol {
             PROTOCOL_UDP => parse_udp(ip).map(Carriage::Vxlan),
             PROTOCOL_TCP => parse_segment(ip, stt_port).map(Carriage::Stt),
-            PROTOCOL_GRE if ip.payload.len() < GRE_HEADER => Err(Refusal::BrokenCarriage),
+            PROTOCOL_GRE if ip.payload.len() < GRE_HEADER => Err(Refusal::BadTransportHeader),
             PROTOCOL_GRE => Ok(Carriage::Nvgre(ip.payload)),
-            _ => Err(Refusal::NotATunnel),
+            _ => Err(Refusal::UnknownProtocol),
         }
     }
 }
@@ -132,18 +132,18 @@ impl<'a> Carriage<'a> {
 fn parse_udp<'a>(ip: &Ipv4<'a>) -> Result<&'a [u8], Refusal> {
     let datagram = ip.payload;
     if datagram.len() < UDP_HEADER {
-        return Err(Refusal::BrokenCarriage);
+        return Err(Refusal::BadTransportHeader);
     }
     if be16(datagram, 2) != VXLAN_PORT {
-        return Err(Refusal::NotATunnel);
+        return Err(Refusal::UnknownProtocol);
     }
     let length = usize::from(be16(datagram, 4));
     if length != datagram.len() || length < UDP_HEADER + VXLAN_HEADER {
-        return Err(Refusal::BrokenCarriage);
+        return Err(Refusal::BadTransportHeader);
     }
     // RFC 768: a field of 0 means that the sender worked out no checksum.
     if be16(datagram, 6) != 0 && !ip.transport_sum_is_right() {
-        return Err(Refusal::TransportChecksum);
+        return Err(Refusal::BadTransportChecksum);
     }
     Ok(&datagram[UDP_HEADER..])
 }
@@ -151,18 +151,18 @@ fn parse_udp<'a>(ip: &Ipv4<'a>) -> Result<&'a [u8], Refusal> {
 fn parse_segment<'a>(ip: &Ipv4<'a>, stt_port: u16) -> Result<Segment<'a>, Refusal> {
     let segment = ip.payload;
     if segment.len() < TCP_HEADER {
-        return Err(Refusal::BrokenCarriage);
+        return Err(Refusal::BadTransportHeader);
     }
     if be16(segment, 2) != stt_port {
-        return Err(Refusal::NotATunnel);
+        return Err(Refusal::UnknownProtocol);
     }
     let data_offset = usize::from(segment[12] >> 4) * 4;
     if data_offset < TCP_HEADER || data_offset > segment.len() {
-        return Err(Refusal::BrokenCarriage);
+        return Err(Refusal::BadTransportHeader);
     }
     // Unlike UDP, TCP has no "none": a field of 0 must be right too.
     if !ip.transport_sum_is_right() {
-        return Err(Refusal::TransportChecksum);
+        return Err(Refusal::BadTransportChecksum);
     }
     Ok(Segment {
         identifier: be32(segment, 8),
@@ -175,7 +175,7 @@ fn parse_segment<'a>(ip: &Ipv4<'a>, stt_port: u16) -> Result<Segment<'a>, Refusa
 /// The VNI of a VXLAN header (RFC 7348, section 5). Only the I flag counts.
 pub fn vxlan_network_id(header: &[u8]) -> Result<u64, Refusal> {
     if header[0] & 0x08 == 0 {
-        return Err(Refusal::TunnelHeader);
+        return Err(Refusal::BadTunnelHeader);
     }
     // 24 bits of network id above 8 bits that do not count on receipt.
     Ok(u64::from(be32(header, 4) >> 8))
@@ -187,7 +187,7 @@ pub fn vxlan_network_id(header: &[u8]) -> Result<u64, Refusal> {
 pub fn nvgre_network_id(header: &[u8]) -> Result<u64, Refusal> {
     let flags_are_right = (0x20..=0x23).contains(&header[0]) && header[1] & 0x07 == 0;
     if !flags_are_right || be16(header, 2) != TRANSPARENT_ETHERNET {
-        return Err(Refusal::TunnelHeader);
+        return Err(Refusal::BadTunnelHeader);
     }
     // 24 bits of network id above 8 bits that do not count on receipt.
     Ok(u64::from(be32(header, 4) >> 8))
@@ -197,7 +197,7 @@ pub fn nvgre_network_id(header: &[u8]) -> Result<u64, Refusal> {
 /// (checksum verified) and 1 (checksum partial) exclude each other.
 pub fn stt_network_id(frame: &[u8]) -> Result<u64, Refusal> {
     if frame[0] != 0 || frame[1] & 0x03 == 0x03 {
-        return Err(Refusal::TunnelHeader);
+        return Err(Refusal::BadTunnelHeader);
     }
     Ok(be64(frame, 8))
 }
@@ -206,7 +206,7 @@ pub fn stt_network_id(frame: &[u8]) -> Result<u64, Refusal> {
 pub fn check_inner(frame: &[u8]) -> Result<(), Refusal> {
     if !(MIN_INNER..=MAX_INNER).contains(&frame.len()) || matches!(be16(frame, 12), 0x8100 | 0x88A8)
     {
-        return Err(Refusal::InnerFrame);
+        return Err(Refusal::BadFrame);
     }
     Ok(())
 }

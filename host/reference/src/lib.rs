@@ -21,7 +21,7 @@ mod reassembly;
 mod received_map;
 mod wrap;
 
-pub use answer::{view, Added, Answer, Code, Place, Refusal, Wrapped, DONE, HELD};
+pub use answer::{cut, view, Added, Answer, Code, Place, Refusal, Wrapped, DONE, PENDING};
 pub use endpoint::Endpoint;
 pub use listing::{Binding, Config, Kind, MAX_BINDINGS, MAX_PEERS};
 pub use reassembly::{Pending, Row, MEMORY_NEEDED, SLOTS_PER_PEER, SLOT_SIZE};

@@ -20,10 +20,15 @@ pub struct Config {
 }
 
 impl Config {
-    /// The settings, if each is in its range.
-    pub fn checked(own: u32, stt_port: u16, mtu: u16) -> Result<Config, Refusal> {
-        if is_host_address(own) && stt_port != 0 && (576..=1600).contains(&mtu) {
-            Ok(Config { own, stt_port, mtu })
+    /// The settings, if each is in its range. They come as 32-bit numbers, so
+    /// that a port of 65,537 is out of range and not port 1.
+    pub fn checked(own: u32, stt_port: u32, mtu: u32) -> Result<Config, Refusal> {
+        if is_host_address(own) && (1..=65_535).contains(&stt_port) && (576..=1600).contains(&mtu) {
+            Ok(Config {
+                own,
+                stt_port: stt_port as u16,
+                mtu: mtu as u16,
+            })
         } else {
             Err(Refusal::OutOfRange)
         }
@@ -35,7 +40,7 @@ fn is_host_address(address: u32) -> bool {
     (1..224).contains(&(address >> 24))
 }
 
-/// How a network is carried; the discriminant is the number in the listing.
+/// How a network is carried; the discriminant is its number in the listing.
 #[derive(Clone, Copy, Debug, PartialEq, Eq)]
 #[repr(u8)]
 pub enum Kind {
@@ -48,7 +53,7 @@ pub enum Kind {
 }
 
 impl Kind {
-    fn from_number(number: u8) -> Option<Kind> {
+    fn from_number(number: u32) -> Option<Kind> {
         match number {
             1 => Some(Kind::Vxlan),
             2 => Some(Kind::Nvgre),
@@ -130,7 +135,7 @@ impl Listing {
             return Err(Refusal::AlreadyListed);
         }
         if self.peer_count == MAX_PEERS {
-            return Err(Refusal::ListingFull);
+            return Err(Refusal::Full);
         }
         self.peers[self.peer_count] = address;
         self.peer_count += 1;
@@ -140,20 +145,22 @@ impl Listing {
     /// Checks 18, 19, 20. The tenant does not count for 19.
     pub fn add_binding(
         &mut self,
-        peer: u16,
-        kind: u8,
+        peer: u32,
+        kind: u32,
         network_id: u64,
-        tenant: u16,
+        tenant: u32,
     ) -> Result<u16, Refusal> {
         let kind = Kind::from_number(kind).ok_or(Refusal::OutOfRange)?;
-        if usize::from(peer) >= self.peer_count || !kind.allows(network_id) {
+        let tenant = u16::try_from(tenant).map_err(|_| Refusal::OutOfRange)?;
+        if peer as usize >= self.peer_count || !kind.allows(network_id) {
             return Err(Refusal::OutOfRange);
         }
+        let peer = peer as u16;
         if self.find(peer, kind, network_id).is_ok() {
             return Err(Refusal::AlreadyListed);
         }
         if self.binding_count == MAX_BINDINGS {
-            return Err(Refusal::ListingFull);
+            return Err(Refusal::Full);
         }
         self.bindings[self.binding_count] = Binding {
             peer,

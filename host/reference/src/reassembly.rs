@@ -1,6 +1,6 @@
 //! Reassembly of STT frames in the lent memory (document 01, "Reassembly
 //! memory"). The endpoint keeps only identifier, length and age of a pending
-//! frame; which bytes are held is told by the received map in the memory alone.
+//! frame; which bytes were received is told by the received map in the memory alone.
 
 use crate::answer::Refusal;
 use crate::headers::{Segment, MAX_INNER, MIN_INNER, STT_HEADER};
@@ -25,7 +25,7 @@ const MAX_FRAME: usize = STT_HEADER + MAX_INNER;
 /// A frame is given up with the tick that brings it to this age.
 const AGE_LIMIT: u8 = 4;
 
-/// A frame under way.
+/// A frame that still lacks bytes.
 #[derive(Clone, Copy, Debug, PartialEq, Eq)]
 pub struct Pending {
     /// The identifier of its segments.
@@ -42,7 +42,7 @@ pub type Row = [Option<Pending>; SLOTS_PER_PEER];
 /// What taking a segment led to.
 pub enum Taken {
     /// The frame still lacks bytes.
-    Held,
+    Pending,
     /// The frame is complete; its slot is free already.
     Complete {
         /// Where the STT frame starts in the memory.
@@ -98,9 +98,9 @@ impl Reassembly {
 
         let (frame, map) = slot_parts(memory, slot_start(slot));
         frame[start..end].copy_from_slice(segment.bytes);
-        received_map::mark_held(map, start, end);
+        received_map::mark_received(map, start, end);
         if !received_map::is_complete(map, length) {
-            return Ok(Taken::Held);
+            return Ok(Taken::Pending);
         }
         row[slot] = None;
         Ok(Taken::Complete {
@@ -130,7 +130,7 @@ fn bounds(segment: &Segment) -> Result<(usize, usize), Refusal> {
     let start = usize::from(segment.offset);
     let end = start + segment.bytes.len();
     if segment.bytes.is_empty() || !(MIN_FRAME..=MAX_FRAME).contains(&length) || end > length {
-        return Err(Refusal::SegmentBounds);
+        return Err(Refusal::BadSegment);
     }
     Ok((start, end))
 }
@@ -152,10 +152,10 @@ fn check_pending(
     end: usize,
 ) -> Result<(), Refusal> {
     if pending.length != segment.frame_length {
-        return Err(Refusal::LengthMismatch);
+        return Err(Refusal::LengthDiffers);
     }
-    if received_map::any_held(map, start, end) {
-        return Err(Refusal::Overlap);
+    if received_map::any_received(map, start, end) {
+        return Err(Refusal::AlreadyReceived);
     }
     Ok(())
 }
@@ -165,7 +165,7 @@ fn open_slot(row: &mut Row, segment: &Segment) -> Result<usize, Refusal> {
     let slot = row
         .iter()
         .position(Option::is_none)
-        .ok_or(Refusal::SlotsFull)?;
+        .ok_or(Refusal::NoSlot)?;
     row[slot] = Some(Pending {
         identifier: segment.identifier,
         length: segment.frame_length,

@@ -1,5 +1,5 @@
 //! The received map: bit i mod 8, lowest first, of byte i div 8 says that frame
-//! byte i is held (document 01, "Reassembly memory").
+//! byte i was received (document 01, "Reassembly memory": held).
 
 /// First and last map byte of the frame bytes `start..end`, with the masks of
 /// the bits that count in each. `start < end` is the caller's promise.
@@ -10,8 +10,8 @@ fn reach(start: usize, end: usize) -> (usize, u8, usize, u8) {
     (start / 8, first_mask, last_bit / 8, last_mask)
 }
 
-/// Whether any of the frame bytes `start..end` is held.
-pub fn any_held(map: &[u8], start: usize, end: usize) -> bool {
+/// Whether any of the frame bytes `start..end` was received.
+pub fn any_received(map: &[u8], start: usize, end: usize) -> bool {
     let (first, first_mask, last, last_mask) = reach(start, end);
     if first == last {
         return map[first] & first_mask & last_mask != 0;
@@ -21,8 +21,8 @@ pub fn any_held(map: &[u8], start: usize, end: usize) -> bool {
         || map[first + 1..last].iter().any(|&byte| byte != 0)
 }
 
-/// Marks the frame bytes `start..end` as held; no other bit changes.
-pub fn mark_held(map: &mut [u8], start: usize, end: usize) {
+/// Marks the frame bytes `start..end` as received; no other bit changes.
+pub fn mark_received(map: &mut [u8], start: usize, end: usize) {
     let (first, first_mask, last, last_mask) = reach(start, end);
     if first == last {
         map[first] |= first_mask & last_mask;
@@ -33,7 +33,7 @@ pub fn mark_held(map: &mut [u8], start: usize, end: usize) {
     map[last] |= last_mask;
 }
 
-/// Whether every frame byte below `length` is held. Bits from `length` on do
+/// Whether every frame byte below `length` was received. Bits from `length` on do
 /// not count, whatever the lent memory has there.
 pub fn is_complete(map: &[u8], length: usize) -> bool {
     let whole = length / 8;
@@ -59,11 +59,11 @@ mod tests {
     #[test]
     fn marks_are_byte_exact() {
         let mut map = [0u8; 4];
-        mark_held(&mut map, 0, 9);
+        mark_received(&mut map, 0, 9);
         assert_eq!(map, [0xFF, 0x01, 0, 0]);
-        mark_held(&mut map, 11, 12);
+        mark_received(&mut map, 11, 12);
         assert_eq!(map, [0xFF, 0x09, 0, 0]);
-        mark_held(&mut map, 13, 26);
+        mark_received(&mut map, 13, 26);
         assert_eq!(map, [0xFF, 0xE9, 0xFF, 0x03]);
     }
 
@@ -71,21 +71,21 @@ mod tests {
     /// of three kinds of first contents.
     #[test]
     fn agrees_with_the_definition_bit_by_bit() {
-        let held = |map: &[u8], i: usize| map[i / 8] >> (i % 8) & 1 == 1;
+        let received = |map: &[u8], i: usize| map[i / 8] >> (i % 8) & 1 == 1;
         for first in [[0u8; 5], [0xFF; 5], [0x10, 0x00, 0x81, 0x00, 0x02]] {
             for start in 0..40 {
                 assert_eq!(
                     is_complete(&first, start),
-                    (0..start).all(|i| held(&first, i))
+                    (0..start).all(|i| received(&first, i))
                 );
                 for end in start + 1..=40 {
-                    let expected = (start..end).any(|i| held(&first, i));
-                    assert_eq!(any_held(&first, start, end), expected, "{start}..{end}");
+                    let expected = (start..end).any(|i| received(&first, i));
+                    assert_eq!(any_received(&first, start, end), expected, "{start}..{end}");
                     let mut map = first;
-                    mark_held(&mut map, start, end);
+                    mark_received(&mut map, start, end);
                     for i in 0..40 {
                         let inside = (start..end).contains(&i);
-                        assert_eq!(held(&map, i), inside || held(&first, i));
+                        assert_eq!(received(&map, i), inside || received(&first, i));
                     }
                 }
             }

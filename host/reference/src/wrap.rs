@@ -32,7 +32,7 @@ const FIVE_WORDS: u8 = 0x50;
 pub fn wrap(
     config: &Config,
     listing: &Listing,
-    binding: u16,
+    binding: u32,
     frame: &[u8],
     part: Part,
     output: &mut [u8],
@@ -47,15 +47,15 @@ pub fn wrap(
 fn try_wrap(
     config: &Config,
     listing: &Listing,
-    binding: u16,
+    binding: u32,
     frame: &[u8],
     part: Part,
     output: &mut [u8],
 ) -> Result<Wrapped, Refusal> {
     let binding = listing
         .bindings()
-        .get(usize::from(binding))
-        .ok_or(Refusal::NoSuchBindingOrSegment)?;
+        .get(binding as usize)
+        .ok_or(Refusal::NoSuch)?;
     headers::check_inner(frame)?;
     let route = Route {
         source: config.own,
@@ -89,7 +89,7 @@ fn single_packet<'o>(
         return Err(Refusal::ExceedsMtu);
     }
     if part.number != 0 {
-        return Err(Refusal::NoSuchBindingOrSegment);
+        return Err(Refusal::NoSuch);
     }
     output.get_mut(..total).ok_or(Refusal::OutputTooShort)
 }
@@ -176,7 +176,7 @@ fn wrap_stt(
     let segments = frame_length.div_ceil(room) as u32;
     // Compared before multiplying: the number is any 32-bit one.
     if part.number >= segments {
-        return Err(Refusal::NoSuchBindingOrSegment);
+        return Err(Refusal::NoSuch);
     }
     let start = part.number as usize * room;
     let end = frame_length.min(start + room);

@@ -80,7 +80,7 @@ impl Driver {
         Line { code, text }
     }
 
-    pub fn start(&mut self, own: u32, port: u16, mtu: u16) -> Line {
+    pub fn start(&mut self, own: u32, port: u32, mtu: u32) -> Line {
         let (endpoint, code) = Endpoint::start(own, port, mtu);
         self.endpoint = endpoint;
         self.line(Some(code), || format!("start {code}"))
@@ -93,7 +93,7 @@ impl Driver {
         })
     }
 
-    pub fn binding(&mut self, peer: u16, kind: u8, id: u64, tenant: u16) -> Line {
+    pub fn binding(&mut self, peer: u32, kind: u32, id: u64, tenant: u32) -> Line {
         let added = self.endpoint.add_binding(peer, kind, id, tenant);
         self.line(Some(added.code), || {
             format!("binding {} {}", added.code, or_dash(added.number))
@@ -156,7 +156,7 @@ impl Driver {
 
     pub fn wrap(
         &mut self,
-        binding: u16,
+        binding: u32,
         segment: u32,
         identifier: u32,
         output_length: usize,

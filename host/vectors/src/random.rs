@@ -10,8 +10,8 @@ use crate::recorder::Recorder;
 const SCENE_STEPS: usize = 250;
 
 /// Chance, in percent, that a step lends another memory while frames may be
-/// under way. Demand 1 asks for one answer with memory of any contents; the
-/// map in the memory then says what is held.
+/// pending. Demand 1 asks for one answer with memory of any contents; the
+/// map in the memory then says what was received.
 const SWAP_MEMORY_PERCENT: usize = 1;
 
 const LONGEST_PACKET: usize = 1600;

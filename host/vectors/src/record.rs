@@ -6,22 +6,23 @@ use crate::driver::{Driver, Line, MAX_MEMORY, MAX_OUTPUT};
 /// Longest payload of a record.
 pub const MAX_PAYLOAD: usize = 2000;
 
-/// One call, as it stands in `runs.bin`.
+/// One call. Settings and numbers of peers, kinds, tenants and bindings are as
+/// wide as the calls take them; `runs.bin` has only those of 16 bits (a kind: 8).
 #[derive(Clone, Debug, PartialEq, Eq)]
 pub enum Record {
     Start {
         own: u32,
-        port: u16,
-        mtu: u16,
+        port: u32,
+        mtu: u32,
     },
     Peer {
         address: u32,
     },
     Binding {
-        peer: u16,
-        kind: u8,
+        peer: u32,
+        kind: u32,
         id: u64,
-        tenant: u16,
+        tenant: u32,
     },
     Lend {
         length: u32,
@@ -37,7 +38,7 @@ pub enum Record {
         length: u64,
     },
     Wrap {
-        binding: u16,
+        binding: u32,
         segment: u32,
         identifier: u32,
         output_length: u16,
@@ -62,7 +63,7 @@ impl Record {
     fn payload(&self) -> Vec<u8> {
         match self {
             Record::Start { own, port, mtu } => {
-                join(&[&own.to_be_bytes(), &port.to_be_bytes(), &mtu.to_be_bytes()])
+                join(&[&own.to_be_bytes(), &narrow(*port), &narrow(*mtu)])
             }
             Record::Peer { address } => join(&[&address.to_be_bytes()]),
             Record::Binding {
@@ -71,10 +72,10 @@ impl Record {
                 id,
                 tenant,
             } => join(&[
-                &peer.to_be_bytes(),
-                &[*kind],
+                &narrow(*peer),
+                &[u8::try_from(*kind).expect("a kind of 8 bits")],
                 &id.to_be_bytes(),
-                &tenant.to_be_bytes(),
+                &narrow(*tenant),
             ]),
             Record::Lend { length, seed } => join(&[&length.to_be_bytes(), &seed.to_be_bytes()]),
             Record::Receive { packet } => packet.clone(),
@@ -104,7 +105,7 @@ impl Record {
             return Vec::new();
         };
         join(&[
-            &binding.to_be_bytes(),
+            &narrow(*binding),
             &segment.to_be_bytes(),
             &identifier.to_be_bytes(),
             &output_length.to_be_bytes(),
@@ -155,6 +156,12 @@ impl Record {
             ),
         }
     }
+}
+
+/// A number that the file has two bytes for.
+fn narrow(number: u32) -> [u8; 2] {
+    let number = u16::try_from(number).expect("a number of 16 bits");
+    number.to_be_bytes()
 }
 
 fn join(fields: &[&[u8]]) -> Vec<u8> {
@@ -213,17 +220,17 @@ fn decode_payload(op: u64, fields: &mut Fields) -> Result<Record, String> {
     match op {
         1 => Ok(Record::Start {
             own: fields.number(4)? as u32,
-            port: fields.number(2)? as u16,
-            mtu: fields.number(2)? as u16,
+            port: fields.number(2)? as u32,
+            mtu: fields.number(2)? as u32,
         }),
         2 => Ok(Record::Peer {
             address: fields.number(4)? as u32,
         }),
         3 => Ok(Record::Binding {
-            peer: fields.number(2)? as u16,
-            kind: fields.number(1)? as u8,
+            peer: fields.number(2)? as u32,
+            kind: fields.number(1)? as u32,
             id: fields.number(8)?,
-            tenant: fields.number(2)? as u16,
+            tenant: fields.number(2)? as u32,
         }),
         4 => decode_lend(fields),
         5 => Ok(Record::Receive {
@@ -259,7 +266,7 @@ fn decode_view(fields: &mut Fields) -> Result<Record, String> {
 }
 
 fn decode_wrap(fields: &mut Fields) -> Result<Record, String> {
-    let binding = fields.number(2)? as u16;
+    let binding = fields.number(2)? as u32;
     let segment = fields.number(4)? as u32;
     let identifier = fields.number(4)? as u32;
     let output_length = fields.number(2)? as u16;

@@ -19,7 +19,7 @@ pub struct Recorder {
     /// Whether wraps are written down. They are made in any case: directed
     /// cases receive what a wrap wrote.
     wraps: bool,
-    /// Name of the directed case under way, for messages.
+    /// Name of the directed case, for messages.
     pub case: &'static str,
 }
 
@@ -91,6 +91,7 @@ impl Recorder {
     }
 
     pub fn try_start(&mut self, own: u32, port: u16, mtu: u16) -> Option<u8> {
+        let (port, mtu) = (port.into(), mtu.into());
         let line = self.driver.start(own, port, mtu);
         self.note(Record::Start { own, port, mtu }, line)
     }
@@ -111,6 +112,7 @@ impl Recorder {
     }
 
     pub fn try_binding(&mut self, peer: u16, kind: u8, id: u64, tenant: u16) -> Option<u8> {
+        let (peer, kind, tenant) = (peer.into(), kind.into(), tenant.into());
         let line = self.driver.binding(peer, kind, id, tenant);
         let record = Record::Binding {
             peer,
@@ -174,6 +176,7 @@ impl Recorder {
         frame: &[u8],
     ) -> Option<u8> {
         assert!(output_length <= MAX_OUTPUT);
+        let binding = binding.into();
         let line = self
             .driver
             .wrap(binding, segment, identifier, output_length, frame);

@@ -6,7 +6,7 @@ use std::fmt::Write;
 
 use niulassenc_reference::{view, Endpoint};
 
-const MTUS: [u16; 3] = [576, 1500, 1600];
+const MTUS: [u32; 3] = [576, 1500, 1600];
 const SENDER: u32 = 0x0a00_0001;
 const RECEIVER: u32 = 0x0a00_0002;
 
@@ -40,7 +40,7 @@ struct Tally {
 }
 
 impl Tally {
-    fn of(mtu: u16, binding: u16) -> Tally {
+    fn of(mtu: u32, binding: u32) -> Tally {
         let sender = set_up(SENDER, RECEIVER, mtu);
         let mut receiver = set_up(RECEIVER, SENDER, mtu);
         let mut memory = vec![165; 55_296];
@@ -61,7 +61,7 @@ impl Tally {
         &mut self,
         sender: &Endpoint,
         receiver: &mut Endpoint,
-        binding: u16,
+        binding: u32,
         frame: &[u8],
         memory: &mut [u8],
     ) {
@@ -91,7 +91,7 @@ impl Tally {
 }
 
 /// One peer, bound to VXLAN 22, NVGRE 4,096 and STT 77.
-fn set_up(own: u32, peer: u32, mtu: u16) -> Endpoint {
+fn set_up(own: u32, peer: u32, mtu: u32) -> Endpoint {
     let (mut endpoint, _) = Endpoint::start(own, 7471, mtu);
     endpoint.add_peer(peer);
     for (kind, id, tenant) in [(1, 22, 7), (2, 4096, 8), (3, 77, 9)] {
@@ -101,8 +101,8 @@ fn set_up(own: u32, peer: u32, mtu: u16) -> Endpoint {
 }
 
 /// Drawn bytes, but for the type 0x88B5.
-fn frame(size: usize, binding: u16) -> Vec<u8> {
-    let mut x = size as u32 * 16 + u32::from(binding);
+fn frame(size: usize, binding: u32) -> Vec<u8> {
+    let mut x = size as u32 * 16 + binding;
     let mut bytes: Vec<u8> = (0..size)
         .map(|_| {
             x = x.wrapping_mul(1_103_515_245).wrapping_add(12_345);

@@ -11,7 +11,8 @@ use lib.Dec.{ltb, eqb}
 use native.Mathlib.Omega.{arith}
 use borrow.Author.Tests.{le-leb, lt-leb, ne-eqb, eqb-true}
 use Rattle.reassembly.specs.Laws.Base.{caseB, clash}
-use Rattle.wire.specs.Checks.{Check, _⇒_, first, At, given, decided, Passed}
+use Rattle.wire.specs.Checks.{Check, _⇒_, first, Passed}
+use Rattle.wire.specs.Laws.Checks.{At, given, decided}
 use Rattle.endpoint.specs.declared.answer.Added.{Added}
 use Rattle.endpoint.specs.declared.answer.Added.the-variants as A
 use Rattle.endpoint.specs.declared.answer.Start.the-variants as S

@@ -1,20 +1,21 @@
 -- Demand 1 holds (Demand1.antt).
 -- Assumes nothing.
-use Prim.Native.Nat.{ℕ, zero, suc, _+_, _-_, _<_, _≤_}
-use mathlib.Core.Path.{_≡_, refl, sym, ap, subst, _∙_}
+use Prim.Native.Nat.{ℕ, zero, suc, _+_, _-_, _≤_}
+use mathlib.Core.Path.{_≡_, refl, sym, ap, _∙_}
 use mathlib.Core.Logic.{_⊎_, inl, inr, _≢_}
-use mathlib.Core.Bool.{Bool, true, false, cond}
+use mathlib.Core.Bool.{Bool, true, false}
 use mathlib.Core.List.{List, [], _∷_, _++_}
 use mathlib.Core.Option.{Option, none, some}
 use native.Mathlib.Omega.{arith}
-use borrow.Author.Tests.{ltb-true, ltb-false, eqb-true, eqb-false}
+use borrow.Author.Tests.{ltb-false, eqb-true, eqb-false}
 use lib.ListN.{length, getD, set, drop, length-set}
 use lib.Seq.{set-getD, getD-set-same, getD-set-other, getD-append-add, getD-drop}
 use lib.Dec.{ltb, eqb}
-use Rattle.wire.specs.Checks.{Check, _⇒_, first, Passed}
+use Rattle.wire.specs.Checks.{Check, _⇒_, first}
 use Rattle.wire.specs.Refusal.{codeOf}
 use Rattle.wire.specs.Laws.Refusal.{stt-code, frame-code}
-use Rattle.wire.specs.Laws.Bytes.{wrote, wrote-length}
+use Rattle.wire.specs.Bytes.{wrote}
+use Rattle.wire.specs.Laws.Bytes.{wrote-length}
 use Rattle.wire.specs.Laws.WriteIs.{wrote-is}
 use Rattle.wire.specs.Stt.{sttOf}
 use Rattle.wire.specs.Frame.{frameOf}
@@ -40,16 +41,15 @@ use Rattle.reassembly.specs.declared.take.Rejection.{Rejection}
 use Rattle.reassembly.specs.declared.take.Rejection.the-variants as J
 use Rattle.reassembly.specs.declared.take.Outcome.{Outcome}
 use Rattle.reassembly.specs.declared.take.Outcome.the-variants as O
-use Rattle.endpoint.specs.Answer.{dropCode, configCode, startCode, Values, valuesOf, AddedValues, addedValuesOf, tickCode, wrapRefusalCode, wrapValuesOf}
+use Rattle.endpoint.specs.Answer.{dropCode, configCode, valuesOf, AddedValues, tickCode, wrapRefusalCode, wrapValuesOf}
 use Rattle.endpoint.specs.Search.{lowest}
 use Rattle.endpoint.specs.Config.{Config, configOf, binds, fresh, startChecks, refusedStart, startOf, refusedAdd, addPeerChecks, withAddress, addPeerOf, addBindingChecks, withBinding, addBindingOf, tickOf}
 use Rattle.endpoint.specs.Laws.Config.{cases, rows-tick}
 use Rattle.endpoint.specs.Laws.ConfigExits.{peerAdded, bindingAdded}
 use Rattle.endpoint.specs.Laws.View.{view-rule}
-use Rattle.endpoint.specs.Receive.{answers, frame?, bound?, innerFrom, stt?, sttFrom, headerOf, judgeOf, Step, rowAt, unchanged, stepped, stepOf, withRow}
+use Rattle.endpoint.specs.Receive.{answers, bound?, innerFrom, stt?, sttFrom, headerOf, judgeOf, Step, rowAt, stepped, stepOf, withRow}
 use Rattle.endpoint.specs.Laws.Formats.{segment-sound, segment-complete}
-use Rattle.endpoint.specs.Wrap.{Wrote, wrapChecks, refusedWrap, wrapOf, packetAt, segmentsOf, kindAt}
-use Rattle.endpoint.specs.declared.answer.Target.{Target}
+use Rattle.endpoint.specs.Wrap.{Wrote, wrapChecks, refusedWrap, wrapOf, packetAt}
 use Rattle.endpoint.specs.declared.answer.ConfigRefusal.{ConfigRefusal}
 use Rattle.endpoint.specs.declared.answer.ConfigRefusal.the-variants as C
 use Rattle.endpoint.specs.declared.answer.Start.the-variants as S
@@ -59,11 +59,9 @@ use Rattle.endpoint.specs.declared.answer.Received.{Received}
 use Rattle.endpoint.specs.declared.answer.Received.the-variants as R
 use Rattle.endpoint.specs.declared.answer.WrapRefusal.{WrapRefusal}
 use Rattle.endpoint.specs.declared.answer.WrapRefusal.the-variants as X
-use Rattle.endpoint.specs.declared.answer.Wrapped.the-variants as Y
 use Rattle.endpoint.specs.declared.config.Endpoint.{Endpoint}
-use Rattle.endpoint.specs.declared.config.Configured.{Configured}
 use Rattle.endpoint.specs.declared.config.Started.{Started}
-use Rattle.endpoint.specs.Demand1.{_among_, slotAt, Entered, SameSettings, SamePeers, SameBindings, SameConfiguration, Blank, StartRule, PeerAdded, BindingAdded, AddRule, Empties, Unchanged, FoundBad, ReceiveRule, TickRule, WrapRule, Demand1}
+use Rattle.endpoint.specs.Demand1.{_among_, slotAt, Entered, SameConfiguration, Blank, StartRule, PeerAdded, BindingAdded, AddRule, Empties, Unchanged, FoundBad, ReceiveRule, TickRule, WrapRule, Demand1}
 
 -- ---- start. Each of its checks refuses by 18
 
@@ -73,7 +71,8 @@ onlyOut ((test ⇒ C.OutOfRange) ∷ checks) = onlyOut checks
 onlyOut ((test ⇒ C.AlreadyListed) ∷ checks) = false
 onlyOut ((test ⇒ C.Full) ∷ checks) = false
 
-start-by : (P : Started → Type 0) (checks : List (Check ConfigRefusal)) (accepted : Started) → onlyOut checks ≡ true → P (refusedStart C.OutOfRange) → P accepted → P (first refusedStart checks accepted)
+start-by : (P : Started → Type 0) (checks : List (Check ConfigRefusal)) (accepted : Started) → onlyOut checks ≡ true → P (refusedStart C.OutOfRange)
+    → P accepted → P (first refusedStart checks accepted)
 start-by P [] accepted o f g = g
 start-by P ((true ⇒ C.OutOfRange) ∷ checks) accepted o f g = f
 start-by P ((false ⇒ C.OutOfRange) ∷ checks) accepted o f g = start-by P checks accepted o f g
@@ -139,7 +138,8 @@ peer-added e address = record {
 add-peer-rule : (e : Endpoint) (address : ℕ) → AddRule e (PeerAdded e address) (addPeerOf e address)
 unfolding addPeerOf
 add-peer-rule e address =
-    cases (AddRule e (PeerAdded e address)) (refusedAdd e) (addPeerChecks e address) (peerAdded e address) (add-refused e (PeerAdded e address)) (λ p. peer-added e address)
+    cases (AddRule e (PeerAdded e address)) (refusedAdd e) (addPeerChecks e address) (peerAdded e address)
+    (add-refused e (PeerAdded e address)) (λ p. peer-added e address)
 
 module _ (e : Endpoint) (peer kind network tenant : ℕ) where
   binding-added : AddRule e (BindingAdded e peer kind network tenant) (bindingAdded e peer kind network tenant)
@@ -163,7 +163,8 @@ module _ (e : Endpoint) (peer kind network tenant : ℕ) where
   add-binding-rule : AddRule e (BindingAdded e peer kind network tenant) (addBindingOf e peer kind network tenant)
   unfolding addBindingOf
   add-binding-rule =
-      cases (AddRule e (BindingAdded e peer kind network tenant)) (refusedAdd e) (addBindingChecks e peer kind network tenant) (bindingAdded e peer kind network tenant)
+      cases (AddRule e (BindingAdded e peer kind network tenant)) (refusedAdd e) (addBindingChecks e peer kind network tenant)
+      (bindingAdded e peer kind network tenant)
       (add-refused e (BindingAdded e peer kind network tenant)) (λ p. binding-added)
 
 -- ---- a receive: its numbers
@@ -210,23 +211,27 @@ empties (R.Dropped x) d = record { no-tenant = refl; no-binding = refl; start = 
 
 -- ---- a receive: a frame is found bad by 11, 12 or 13
 
-bound-bad : (tenants : List ℕ) (o : Option ℕ) (frame : List ℕ) (r : FrameRead) → frameOf frame ≡ r → (d : Drop) → bound? tenants o r ≡ bad d → dropCode d among (11 ∷ 12 ∷ 13 ∷ []) ≡ true
+bound-bad : (tenants : List ℕ) (o : Option ℕ) (frame : List ℕ) (r : FrameRead) → frameOf frame ≡ r → (d : Drop) → bound? tenants o r ≡ bad d
+    → dropCode d among (11 ∷ 12 ∷ 13 ∷ []) ≡ true
 bound-bad tenants none frame r q d e = let z : D.Binding ≡ d = cc (e) in rw (← z)
 bound-bad tenants (some b) frame I.Good q d e = clash (cc (e))
 bound-bad tenants (some b) frame (I.Refused r) q d e = let z : D.Format r ≡ d = cc (e) in rw (← z, frame-code frame r q)
 
-inner-bad : (networks kinds owners tenants : List ℕ) (n peer kind network : ℕ) (frame : List ℕ) (d : Drop) → innerFrom networks kinds owners tenants n peer kind network frame ≡ bad d
+inner-bad : (networks kinds owners tenants : List ℕ) (n peer kind network : ℕ) (frame : List ℕ) (d : Drop)
+    → innerFrom networks kinds owners tenants n peer kind network frame ≡ bad d
     → dropCode d among (11 ∷ 12 ∷ 13 ∷ []) ≡ true
 unfolding innerFrom
 inner-bad networks kinds owners tenants n peer kind network frame d e =
     bound-bad tenants (lowest (binds networks kinds owners peer kind network) n) frame (frameOf frame) refl d e
 
-judge-bad : (c : Config) (p : ℕ) (note : Note) (frame : List ℕ) (d : Drop) → 18 ≤ length frame → judgeOf c p note frame ≡ bad d → dropCode d among (11 ∷ 12 ∷ 13 ∷ []) ≡ true
+judge-bad : (c : Config) (p : ℕ) (note : Note) (frame : List ℕ) (d : Drop) → 18 ≤ length frame → judgeOf c p note frame ≡ bad d
+    → dropCode d among (11 ∷ 12 ∷ 13 ∷ []) ≡ true
 unfolding judgeOf sttFrom
 judge-bad c p note frame d l e = by (sttOf frame) refl e
   where
     by : (r : SttRead) → sttOf frame ≡ r
-        → stt? r (λ context. innerFrom (c .networks) (c .kinds) (c .owners) (c .tenants) (c .bindings) p 3 context (drop 18 frame)) ≡ bad d → dropCode d among (11 ∷ 12 ∷ 13 ∷ []) ≡ true
+        → stt? r (λ context. innerFrom (c .networks) (c .kinds) (c .owners) (c .tenants) (c .bindings) p 3 context (drop 18 frame)) ≡ bad d
+        → dropCode d among (11 ∷ 12 ∷ 13 ∷ []) ≡ true
     by (H.Refused r) q e = let z : D.Format r ≡ d = cc (e) in rw (← z, stt-code frame r l q)
     by (H.Header context) q e = inner-bad (c .networks) (c .kinds) (c .owners) (c .tenants) (c .bindings) p 3 context (drop 18 frame) d e
 
@@ -252,7 +257,8 @@ free-at [] s = refl
 free-at (x ∷ l) zero = refl
 free-at (x ∷ l) (suc s) = free-at l s
 
-slot-freed : (rows : List Row) (p s : ℕ) (row : Row) → row .slots ≡ set (getD rows p noRow .slots) s free → getD (getD (set rows p row) p noRow .slots) s free .pending ≡ false
+slot-freed : (rows : List Row) (p s : ℕ) (row : Row) → row .slots ≡ set (getD rows p noRow .slots) s free
+    → getD (getD (set rows p row) p noRow .slots) s free .pending ≡ false
 slot-freed [] p s row q = refl
 slot-freed (x ∷ rows) zero s row q = rw q (free-at (x .slots) s)
 slot-freed (x ∷ rows) (suc p) s row q = slot-freed rows p s row q
@@ -433,7 +439,9 @@ module _ (e : Endpoint) (b : ℕ) (frame : List ℕ) (segment identifier : ℕ) 
       (λ p. record {
         number = refl;
         refused = λ d. absurd (d refl);
-        size = wrote-length output (packetAt e b frame segment identifier) (ltb-false (length output) (length (packetAt e b frame segment identifier)) (p .1 .1 .1 .1 .1 .0));
+        size =
+            wrote-length output (packetAt e b frame segment identifier)
+            (ltb-false (length output) (length (packetAt e b frame segment identifier)) (p .1 .1 .1 .1 .1 .0));
         beyond = wrote-beyond output (packetAt e b frame segment identifier);
       })
 

@@ -175,7 +175,8 @@ module _ (e : Endpoint) (m k : List ℕ) (enough : 55296 ≤ length m) (packet :
         frame-part n i size f ∙ ap (λ (x : ℕ). take x (drop (slotStart i) n)) (sym s) ∙ sym (part-is n (slotStart i) (slotStart i + size)) in
         rw q (bytes-part n b (slotStart i) (slotStart i + size))
 
-    taken-sound : (p : ℕ) (g : Seg) → headerOf (configOf e) k ≡ segment p g → Bytes (takeIn p (rowAt e p) m g .mem) → (o : Outcome) → takeIn p (rowAt e p) m g .outcome ≡ o
+    taken-sound : (p : ℕ) (g : Seg) → headerOf (configOf e) k ≡ segment p g → Bytes (takeIn p (rowAt e p) m g .mem) → (o : Outcome)
+        → takeIn p (rowAt e p) m g .outcome ≡ o
         → (place : Place) → told answers (judgeOf (configOf e)) bytesOf p g (takeIn p (rowAt e p) m g) o .reply ≡ R.Delivered t place
         → viewOf k (takeIn p (rowAt e p) m g .mem) (placeOf place) ≡ frame → Completes e m k t frame
     taken-sound p g h b (O.Rejected r) q place a w = let z : _≡_ {A = ℕ} 0 1 = cc in absurd (omega arith)
@@ -260,7 +261,8 @@ module _ (own port mtu : ℕ) (adds : List Adding) (m : List ℕ) (enough : 5529
   only : Bytes (at .mem) → Delivers (at .endpoint) (at .mem) k t frame → CarriesFrame (configOf e) k t frame ⊎ MadeUp e m es k t frame
   only memory d = joined (sound (at .endpoint) (at .mem) k still-enough packet memory t frame d)
     where
-      joined : CarriesFrame (configOf (at .endpoint)) k t frame ⊎ Completes (at .endpoint) (at .mem) k t frame → CarriesFrame (configOf e) k t frame ⊎ MadeUp e m es k t frame
+      joined : CarriesFrame (configOf (at .endpoint)) k t frame ⊎ Completes (at .endpoint) (at .mem) k t frame
+          → CarriesFrame (configOf e) k t frame ⊎ MadeUp e m es k t frame
       joined (inl w) = inl (subst (λ (x : Config). CarriesFrame x k t frame) config-same w)
       joined (inr w) =
           let p< : w .p < 8 = take-whole (w .p) (w .slot) (rowAt (at .endpoint) (w .p)) (at .mem) (w .g) (w .complete) .is-peer in

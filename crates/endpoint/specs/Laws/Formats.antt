@@ -1,26 +1,25 @@
 -- The receiver's layers are the formats: sound and complete.
 -- Assumes nothing.
-use Prim.Native.Nat.{ℕ, zero, suc, _+_, _-_, _<_, _≤_}
+use Prim.Native.Nat.{ℕ, _+_, _-_, _≤_}
 use mathlib.Core.Path.{_≡_, refl, sym, ap, subst, _∙_}
-use mathlib.Core.Bool.{Bool, true, false, cond}
-use mathlib.Core.List.{List, [], _∷_, _++_}
+use mathlib.Core.Bool.{Bool, true, false}
+use mathlib.Core.List.{List}
 use mathlib.Core.Option.{Option, none, some}
 use native.Mathlib.Omega.{arith}
 use borrow.Author.Tests.{eqb-true, eqb-false, eq-eqb}
-use lib.ListN.{length, getD, drop, take}
+use lib.ListN.{length, getD, drop}
 use lib.Dec.{eqb}
 use Rattle.wire.specs.Bytes.{Bytes, part}
 use Rattle.wire.specs.Laws.Bytes.{part-drop, part-length, bytes-part}
-use Rattle.wire.specs.Ipv4.{header, IsIpv4, ipv4Of}
+use Rattle.wire.specs.Ipv4.{header, ipv4Of}
 use Rattle.wire.specs.Laws.Ipv4 as P
-use Rattle.wire.specs.Carriage.{Tunnels, carriageOf}
+use Rattle.wire.specs.Carriage.{carriageOf}
 use Rattle.wire.specs.Laws.Carriage as L
 use Rattle.wire.specs.Segment as G
-use Rattle.wire.specs.Laws.Segment as S
-use Rattle.wire.specs.Stt.{IsStt, sttOf}
+use Rattle.wire.specs.Stt.{sttOf}
 use Rattle.wire.specs.Laws.Stt as Q
 use Rattle.wire.specs.Frame.{IsFrame, frameOf}
-use Rattle.wire.specs.Frame as E
+use Rattle.wire.specs.Laws.Frame as E
 use Rattle.wire.specs.declared.ipv4.Ipv4.{Ipv4}
 use Rattle.wire.specs.declared.ipv4.Ipv4Read.{Ipv4Read}
 use Rattle.wire.specs.declared.ipv4.Ipv4Read.the-variants as I
@@ -35,16 +34,14 @@ use Rattle.wire.specs.declared.frame.FrameRead.the-variants as F
 use Rattle.reassembly.specs.Laws.Base.{caseB, clash}
 use Rattle.reassembly.specs.Slots.{Note, noMark}
 use Rattle.reassembly.specs.Take.{Seg, segOf}
-use Rattle.reassembly.specs.Receive.{Seen, stranger, plain, segment, Verdict, bad, good}
+use Rattle.reassembly.specs.Receive.{Seen, plain, segment, Verdict, bad, good}
 use Rattle.endpoint.specs.Search.{lowest}
 use Rattle.endpoint.specs.Laws.Search.{lowest-some, lowest-is, has-address, other-address, binds-hit, binds-all}
 use Rattle.endpoint.specs.Config.{Config, hasAddress, findPeer, binds, findBinding}
-use Rattle.endpoint.specs.Receive.{answers, frame?, bound?, innerFrom, answerAt, tunnelFrom, carried?, peer?, ours?, ip?, headerOf, stt?, sttFrom, judgeOf}
+use Rattle.endpoint.specs.Receive.{answers, bound?, innerFrom, answerAt, tunnelFrom, carried?, peer?, ours?, ip?, headerOf, stt?, sttFrom, judgeOf}
 use Rattle.endpoint.specs.Formats.{ListedPeer, IsBinding, Bound, CarriesFrame, CarriesSegment, GoodFrame}
 use Rattle.endpoint.specs.declared.answer.Place.{Place}
 use Rattle.endpoint.specs.declared.answer.Target.{Target}
-use Rattle.endpoint.specs.declared.answer.Drop.{Drop}
-use Rattle.endpoint.specs.declared.answer.Drop.the-variants as D
 use Rattle.endpoint.specs.declared.answer.Received.{Received}
 use Rattle.endpoint.specs.declared.answer.Received.the-variants as R
 
@@ -78,7 +75,8 @@ module _ (c : Config) (peer kind network : ℕ) where
   binds-is : (i : ℕ) → IsBinding c peer kind network i → matches i ≡ true
   binds-is i w = binds-hit (c .networks) (c .kinds) (c .owners) peer kind network i (w .of-network) (w .of-kind) (w .of-peer)
 
-  pub binding-bound : (t : Target) → findBinding c peer kind network ≡ some (t .binding) → t .tenant ≡ getD (c .tenants) (t .binding) 0 → Bound c peer kind network t
+  pub binding-bound : (t : Target) → findBinding c peer kind network ≡ some (t .binding) → t .tenant ≡ getD (c .tenants) (t .binding) 0
+      → Bound c peer kind network t
   unfolding findBinding
   binding-bound t e tenant =
       let w = lowest-some matches (c .bindings) (t .binding) e in
@@ -101,7 +99,8 @@ module _ (c : Config) (peer kind network : ℕ) where
 
 -- ---- the inner frame: bound and good
 
-inner-by : (c : Config) (o : Option ℕ) (r : FrameRead) (t : Target) → bound? (c .tenants) o r ≡ good t → (o ≡ some (t .binding)) × ((t .tenant ≡ getD (c .tenants) (t .binding) 0) × (r ≡ F.Good))
+inner-by : (c : Config) (o : Option ℕ) (r : FrameRead) (t : Target) → bound? (c .tenants) o r ≡ good t
+    → (o ≡ some (t .binding)) × ((t .tenant ≡ getD (c .tenants) (t .binding) 0) × (r ≡ F.Good))
 inner-by c none r t e = let z : _≡_ {A = ℕ} 0 1 = cc in absurd (omega arith)
 inner-by c (some b) (F.Refused x) t e = let z : _≡_ {A = ℕ} 0 1 = cc in absurd (omega arith)
 inner-by c (some b) F.Good t e =
@@ -109,13 +108,15 @@ inner-by c (some b) F.Good t e =
     rw (← q) (refl, (refl, refl))
 
 module _ (c : Config) (p kind network : ℕ) (frame : List ℕ) (t : Target) where
-  pub inner-sound : innerFrom (c .networks) (c .kinds) (c .owners) (c .tenants) (c .bindings) p kind network frame ≡ good t → Bound c p kind network t × IsFrame frame
+  pub inner-sound : innerFrom (c .networks) (c .kinds) (c .owners) (c .tenants) (c .bindings) p kind network frame ≡ good t
+      → Bound c p kind network t × IsFrame frame
   unfolding innerFrom findBinding
   inner-sound e =
       let x = inner-by c (lowest (binds (c .networks) (c .kinds) (c .owners) p kind network) (c .bindings)) (frameOf frame) t e in
       (binding-bound c p kind network t (x .0) (x .1 .0), E.sound frame (x .1 .1))
 
-  pub inner-complete : Bound c p kind network t → IsFrame frame → innerFrom (c .networks) (c .kinds) (c .owners) (c .tenants) (c .bindings) p kind network frame ≡ good t
+  pub inner-complete : Bound c p kind network t → IsFrame frame
+      → innerFrom (c .networks) (c .kinds) (c .owners) (c .tenants) (c .bindings) p kind network frame ≡ good t
   unfolding innerFrom findBinding
   inner-complete b f = rw (binding-found c p kind network t b, E.complete frame f, ← b .tenant)
 
@@ -125,7 +126,8 @@ stt-by : (r : SttRead) (next : ℕ → Verdict answers) (t : Target) → stt? r 
 stt-by (T.Refused r) next t e = let z : _≡_ {A = ℕ} 0 1 = cc in absurd (omega arith)
 stt-by (T.Header context) next t e = (context, (refl, e))
 
-pub judge-sound : (c : Config) (p : ℕ) (note : Note) (whole : List ℕ) (t : Target) → Bytes whole → judgeOf c p note whole ≡ good t → GoodFrame c p whole t (drop 18 whole)
+pub judge-sound : (c : Config) (p : ℕ) (note : Note) (whole : List ℕ) (t : Target) → Bytes whole → judgeOf c p note whole ≡ good t
+    → GoodFrame c p whole t (drop 18 whole)
 unfolding judgeOf sttFrom
 judge-sound c p note whole t b e =
     let x = stt-by (sttOf whole) (λ context. innerFrom (c .networks) (c .kinds) (c .owners) (c .tenants) (c .bindings) p 3 context (drop 18 whole)) t e in
@@ -158,14 +160,16 @@ record ReadSegment (c : Config) (k : List ℕ) (p : ℕ) (g : Seg) : Type 0 wher
   read : carriageOf (h .protocol) (h .source) (h .destination) (c .port) (part k (h .start) (h .end)) ≡ C.Segment s
   is : segOf s (part k (h .start + s .start) (h .end)) ≡ g
 
-peer-segment : (c : Config) (k : List ℕ) (p : ℕ) (g : Seg) (h : Ipv4) → ipv4Of k ≡ I.Packet h → h .destination ≡ c .own → (o : Option ℕ) → findPeer c (h .source) ≡ o
+peer-segment : (c : Config) (k : List ℕ) (p : ℕ) (g : Seg) (h : Ipv4) → ipv4Of k ≡ I.Packet h → h .destination ≡ c .own → (o : Option ℕ)
+    → findPeer c (h .source) ≡ o
     → peer? c h k o ≡ segment p g → ReadSegment c k p g
 peer-segment c k p g h ip ours none listed e = let z : _≡_ {A = ℕ} 0 1 = cc in absurd (omega arith)
 peer-segment c k p g h ip ours (some q) listed e =
     let x = carried-segment c q (h .start) (h .end) k (carriageOf (h .protocol) (h .source) (h .destination) (c .port) (part k (h .start) (h .end))) p g e in
     record { h = h; ip = ip; ours = ours; listed = listed ∙ ap some (x .1 .1 .0); s = x .0; read = x .1 .0; is = x .1 .1 .1 }
 
-ours-segment : (c : Config) (k : List ℕ) (p : ℕ) (g : Seg) (h : Ipv4) → ipv4Of k ≡ I.Packet h → (b : Bool) → eqb (h .destination) (c .own) ≡ b → ours? c h k b ≡ segment p g → ReadSegment c k p g
+ours-segment : (c : Config) (k : List ℕ) (p : ℕ) (g : Seg) (h : Ipv4) → ipv4Of k ≡ I.Packet h → (b : Bool) → eqb (h .destination) (c .own) ≡ b
+    → ours? c h k b ≡ segment p g → ReadSegment c k p g
 ours-segment c k p g h ip true b e = peer-segment c k p g h ip (eqb-true (h .destination) (c .own) b) (findPeer c (h .source)) refl e
 ours-segment c k p g h ip false b e = let z : _≡_ {A = ℕ} 0 1 = cc in absurd (omega arith)
 
@@ -220,7 +224,8 @@ worth-tunnel : (x : Verdict answers) (at : Place) (t : Target) (place : Place) �
 worth-tunnel (bad d) at t place e = let z : _≡_ {A = ℕ} 0 1 = cc in absurd (omega arith)
 worth-tunnel (good u) at t place e = (cc, cc)
 
-carried-tunnel : (c : Config) (q start end : ℕ) (k : List ℕ) (r : Carried) (p : ℕ) (t : Target) (place : Place) → carried? c q start end k r ≡ plain p (R.Delivered t place)
+carried-tunnel : (c : Config) (q start end : ℕ) (k : List ℕ) (r : Carried) (p : ℕ) (t : Target) (place : Place)
+    → carried? c q start end k r ≡ plain p (R.Delivered t place)
     → (u : Tunnel) × ((r ≡ C.Tunnel u) × ((innerFrom (c .networks) (c .kinds) (c .owners) (c .tenants) (c .bindings) q (u .kind) (u .network) (part k (start + u .start) end) ≡ good t)
     × (record { start = start + u .start; length = length (part k (start + u .start) end); «in_memory» = false } ≡ place)))
 unfolding tunnelFrom
@@ -235,7 +240,8 @@ carried-tunnel c q start end k (C.Tunnel u) p t place e =
     plain-is : (a b : Received) (i j : ℕ) → _≡_ {A = Seen answers} (plain i a) (plain j b) → a ≡ b
     plain-is a b i j z = cc
 
-peer-tunnel : (c : Config) (k : List ℕ) (p : ℕ) (t : Target) (place : Place) (h : Ipv4) → ipv4Of k ≡ I.Packet h → h .destination ≡ c .own → (o : Option ℕ) → findPeer c (h .source) ≡ o
+peer-tunnel : (c : Config) (k : List ℕ) (p : ℕ) (t : Target) (place : Place) (h : Ipv4) → ipv4Of k ≡ I.Packet h → h .destination ≡ c .own → (o : Option ℕ)
+    → findPeer c (h .source) ≡ o
     → peer? c h k o ≡ plain p (R.Delivered t place) → ReadTunnel c k t place
 peer-tunnel c k p t place h ip ours none listed e = let z : _≡_ {A = ℕ} 0 1 = cc in absurd (omega arith)
 peer-tunnel c k p t place h ip ours (some q) listed e =
@@ -247,7 +253,8 @@ ours-tunnel : (c : Config) (k : List ℕ) (p : ℕ) (t : Target) (place : Place)
 ours-tunnel c k p t place h ip true b e = peer-tunnel c k p t place h ip (eqb-true (h .destination) (c .own) b) (findPeer c (h .source)) refl e
 ours-tunnel c k p t place h ip false b e = let z : _≡_ {A = ℕ} 0 1 = cc in absurd (omega arith)
 
-ip-tunnel : (c : Config) (k : List ℕ) (p : ℕ) (t : Target) (place : Place) (x : Ipv4Read) → ipv4Of k ≡ x → ip? c k x ≡ plain p (R.Delivered t place) → ReadTunnel c k t place
+ip-tunnel : (c : Config) (k : List ℕ) (p : ℕ) (t : Target) (place : Place) (x : Ipv4Read) → ipv4Of k ≡ x → ip? c k x ≡ plain p (R.Delivered t place)
+    → ReadTunnel c k t place
 ip-tunnel c k p t place (I.Refused r) ip e = let z : _≡_ {A = ℕ} 0 1 = cc in absurd (omega arith)
 ip-tunnel c k p t place (I.Packet h) ip e = ours-tunnel c k p t place h ip (eqb (h .destination) (c .own)) refl e
 

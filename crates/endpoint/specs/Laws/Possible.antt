@@ -1,6 +1,6 @@
--- Demand 3 is not empty (document 01, "Whose packet it is"): a set-up and real packets meet its hypotheses. Five frames of one peer's, each cut into two segments, are mixed, four
--- pending at once and one under an identifier that is used again, with ticks, packets of the peer's own and other senders' between; and by the claim each is delivered once in that run, to the tenant of its
--- Context ID.
+-- Demand 3 is not empty (document 01, "Whose packet it is"): a set-up and real packets meet its hypotheses. Five frames of one peer's, each cut into two
+-- segments, are mixed, four pending at once and one under an identifier that is used again, with ticks, packets of the peer's own and other senders'
+-- between; and by the claim each is delivered once in that run, to the tenant of its Context ID.
 use mathlib.Core.Path.{_≡_, refl, sym, ap, subst, _∙_}
 use mathlib.Core.Bool.{Bool, true, false, cond}
 use mathlib.Core.List.{List, [], _∷_, _++_, map}
@@ -26,7 +26,8 @@ use Rattle.endpoint.specs.declared.answer.Received.the-variants as R
 use Rattle.endpoint.specs.Laws.PossibleRun.{calls, ready, listed, inner-a, inner-b, frame-a, frame-b, frame-c, frame-d, frames, own-packet, broken-packet, vxlan-packet, rival-packet, stray-packet, mixed, alone, turn}
 use Rattle.endpoint.specs.Laws.WorkedRun.{ready-config, heard-a0, heard-a1, heard-b0, heard-b1, heard-c0, heard-c1, heard-d0, heard-d1, worth-a, worth-b, heard-own, heard-broken, heard-vxlan, heard-rival, heard-stray, mixes-frames, turns-frames}
 
--- ---- what demand 3 asks for, of a configuration and a peer: cuts of good frames, a mixing of them, the same segments one after another, and a second run that is alike for the peer
+-- ---- what demand 3 asks for, of a configuration and a peer: cuts of good frames, a mixing of them, the same segments one after another, and a second run
+-- that is alike for the peer
 
 pub record Hypotheses (c : Config) (p : ℕ) (frames : List Frame) (items less turn : List Item) : Type 0 where
   pub cuts : Cuts answers Config layers c p frames
@@ -118,7 +119,8 @@ own : (k : List ℕ) (x : Seen answers) → headerOf listed k ≡ x → from ans
 own k x e = ap (isPeer 0) (sym (header-whose listed (omega arith) k) ∙ ap (peerOf answers) e)
 
 -- another sender's packet is struck out
-struck-out : (mine : List ℕ → Bool) (before after : List Event) (k : List ℕ) → mine k ≡ false → strike mine (before ++ (receive k ∷ after)) ≡ strike mine (before ++ after)
+struck-out : (mine : List ℕ → Bool) (before after : List Event) (k : List ℕ) → mine k ≡ false
+    → strike mine (before ++ (receive k ∷ after)) ≡ strike mine (before ++ after)
 struck-out mine [] after k e = rw e
 struck-out mine (tick ∷ before) after k e = ap (λ (x : List Event). tick ∷ x) (struck-out mine before after k e)
 struck-out mine (receive j ∷ before) after k e = ap (λ (x : List Event). cond (mine j) (receive j ∷ x) x) (struck-out mine before after k e)
@@ -147,7 +149,8 @@ pub record Delivers (tenant binding : ℕ) (frame : List ℕ) (a : Answer answer
   pub reply : a .reply ≡ inMemory (record { tenant = tenant; binding = binding }) place (length frame)
   pub bytes : a .bytes ≡ frame
 
--- what peer 0 is answered: to each frame's first segment in the run 1, though four are pending; to its last, 0; frame 4, under frame 0's identifier, is a frame of its own
+-- what peer 0 is answered: to each frame's first segment in the run 1, though four are pending; to its last, 0; frame 4, under frame 0's identifier, is a
+-- frame of its own
 pub record Answered (w : World Config) : Type 0 where
   pub waits-0 : answerIn answers Config layers w frames [] 0 1 ≡ bare answers R.Pending
   pub waits-1 : answerIn answers Config layers w frames (take 2 mixed) 1 0 ≡ bare answers R.Pending

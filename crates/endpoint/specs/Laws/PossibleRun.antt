@@ -1,5 +1,6 @@
--- A set-up, five STT frames of one peer's in real packets, four of them pending at once and the fifth under an identifier that is used again, and a run that mixes them with packets of the peer's own, one
--- delivered and one refused, and with other senders' (document 01, "Whose packet it is"): what Possible shows to meet demand 3's hypotheses.
+-- A set-up, five STT frames of one peer's in real packets, four of them pending at once and the fifth under an identifier that is used again, and a run
+-- that mixes them with packets of the peer's own, one delivered and one refused, and with other senders' (document 01, "Whose packet it is"): what Possible
+-- shows to meet demand 3's hypotheses.
 -- Only definitions. A number that stands alone is a byte.
 use Prim.Native.Nat.{ℕ}
 use mathlib.Core.List.{List, [], _∷_, _++_}
@@ -10,8 +11,8 @@ use Rattle.reassembly.specs.Mix.{Frame, Item, given, other}
 use Rattle.endpoint.specs.Config.{Config, Adding, addPeer, addBinding, setUp}
 use Rattle.endpoint.specs.declared.config.Endpoint.{Endpoint}
 
--- ---- the set-up: we are 10.0.0.1, STT port 7471, MTU 1500. Peer 0 is 10.0.0.2, with two Context IDs and a VXLAN network; peer 1 is 10.0.0.3, with a VXLAN network.
--- Two calls are refused: our own address as a peer, and a binding that is listed
+-- ---- the set-up: we are 10.0.0.1, STT port 7471, MTU 1500. Peer 0 is 10.0.0.2, with two Context IDs and a VXLAN network; peer 1 is 10.0.0.3, with a VXLAN
+-- network. Two calls are refused: our own address as a peer, and a binding that is listed
 
 abbrev pub calls : List Adding
 calls =
@@ -136,7 +137,8 @@ own-packet = fromHost 2 50 17 38 185 (onVxlan 30 inner-a)
 abbrev pub broken-packet : List ℕ
 broken-packet = fromHost 2 50 6 38 196 (carries 32 0 3 233 186 144 front-a)
 
--- ---- other senders' packets: peer 1's on its VXLAN network; peer 1's segment under frame 0's identifier, in the place of frame 0's first; and one from 10.0.0.9, which is no peer
+-- ---- other senders' packets: peer 1's on its VXLAN network; peer 1's segment under frame 0's identifier, in the place of frame 0's first; and one from
+-- 10.0.0.9, which is no peer
 
 abbrev pub vxlan-packet : List ℕ
 vxlan-packet = fromHost 3 50 17 38 184 (onVxlan 30 inner-a)
@@ -147,7 +149,8 @@ rival-packet = fromHost 3 50 6 38 195 (carries 32 0 3 233 186 142 (replicate 10 
 abbrev pub stray-packet : List ℕ
 stray-packet = fromHost 9 50 17 38 178 (onVxlan 30 inner-a)
 
--- ---- the run: frames 0 to 3 are pending together, frame 0 over three ticks; then frame 0 is complete, and frame 4 comes under its identifier, while 1 to 3 are still pending
+-- ---- the run: frames 0 to 3 are pending together, frame 0 over three ticks; then frame 0 is complete, and frame 4 comes under its identifier, while 1 to
+-- 3 are still pending
 
 abbrev pub mixed : List Item
 mixed =

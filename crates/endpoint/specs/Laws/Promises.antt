@@ -44,13 +44,16 @@ pub add-binding-promised : (e : Endpoint) (peer kind network tenant : ℕ) (r : 
     → (r ≡ addBindingOf e peer kind network tenant)
     × ((addedValuesOf (r .answer) .number ≡ numbered (addBindingRows e peer kind network tenant)) × AddRule e (BindingAdded e peer kind network tenant) r)
 add-binding-promised e peer kind network tenant r is =
-    (is, (added-number (r .answer) ∙ rw is (document-table .add-binding e peer kind network tenant), rw is (demand-one .add-binding e peer kind network tenant)))
+    let number : addedValuesOf (r .answer) .number ≡ numbered (addBindingRows e peer kind network tenant) =
+    added-number (r .answer) ∙ rw is (document-table .add-binding e peer kind network tenant) in
+    (is, (number, rw is (demand-one .add-binding e peer kind network tenant)))
 
 -- ---- receive
 
 pub receive-promised : (e : Endpoint) (m k : List ℕ) (r : Receipt) (m′ : List ℕ) → r ≡ receiptOf e (stepOf e m k) → m′ ≡ stepOf e m k .mem
     → (r ≡ receiptOf e (stepOf e m k))
-    × ((m′ ≡ stepOf e m k .mem) × ((Bytes k → valuesOf (r .answer) .number ≡ numbered (receiveRows e m k)) × ReceiveRule e m k (valuesOf (r .answer)) (r .endpoint) m′))
+    × ((m′ ≡ stepOf e m k .mem)
+    × ((Bytes k → valuesOf (r .answer) .number ≡ numbered (receiveRows e m k)) × ReceiveRule e m k (valuesOf (r .answer)) (r .endpoint) m′))
 receive-promised e m k r m′ is left = (is, (left, (λ b. rw is (document-table .receive e m k b), rw (is, left) (demand-one .receive e m k))))
 
 -- ---- a tick
@@ -66,4 +69,5 @@ pub wrap-promised : (e : Endpoint) (b : ℕ) (frame : List ℕ) (segment identif
     × ((output′ ≡ wrapOf e b frame segment identifier output .output)
     × ((Reached e → wrapValuesOf r .number ≡ numbered (wrapRows e b frame segment output)) × WrapRule output (wrapValuesOf r) output′))
 wrap-promised e b frame segment identifier output r output′ is left =
-    (is, (left, (λ reached. rw is (document-table .wrap e reached b frame segment identifier output), rw (is, left) (demand-one .wrap e b frame segment identifier output))))
+    let rule : WrapRule output (wrapValuesOf r) output′ = rw (is, left) (demand-one .wrap e b frame segment identifier output) in
+    (is, (left, (λ reached. rw is (document-table .wrap e reached b frame segment identifier output), rule)))

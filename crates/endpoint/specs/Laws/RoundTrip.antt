@@ -34,7 +34,8 @@ use Rattle.endpoint.specs.Laws.Wrap.{Says, written-says, Ready, Listed, 
 use Rattle.endpoint.specs.Reached.{Reached, reached-ready}
 use Rattle.endpoint.specs.Demand2.{Delivers}
 use Rattle.endpoint.specs.Laws.Demand2.{complete-packet}
-use Rattle.endpoint.specs.Demand2Writing.{CarriesWhole, CarriesPart, portion, sent-vxlan, sent-nvgre, sent-stt}
+use Rattle.endpoint.specs.Demand2Writing.{CarriesWhole, CarriesPart, portion}
+use Rattle.endpoint.specs.Laws.Demand2Writing.{sent-vxlan, sent-nvgre, sent-stt}
 use Rattle.endpoint.specs.Demand3.{Demand3}
 use Rattle.endpoint.specs.Laws.Demand3.{demand-three}
 use Rattle.endpoint.specs.RoundTrip.{segmentsFor, Wraps, Matches, Order, arrivals, Answered, RoundTrip}

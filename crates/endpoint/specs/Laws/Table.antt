@@ -73,7 +73,7 @@ some-lowest n f =
 -- ---- start and adding
 
 pub start-number : (own port mtu : ℕ) → startCode (startOf own port mtu .answer) ≡ T.numbered (P.startRows own port mtu)
-unfolding startOf startChecks
+unfolding startOf startChecks P.startRows
 start-number own port mtu =
     pull (λ (s : Started). startCode (s .answer)) refusedStart (startChecks own port mtu) (record { endpoint = fresh own port mtu; answer = S.Done })
     ∙ row6 18 (eqb (own / 2 ^ 24) 0) (leb 224 (own / 2 ^ 24)) (eqb port 0) (ltb 65535 port) (ltb mtu 576) (ltb 1600 mtu) 0
@@ -83,7 +83,7 @@ peer-rows true a b o x = refl
 peer-rows false a b o x = row3 18 a b o x
 
 pub add-peer-number : (e : Endpoint) (address : ℕ) → addedCode (addPeerOf e address .answer) ≡ T.numbered (P.addPeerRows e address)
-unfolding addPeerOf addPeerChecks findPeer configOf hasAddress
+unfolding addPeerOf addPeerChecks findPeer configOf hasAddress P.addPeerRows
 add-peer-number e address =
     rw (some-lowest (min (e .«peer_count») 8) (λ i. eqb (getD (e .addresses) i 0) address))
     (pull (λ (s : Configured). addedCode (s .answer)) (refusedAdd e) (addPeerChecks e address)
@@ -123,7 +123,7 @@ network-bad (suc (suc (suc (suc kind)))) id =
 
 pub add-binding-number : (e : Endpoint) (peer kind network tenant : ℕ)
     → addedCode (addBindingOf e peer kind network tenant .answer) ≡ T.numbered (P.addBindingRows e peer kind network tenant)
-unfolding addBindingOf addBindingChecks findBinding configOf binds
+unfolding addBindingOf addBindingChecks findBinding configOf binds P.addBindingRows
 add-binding-number e peer kind network tenant =
     rw (some-lowest (min (e .«binding_count») 64) (P.isBinding e peer kind network), sym (network-bad kind network))
     (pull (λ (s : Configured). addedCode (s .answer)) (refusedAdd e) (addBindingChecks e peer kind network tenant)
@@ -142,7 +142,7 @@ module _ (e : Endpoint) (peer kind network : ℕ) (frame : List ℕ) where
   verdict = innerFrom (e .networks) (e .kinds) (e .owners) (e .tenants) (P.bindings e) peer kind network frame
 
   inner-number : verdictNumber verdict ≡ T.numbered (P.innerRows e peer kind network frame)
-  unfolding innerFrom binds verdictNumber
+  unfolding innerFrom binds verdictNumber P.innerRows
   inner-number =
       rw (some-lowest (P.bindings e) (P.isBinding e peer kind network))
       (by-binding (lowest (P.isBinding e peer kind network) (P.bindings e)))
@@ -272,7 +272,7 @@ module _ (e : Endpoint) (m k : List ℕ) where
       by-verdict (good t) place = refl
 
   segment-is : peer < 8 → 55296 ≤ length m → segmentNumber carried ≡ T.numbered (P.sttNext e m peer payload)
-  unfolding segmentNumber
+  unfolding segmentNumber P.sttNext
   segment-is small enough =
       ap (λ (bs : List ℕ). seenNumber e m (segment peer (segOf carried bs))) (sym (part-drop k start end (4 * T.dataWordsOf payload)))
       ∙ segment-number e m peer (P.segmentOf payload) small enough
@@ -280,6 +280,7 @@ module _ (e : Endpoint) (m k : List ℕ) where
   payload-number : Bytes k → peer < 8 → 55296 ≤ length m
       → seenNumber e m (carried? (configOf e) peer start end k (carriageOf protocol (T.sourceOf k) (T.destinationOf k) (e .port) payload))
       ≡ T.numbered (carriage andThen next)
+  unfolding P.vxlanNext P.nvgreNext
   payload-number bytes small enough =
       carried-is (carriageOf protocol (T.sourceOf k) (T.destinationOf k) (e .port) payload)
       ∙ wire-table .payload tunnelNumber segmentNumber protocol (T.sourceOf k) (T.destinationOf k) (e .port) payload (bytes-part k bytes start end) short
@@ -339,7 +340,7 @@ module _ (e : Endpoint) (m k : List ℕ) where
         by-header (I.Refused r) = refl
 
   pub receive-number : Bytes k → valuesOf (stepOf e m k .answer) .number ≡ T.numbered (P.receiveRows e m k)
-  unfolding stepOf seenNumber
+  unfolding stepOf seenNumber P.receiveRows
   receive-number bytes =
       caseB (ltb (length m) 55296)
       (λ q. rw q)
@@ -416,7 +417,7 @@ module _ (e : Endpoint) (b : ℕ) (frame : List ℕ) (k identifier : ℕ) (outpu
       by (stt q) = last-stt q (l .mtu-least)
 
   pub wrap-number : Reached e → wrapValuesOf (wrapOf e b frame k identifier output .answer) .number ≡ T.numbered (P.wrapRows e b frame k output)
-  unfolding wrapOf wrapChecks configOf
+  unfolding wrapOf wrapChecks configOf P.wrapRows
   wrap-number reached =
       pull (λ (w : Wrote). wrapValuesOf (w .answer) .number) (refusedWrap output) (wrapChecks e b frame k identifier output) _
       ∙ under (λ (n : ℕ). n) ((leb (P.bindings e) b ⇒ 23) ∷ []) _ _ (λ p.

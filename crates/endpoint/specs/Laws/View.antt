@@ -1,8 +1,8 @@
 -- The view's rule holds of what the contract of `view` promises; and the ways out of `cut`.
 -- Assumes nothing.
 use Prim.Native.Nat.{ℕ, _+_, _<_, _≤_}
-use mathlib.Core.Path.{_≡_, refl, sym, ap, _∙_}
-use mathlib.Core.Bool.{Bool, true, false, cond}
+use mathlib.Core.Path.{_≡_, sym, ap, _∙_}
+use mathlib.Core.Bool.{true, false, cond}
 use mathlib.Core.List.{List}
 use native.Mathlib.Omega.{arith}
 use native.Mathlib.Nat.{add-zero}
@@ -14,12 +14,13 @@ use denote.Ref.{RefT}
 use Rattle.reassembly.specs.Laws.Base.{caseB}
 use Rattle.reassembly.specs.Receive.{partOfSlice}
 use Rattle.endpoint.specs.Answer.{placeOf}
-use Rattle.endpoint.specs.View.{partStart, startOf, Viewed, viewOf, cutWithin, cutOf, Shows, ViewRule}
+use Rattle.endpoint.specs.View.{partStart, Viewed, cutWithin, cutOf, Shows, ViewRule}
 use Rattle.endpoint.specs.declared.answer.Place as E
 
 -- ---- the part of one slice
 
-fits-shows : (packet s r : RefT (List ℕ)) (start len : ℕ) → start + len ≤ length (s .now) → r .now ≡ partOfSlice (s .now) start len → r .ptr ≡ partStart packet s start len → Shows s start len r
+fits-shows : (packet s r : RefT (List ℕ)) (start len : ℕ) → start + len ≤ length (s .now) → r .now ≡ partOfSlice (s .now) start len
+    → r .ptr ≡ partStart packet s start len → Shows s start len r
 fits-shows packet s r start len l bytes begins =
     let fits : leb (start + len) (length (s .now)) ≡ true = le-leb (start + len) (length (s .now)) l in
     let is : r .now ≡ take len (drop start (s .now)) = rw fits at bytes in
@@ -29,7 +30,8 @@ fits-shows packet s r start len l bytes begins =
       begins = rw fits at begins;
     }
 
-past-shows : (packet s r : RefT (List ℕ)) (start len : ℕ) → length (s .now) < start + len → r .now ≡ partOfSlice (s .now) start len → r .ptr ≡ partStart packet s start len → Shows packet 0 0 r
+past-shows : (packet s r : RefT (List ℕ)) (start len : ℕ) → length (s .now) < start + len → r .now ≡ partOfSlice (s .now) start len
+    → r .ptr ≡ partStart packet s start len → Shows packet 0 0 r
 past-shows packet s r start len l bytes begins =
     let past : leb (start + len) (length (s .now)) ≡ false = lt-leb (start + len) (length (s .now)) l in
     record {

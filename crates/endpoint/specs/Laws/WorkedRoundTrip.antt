@@ -1,6 +1,6 @@
--- The round trip is not empty: every good frame that the MTU lets through is wrapped, its segments have an order, and two set-ups match on a binding of each kind, so between them every such frame
--- makes the trip. At an MTU of 576 a frame of 1,514 bytes on the STT network makes it in three segments, the last first and the second last: the answers are 1, 1 and 0.
--- Assumes nothing.
+-- The round trip is not empty: every good frame that the MTU lets through is wrapped, its segments have an order, and two set-ups match on a binding of
+-- each kind, so between them every such frame makes the trip. At an MTU of 576 a frame of 1,514 bytes on the STT network makes it in three segments, the
+-- last first and the second last: the answers are 1, 1 and 0. Assumes nothing.
 use Prim.Native.Nat.{ℕ, zero, suc, _+_, _-_, _^_, _<_, _≤_}
 use mathlib.Core.Path.{_≡_, refl, sym, ap, subst, _∙_}
 use mathlib.Core.Logic.{_⊎_, inl, inr}

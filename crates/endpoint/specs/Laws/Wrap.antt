@@ -9,12 +9,13 @@ use native.Mathlib.Omega.{arith}
 use borrow.Author.Tests.{ltb-true, ltb-false, leb-false, eqb-true, le-ltb, lt-leb}
 use lib.ListN.{length, getD}
 use lib.Dec.{ltb, leb, eqb}
-use Rattle.wire.specs.Checks.{Passed, pass, passed}
+use Rattle.wire.specs.Checks.{Passed}
+use Rattle.wire.specs.Laws.Checks.{pass, passed}
 use Rattle.wire.specs.Frame.{frameOf, IsFrame}
-use Rattle.wire.specs.Frame as G
+use Rattle.wire.specs.Laws.Frame as G
 use Rattle.wire.specs.declared.frame.FrameRead.{FrameRead}
 use Rattle.wire.specs.declared.frame.FrameRead.the-variants as F
-use Rattle.wire.specs.Laws.Bytes.{wrote}
+use Rattle.wire.specs.Bytes.{wrote}
 use Rattle.wire.specs.Write.{vxlanPacket, nvgrePacket, segmentPacket}
 use Rattle.reassembly.specs.Laws.Base.{caseB, either, clash, and-l, and-r, or-cases}
 use Rattle.endpoint.specs.Config.{Config, configOf, addressChecks, startChecks, fresh, isNetwork}

@@ -9,8 +9,9 @@ use native.Mathlib.Nat.{suc-mul, le-div-iff-mul-le}
 use borrow.Author.Tests.{eq-eqb, ne-eqb, lt-ltb, le-ltb, le-leb, lt-leb, leb-true, leb-false, eqb-false}
 use lib.ListN.{length, getD}
 use lib.Dec.{ltb, leb, eqb}
-use Rattle.wire.specs.Laws.Bytes.{wrote}
-use Rattle.wire.specs.Checks.{Check, _⇒_, first, At, given, decided, tests}
+use Rattle.wire.specs.Bytes.{wrote}
+use Rattle.wire.specs.Checks.{Check, _⇒_, first}
+use Rattle.wire.specs.Laws.Checks.{At, given, decided, tests}
 use Rattle.wire.specs.Frame.{frameOf}
 use Rattle.wire.specs.Write.{fits, segmentFits, vxlanPacket, nvgrePacket, segmentPacket, Written}
 use Rattle.wire.specs.Laws.Write.{fits-met, fits-says, segment-fits-met, segment-fits-says, vxlan-length-is, nvgre-length-is, segment-length-is}

@@ -1,4 +1,5 @@
--- The segments taken for a frame since it opened make it up, byte by byte: proved over the memory of pieces, whose pieces are the log's (Log), and carried to the bytes. Each of them came in the run.
+-- The segments taken for a frame since it opened make it up, byte by byte: proved over the memory of pieces, whose pieces are the log's (Log), and carried
+-- to the bytes. Each of them came in the run.
 use mathlib.Core.Path.{_≡_, refl, sym, ap, subst, _∙_}
 use mathlib.Core.Bool.{true, false, cond}
 use mathlib.Core.List.{List, [], _∷_, _++_, append-assoc, append-nil}
@@ -66,18 +67,22 @@ module _ (W : Answers) (Config : Type 0) (U : Layers W Config) (p : ℕ) where
       pub came : (t : ℕ) → Came c past (L t)
 
     -- what the log gains came in the run
-    enters-came : (past : List Event) (L : Log) (g : Seg) (x : Choice) → CameIn W Config U p c past g → ((t : ℕ) → Came c past (L t)) → (t : ℕ) → Came c past (enters L g x t)
+    enters-came : (past : List Event) (L : Log) (g : Seg) (x : Choice) → CameIn W Config U p c past g → ((t : ℕ) → Came c past (L t)) → (t : ℕ)
+        → Came c past (enters L g x t)
     enters-came past L g (reject r) i a t = a t
     enters-came past L g (old s) i a t = caseB (eqb t s) (λ q. rw q (i, a s)) (λ q. rw q (a t))
     enters-came past L g (fresh s) i a t = caseB (eqb t s) (λ q. rw q (i, tt)) (λ q. rw q (a t))
 
-    entered-came : (past : List Event) (L : Log) (g : Seg) (x : Choice) (o : Outcome) → CameIn W Config U p c past g → ((t : ℕ) → Came c past (L t)) → (t : ℕ) → Came c past (entered L g x o t)
+    entered-came : (past : List Event) (L : Log) (g : Seg) (x : Choice) (o : Outcome) → CameIn W Config U p c past g → ((t : ℕ) → Came c past (L t))
+        → (t : ℕ) → Came c past (entered L g x o t)
     entered-came past L g x (Rejected r) i a t = a t
     entered-came past L g x Pending i a t = enters-came past L g x i a t
     entered-came past L g x (Complete s) i a t = enters-came past L g x i a t
     entered-came past L g x NoMemory i a t = a t
 
-    seen-came : (past : List Event) (s : State bytesOf) (L : Log) (x : Seen W) → ((q : ℕ) (g : Seg) → x ≡ segment q g → q ≡ p → CameIn W Config U p c past g) → ((t : ℕ) → Came c past (L t)) → (t : ℕ) → Came c past (logSeen W Config U p (world s) L x t)
+    seen-came : (past : List Event) (s : State bytesOf) (L : Log) (x : Seen W)
+        → ((q : ℕ) (g : Seg) → x ≡ segment q g → q ≡ p → CameIn W Config U p c past g) → ((t : ℕ) → Came c past (L t)) → (t : ℕ)
+        → Came c past (logSeen W Config U p (world s) L x t)
     seen-came past s L (stranger a) i h t = h t
     seen-came past s L (plain q a) i h t = h t
     seen-came past s L (segment q g) i h t =
@@ -94,7 +99,8 @@ module _ (W : Answers) (Config : Type 0) (U : Layers W Config) (p : ℕ) where
         take-alike bytesOf ghost bytes-laws ghost-laws p p< (getD (s .rows) p noRow) (s .mem) (g .mem) x (h .same) in
         rw (take-in p (getD (s .rows) p noRow) (s .mem) x p< (h .same .okA), l .outcome, r)
 
-    mine-logs : (s : State bytesOf) (g : State ghost) (L : Log) (x : Seen W) → mine W p x ≡ true → Sim bytesOf ghost p s g → Logs p (getD (g .rows) p noRow .slots) (g .mem) L
+    mine-logs : (s : State bytesOf) (g : State ghost) (L : Log) (x : Seen W) → mine W p x ≡ true → Sim bytesOf ghost p s g
+        → Logs p (getD (g .rows) p noRow .slots) (g .mem) L
         → Logs p (getD (react W judge ghost g x .state .rows) p noRow .slots) (react W judge ghost g x .state .mem) (logSeen W Config U p (world s) L x)
     mine-logs s g L (stranger a) m h l = l
     mine-logs s g L (plain q a) m h l = l
@@ -151,7 +157,8 @@ module _ (W : Answers) (Config : Type 0) (U : Layers W Config) (p : ℕ) where
               (subst (λ (w : World Config). Inv ((past ++ (v ∷ [])) ++ es) (r .state) (r .ghosts) (logRun W Config U p w (logNext W Config U p (world s) L v) es)) (sym q) (r .inv));
         }
 
-    pub log-snoc : (es : List Event) (w : World Config) (L : Log) (e : Event) → logRun W Config U p w L (es ++ (e ∷ [])) ≡ logNext W Config U p (runs W Config U w es) (logRun W Config U p w L es) e
+    pub log-snoc : (es : List Event) (w : World Config) (L : Log) (e : Event)
+        → logRun W Config U p w L (es ++ (e ∷ [])) ≡ logNext W Config U p (runs W Config U w es) (logRun W Config U p w L es) e
     log-snoc [] w L e = refl
     log-snoc (v ∷ es) w L e = log-snoc es (next W Config U w v) (logNext W Config U p w L v) e
 

@@ -1,4 +1,5 @@
--- The claim, proved of every set-up whose layers keep their promise. A run never changes the configuration, so the layers that read it are one function throughout.
+-- The claim, proved of every set-up whose layers keep their promise. A run never changes the configuration, so the layers that read it are one function
+-- throughout.
 use mathlib.Core.Path.{_≡_, refl, sym, ap, subst, _∙_}
 use mathlib.Core.Bool.{Bool, true, false, cond, _&&_}
 use mathlib.Core.List.{List, [], _∷_, _++_, map, append-assoc}
@@ -30,7 +31,8 @@ use Rattle.reassembly.specs.Claim.{answerIn, delivery, deliveries, Cuts,
 sum-other : (d s : ℕ) → d ≡ cond (ltb 0 s) 1 0 → 0 + d ≡ cond (ltb 0 (0 + s)) 1 0
 sum-other d s h = simp zero-add h
 
-sum-given : (b t : Bool) (d s : ℕ) → d ≡ cond (ltb 0 s) 1 0 → (b ≡ true → 0 < s → t ≡ false) → (b ≡ true → s ≡ 0 → t ≡ true) → cond (b && t) 1 0 + d ≡ cond (ltb 0 (cond b 1 0 + s)) 1 0
+sum-given : (b t : Bool) (d s : ℕ) → d ≡ cond (ltb 0 s) 1 0 → (b ≡ true → 0 < s → t ≡ false) → (b ≡ true → s ≡ 0 → t ≡ true)
+    → cond (b && t) 1 0 + d ≡ cond (ltb 0 (cond b 1 0 + s)) 1 0
 sum-given false t d s h u v = sum-other d s h
 sum-given true t d s h u v =
     let z : ltb 0 (1 + s) ≡ true = lt-ltb 0 (1 + s) (omega arith) in
@@ -38,7 +40,8 @@ sum-given true t d s h u v =
     (λ e. rw (u refl (ltb-true 0 s e), z) (omega (arith, rw e at h)))
     (λ e. rw (v refl (omega (arith, ltb-false 0 s e)), z) (omega (arith, rw e at h)))
 
-pub set-up-rows : (Config Adding : Type 0) (adds : Config → Adding → Config) (as′ : List Adding) (e : Endpoint Config) → added Config Adding adds e as′ .rows ≡ e .rows
+pub set-up-rows : (Config Adding : Type 0) (adds : Config → Adding → Config) (as′ : List Adding) (e : Endpoint Config)
+    → added Config Adding adds e as′ .rows ≡ e .rows
 set-up-rows Config Adding adds [] e = refl
 set-up-rows Config Adding adds (a ∷ as′) e = set-up-rows Config Adding adds as′ (record { config = adds (e .config) a; rows = e .rows })
 
@@ -77,7 +80,8 @@ module _ (W : Answers) (Config : Type 0) (U : Layers W Config) where
       rw (runs-snoc frames before x w) at (counts frames items w f c rest (before ++ (x ∷ [])) (is ∙ sym (append-assoc before (x ∷ []) rest))) in
       item x is ih
     where
-      item : (x : Item) → items ≡ before ++ (x ∷ rest) → deliveries W Config U frames f (next W Config U (runs W Config U w (map (event frames) before)) (event frames x)) rest ≡ cond (ltb 0 (segmentsOf f rest)) 1 0
+      item : (x : Item) → items ≡ before ++ (x ∷ rest)
+          → deliveries W Config U frames f (next W Config U (runs W Config U w (map (event frames) before)) (event frames x)) rest ≡ cond (ltb 0 (segmentsOf f rest)) 1 0
           → delivery W Config U frames f (runs W Config U w (map (event frames) before)) x + deliveries W Config U frames f (next W Config U (runs W Config U w (map (event frames) before)) (event frames x)) rest
           ≡ cond (ltb 0 (segmentsOf f (x ∷ rest))) 1 0
       item (other e) is′ ih = sum-other (deliveries W Config U frames f (next W Config U (runs W Config U w (map (event frames) before)) e) rest) (segmentsOf f rest) ih
@@ -132,7 +136,8 @@ module _ (W : Answers) (Config : Type 0) (U : Layers W Config) where
     abbrev backOf : List ℕ → Said W Config U → Answer W
     backOf k o = record { reply = o .reply; bytes = viewOf k (o .world .mem) (W .place (o .reply)) }
 
-    back : (s : State bytesOf) (g : State ghost) (k : List ℕ) (x : Seen W) → Kept W x → Good s g → backOf k (saidOf W Config U (at s) x) ≡ fill W k (react W judge bytesOf s x .answer)
+    back : (s : State bytesOf) (g : State ghost) (k : List ℕ) (x : Seen W) → Kept W x → Good s g
+        → backOf k (saidOf W Config U (at s) x) ≡ fill W k (react W judge bytesOf s x .answer)
     back s g k (stranger a) o h = rw o
     back s g k (plain q a) o h = rw (o .1)
     back s g k (segment q x) o h =
@@ -166,7 +171,8 @@ module _ (W : Answers) (Config : Type 0) (U : Layers W Config) where
         let lq : q < 8 = rw e at (promise .kept k) in
         rw e (backs-fill W judge k _ _ (take-back W judge q (getD (s .rows) q noRow) k (s .mem) x lq (h .rows-ok q lq) (h .same .okA)))
 
-    answer-at : (frames : List Frame) (before : List Item) (f j : ℕ) (m : List ℕ) (q : ℕ) (x : Seg) → header (partOf (frameOf frames f) j .packet) ≡ segment q x → 55296 ≤ length m
+    answer-at : (frames : List Frame) (before : List Item) (f j : ℕ) (m : List ℕ) (q : ℕ) (x : Seg)
+        → header (partOf (frameOf frames f) j .packet) ≡ segment q x → 55296 ≤ length m
         → answerIn W Config U (at (start bytesOf m)) frames before f j
         ≡ react W judge bytesOf (run W judge bytesOf header (start bytesOf m) (map (event frames) before)) (header (partOf (frameOf frames f) j .packet)) .answer
     answer-at frames before f j m q x e o =
@@ -251,7 +257,8 @@ module _ (W : Answers) (Config : Type 0) (U : Layers W Config) where
 
   -- of every set-up whose configuration's layers keep their promise, for each peer
   module _ (Adding : Type 0) (adds : Config → Adding → Config) where
-    pub claim : (c : Config) (as′ : List Adding) → Promised W Config U (setUp Config Adding adds c as′ .config) → (p : ℕ) → p < 8 → Claim W Config U (setUp Config Adding adds c as′) p
+    pub claim : (c : Config) (as′ : List Adding) → Promised W Config U (setUp Config Adding adds c as′ .config) → (p : ℕ) → p < 8
+        → Claim W Config U (setUp Config Adding adds c as′) p
     claim c₀ as′ promised p p< = rw-rows (setUp Config Adding adds c₀ as′) (set-up-rows Config Adding adds as′ (record { config = c₀; rows = emptyRows })) promised
       where
         rw-rows : (e : Endpoint Config) → e .rows ≡ emptyRows → Promised W Config U (e .config) → Claim W Config U e p

@@ -1,16 +1,15 @@
 -- Where the parts of a cut lie: each inside the whole, no two in one place, every byte in one of them.
-use mathlib.Core.Path.{_≡_, refl, sym, ap, subst, _∙_}
-use mathlib.Core.Logic.{_⊎_, inl, inr, _≢_}
-use mathlib.Core.Bool.{Bool, true, false, cond, _&&_, _||_}
-use mathlib.Core.List.{List, [], _∷_, _++_, map}
-use Prim.Native.Nat.{ℕ, zero, suc, _+_, _-_, _*_, _≤_, _<_}
+use mathlib.Core.Path.{_≡_, sym, ap, _∙_}
+use mathlib.Core.Logic.{_≢_}
+use mathlib.Core.Bool.{true}
+use mathlib.Core.List.{List, [], _∷_, _++_}
+use Prim.Native.Nat.{ℕ, zero, suc, _+_, _-_, _≤_, _<_}
 use native.Mathlib.Omega.{arith}
-use native.Mathlib.Nat.{zero-add}
 use lib.ListN.{length, getD, take, length-append, List·getD-append}
 use lib.Seq.{getD-append-add}
-use lib.Dec.{ltb, leb, eqb}
-use borrow.Author.Tests.{ltb-true, ltb-false, leb-true, leb-false, eqb-true, eqb-false, lt-ltb, le-ltb, le-leb, lt-leb, eq-eqb, ne-eqb}
-use Rattle.reassembly.specs.Laws.Base.{caseB, either, clash, and-l, and-r}
+use lib.Dec.{ltb}
+use borrow.Author.Tests.{ltb-true, ltb-false}
+use Rattle.reassembly.specs.Laws.Base.{caseB}
 use Rattle.reassembly.specs.Base.{within}
 use Rattle.reassembly.specs.Laws.Memory.{within-low, within-high, within-is}
 use Rattle.reassembly.specs.Mix.{Part, noPart, joined, offsetOf}
@@ -42,7 +41,8 @@ part-differ ps j k lj lk n some q =
     (λ e. absurd (omega (arith, part-order ps k j (omega (arith, ltb-false j k e)) lj, some k lk)))
 
 -- one place lies in one part only
-pub part-one : (ps : List Part) (j k i : ℕ) → j < length ps → k < length ps → within (offsetOf ps j) (size ps j) i ≡ true → within (offsetOf ps k) (size ps k) i ≡ true → j ≡ k
+pub part-one : (ps : List Part) (j k i : ℕ) → j < length ps → k < length ps → within (offsetOf ps j) (size ps j) i ≡ true
+    → within (offsetOf ps k) (size ps k) i ≡ true → j ≡ k
 part-one ps j k i lj lk wj wk =
     let a : offsetOf ps j ≤ i = within-low _ (size ps j) i wj in
     let b : i < offsetOf ps j + size ps j = within-high (offsetOf ps j) (size ps j) i wj in
@@ -55,7 +55,8 @@ part-one ps j k i lj lk wj wk =
     (λ f. omega (arith, ltb-false j k e, ltb-false k j f)))
 
 -- the byte of the whole at a place in part j is that part's byte
-pub part-byte : (ps : List Part) (j i : ℕ) → j < length ps → within (offsetOf ps j) (size ps j) i ≡ true → getD (getD ps j noPart .bytes) (i - offsetOf ps j) 0 ≡ getD (joined ps) i 0
+pub part-byte : (ps : List Part) (j i : ℕ) → j < length ps → within (offsetOf ps j) (size ps j) i ≡ true
+    → getD (getD ps j noPart .bytes) (i - offsetOf ps j) 0 ≡ getD (joined ps) i 0
 part-byte [] j i l w = absurd (omega arith)
 part-byte (x ∷ ps) zero i l w =
     let h : i < 0 + length (x .bytes) = within-high 0 (length (x .bytes)) i w in

@@ -1,4 +1,5 @@
--- The invariant of a mixing, over the memory of pieces: the peer's pending slots are the frames pending, each in one slot, with its identifier, its length, its age, what is noted, and the segments given.
+-- The invariant of a mixing, over the memory of pieces: the peer's pending slots are the frames pending, each in one slot, with its identifier, its length,
+-- its age, what is noted, and the segments given.
 use mathlib.Core.Path.{_≡_, refl, sym, ap, _∙_}
 use mathlib.Core.Logic.{_≢_}
 use mathlib.Core.Bool.{true, false, cond}
@@ -30,7 +31,8 @@ complete-is : (m : ℕ → List Piece) (k n : ℕ) (ps : List Piece) → m k ≡
 unfolding complete
 complete-is m k n ps e = rw e
 
-overlaps-is : (m : ℕ → List Piece) (k : ℕ) (g : Seg) (ps : List Piece) → m k ≡ ps → overlaps ghost m k g ≡ someBelow (testedBytes g) (λ i. receivedIn ps (g .offset + i))
+overlaps-is : (m : ℕ → List Piece) (k : ℕ) (g : Seg) (ps : List Piece) → m k ≡ ps
+    → overlaps ghost m k g ≡ someBelow (testedBytes g) (λ i. receivedIn ps (g .offset + i))
 unfolding overlaps
 overlaps-is m k g ps e = rw e
 
@@ -62,7 +64,8 @@ module _ (p : ℕ) (frames : List Frame) where
     pub row-ok : RowOk row
     pub owner : (s : ℕ) → s < 4 → getD row s free .pending ≡ true → Owner past fut row m s
     pub seat : (f : ℕ) → f < length frames → 0 < segmentsOf f past → 0 < segmentsOf f fut → Seat past row m f
-    pub alone : (s t : ℕ) → s < 4 → t < 4 → getD row s free .pending ≡ true → getD row t free .pending ≡ true → getD row s free .identifier ≡ getD row t free .identifier → s ≡ t
+    pub alone : (s t : ℕ) → s < 4 → t < 4 → getD row s free .pending ≡ true → getD row t free .pending ≡ true
+        → getD row s free .identifier ≡ getD row t free .identifier → s ≡ t
 
   of-other : (f g j : ℕ) (xs : List Item) → g ≢ f → segmentsOf g (given f j ∷ xs) ≡ segmentsOf g xs
   of-other f g j xs n = rw (ne-eqb f g (λ q. n (sym q))) (omega arith)
@@ -139,7 +142,8 @@ module _ (p : ℕ) (frames : List Frame) where
 module _ (W : Answers) (header : List ℕ → Seen W) (judge : ℕ → Note → List ℕ → Verdict W) (p : ℕ) (p< : p < 8) (frames : List Frame) (items : List Item)
     (cuts : (f : ℕ) → f < length frames → Cut W header judge p (frameOf frames f)) (mix : Mixing W header p frames items) where
   -- the frames pending at an item, from what was before it and what is after it
-  way : (past : List Item) (now : Item) (fut : List Item) (g : ℕ) → 0 < segmentsOf g (now ∷ past) → 0 < segmentsOf g (now ∷ fut) → pendingAt (reverse past) now fut g ≡ true
+  way : (past : List Item) (now : Item) (fut : List Item) (g : ℕ) → 0 < segmentsOf g (now ∷ past) → 0 < segmentsOf g (now ∷ fut)
+      → pendingAt (reverse past) now fut g ≡ true
   way past now fut g b u =
       cc (lt-ltb 0 (segmentsOf g (reverse past ++ (now ∷ []))) (omega (arith, of-append g (reverse past) (now ∷ []), of-back g past [])), lt-ltb 0 (segmentsOf g (now ∷ fut)) u)
 
@@ -292,7 +296,8 @@ module _ (W : Answers) (header : List ℕ → Seen W) (judge : ℕ → Note → 
         }))
 
     -- a pending frame: its slot is found
-    find-old : (row : List Slot) (m : ℕ → List Piece) (h : Seats p frames past (now ∷ fut) row m) (o : Seat p frames past row m f) → chosen row (states fr j) ≡ old (o .at)
+    find-old : (row : List Slot) (m : ℕ → List Piece) (h : Seats p frames past (now ∷ fut) row m) (o : Seat p frames past row m f)
+        → chosen row (states fr j) ≡ old (o .at)
     find-old row m h o =
         let on : bears (fr .identifier) (getD row (o .at) free) ≡ true = bears-is (fr .identifier) (getD row (o .at) free) (rw (o .slot)) (rw (o .slot)) in
         caseO (first (bears (fr .identifier)) row)
@@ -304,7 +309,8 @@ module _ (W : Answers) (header : List ℕ → Seen W) (judge : ℕ → Note → 
         let sz : getD row t free .«frame_length» ≡ length (fr .content) = rw (z, o .slot) in
         chosen-fits row (states fr j) fits-now ∙ rw (n, eq-eqb (getD row t free .«frame_length») (length (fr .content)) sz, z))
 
-    take-old : (row : List Slot) (m : ℕ → List Piece) → Seats p frames past (now ∷ fut) row m → 0 < segmentsOf f past → Step (placed ghost p row m (states fr j) (chosen row (states fr j)))
+    take-old : (row : List Slot) (m : ℕ → List Piece) → Seats p frames past (now ∷ fut) row m → 0 < segmentsOf f past
+        → Step (placed ghost p row m (states fr j) (chosen row (states fr j)))
     take-old row m h b =
         let o : Seat p frames past row m f = h .seat f lf b (rw (eq-eqb f f refl) (omega arith)) in
         let s : ℕ = o .at in
@@ -369,7 +375,7 @@ module _ (W : Answers) (header : List ℕ → Seen W) (judge : ℕ → Note → 
           (λ n. absurd (not-full n))
           (λ lowest n. let o = chosen-opens row (states fr j) fits-now not-found lowest n in
           let s : ℕ = o .0 in
-          let is-free : getD row s free .pending ≡ false = o .1 .1 .is-free in
+          let is-free : getD row s free .pending ≡ false = o .1 .1 .1 in
           let c : chosen row (states fr j) ≡ fresh s = o .1 .0 in
           let m₁ : ℕ → List Piece = ghost .clear m (slotNo p s) in
           let nt : noteAfter noNote (states fr j) ≡ notes frames f (now ∷ past) =
@@ -378,7 +384,7 @@ module _ (W : Answers) (header : List ℕ → Seen W) (judge : ℕ → Note → 
           ap (λ (x : ℕ). pendingSlot (fr .identifier) (length (fr .content)) x (noteAfter noNote (states fr j))) (sym (age-none frames f past z))
           ∙ ap (λ (x : Note). pendingSlot (fr .identifier) (length (fr .content)) (age frames f past) x) nt in
           rw c
-          (finish-step s row m (ghost .put m₁ (slotNo p s) (offsetOf (fr .parts) j) (partOf fr j .bytes)) _ _ (o .1 .1 .is-slot) h
+          (finish-step s row m (ghost .put m₁ (slotNo p s) (offsetOf (fr .parts) j) (partOf fr j .bytes)) _ _ (o .1 .1 .0) h
           (λ t lt d e. strange t lt e)
           (λ e. clash (cc (is-free)))
           (upd-same m₁ (slotNo p s) _ ∙ cc (upd-same m (slotNo p s) [], pieces-none frames f past z, eq-eqb f f refl))
@@ -398,16 +404,19 @@ module _ (W : Answers) (header : List ℕ → Seen W) (judge : ℕ → Note → 
         (λ e. take-fresh (row .slots) m h (omega (arith, ltb-false 0 (segmentsOf f past) e)))
 
   -- ---- a tick: no frame pending is four ticks old
-  young-by : (past fut : List Item) → reverseAux past (other tick ∷ fut) ≡ items → (g : ℕ) → Since frames g past → Splits g fut → age frames g past + 1 < lifetime
+  young-by : (past fut : List Item) → reverseAux past (other tick ∷ fut) ≡ items → (g : ℕ) → Since frames g past → Splits g fut
+      → age frames g past + 1 < lifetime
   young-by past fut is g a c =
       let e : items ≡ a .before ++ (given g (a .seg) ∷ ((a .middle ++ (other tick ∷ c .before)) ++ (given g (c .seg) ∷ c .after))) =
       split-here past (other tick) fut is ∙ rw (a .is, c .is) (simp append-assoc) in
       omega (arith, mix .soon (a .before) (a .middle ++ (other tick ∷ c .before)) (c .after) g (a .seg) (c .seg) e, ticks-append (a .middle) (other tick ∷ c .before), a .aged)
 
-  young : (past fut : List Item) → reverseAux past (other tick ∷ fut) ≡ items → (g : ℕ) → 0 < segmentsOf g past → 0 < segmentsOf g fut → age frames g past + 1 < lifetime
+  young : (past fut : List Item) → reverseAux past (other tick ∷ fut) ≡ items → (g : ℕ) → 0 < segmentsOf g past → 0 < segmentsOf g fut
+      → age frames g past + 1 < lifetime
   young past fut is g b u = young-by past fut is g (since frames g past b) (splits g fut u)
 
-  older-slot : (past : List Item) (g : ℕ) → 0 < segmentsOf g past → age frames g past + 1 < lifetime → older (slotOf p frames g past) ≡ slotOf p frames g (other tick ∷ past)
+  older-slot : (past : List Item) (g : ℕ) → 0 < segmentsOf g past → age frames g past + 1 < lifetime
+      → older (slotOf p frames g past) ≡ slotOf p frames g (other tick ∷ past)
   older-slot past g b y =
       let a : age frames g past + 1 ≡ age frames g (other tick ∷ past) = rw (lt-ltb 0 (segmentsOf g past) b) in
       older-stays (frameOf frames g .identifier) (length (frameOf frames g .content)) (age frames g past) (notes frames g past) y
@@ -419,7 +428,8 @@ module _ (W : Answers) (header : List ℕ → Seen W) (judge : ℕ → Note → 
       let at : (s : ℕ) → getD (map older row) s free ≡ older (getD row s free) = λ s. older-at row s in
       let back : (s : ℕ) → getD (map older row) s free .pending ≡ true → getD row s free .pending ≡ true =
       λ s e. older-pending (getD row s free) (rw (at s) at e) .0 in
-      let grown : (s g : ℕ) → getD row s free ≡ slotOf p frames g past → 0 < segmentsOf g past → 0 < segmentsOf g fut → getD (map older row) s free ≡ slotOf p frames g (other tick ∷ past) =
+      let grown : (s g : ℕ) → getD row s free ≡ slotOf p frames g past → 0 < segmentsOf g past → 0 < segmentsOf g fut
+      → getD (map older row) s free ≡ slotOf p frames g (other tick ∷ past) =
       λ s g e b u. at s ∙ ap older e ∙ older-slot past g b (young past fut is g b u) in
       let now : (s : ℕ) → s < 4 → getD (map older row) s free .pending ≡ true → Owner p frames (other tick ∷ past) fut (map older row) m s =
       λ s ls e. let o : Owner p frames past (other tick ∷ fut) row m s = h .owner s ls (back s e) in
@@ -449,7 +459,8 @@ module _ (W : Answers) (header : List ℕ → Seen W) (judge : ℕ → Note → 
       }
 
   -- ---- any other event of the peer's, or none: nothing changes
-  pub other-seats : (past fut : List Item) (k : List ℕ) (row : List Slot) (m : ℕ → List Piece) → Seats p frames past (other (receive k) ∷ fut) row m → Seats p frames (other (receive k) ∷ past) fut row m
+  pub other-seats : (past fut : List Item) (k : List ℕ) (row : List Slot) (m : ℕ → List Piece) → Seats p frames past (other (receive k) ∷ fut) row m
+      → Seats p frames (other (receive k) ∷ past) fut row m
   other-seats past fut k row m h =
       record {
         row-ok = h .row-ok;

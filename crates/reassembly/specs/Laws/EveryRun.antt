@@ -102,7 +102,8 @@ module _ (W : Answers) (Config : Type 0) (U : Layers W Config) (p : ℕ) (p< : p
 
   -- ---- one event
 
-  seen-stand : (past : List Event) (s : State bytesOf) (g : State ghost) (L : Log) (C : ℕ → ℕ) (k : List ℕ) (x : Seen W) → header k ≡ x → Holding past s g L → Stand (rowIn s .slots) (told-of L C)
+  seen-stand : (past : List Event) (s : State bytesOf) (g : State ghost) (L : Log) (C : ℕ → ℕ) (k : List ℕ) (x : Seen W) → header k ≡ x
+      → Holding past s g L → Stand (rowIn s .slots) (told-of L C)
       → Stand (rowIn (react W judge bytesOf s x .state) .slots) (told-of (logSeen W Config U p (at s) L x) (clockSeen W Config U p (at s) C x))
   seen-stand past s g L C k (stranger a) e h st = st
   seen-stand past s g L C k (plain q a) e h st = st
@@ -118,7 +119,8 @@ module _ (W : Answers) (Config : Type 0) (U : Layers W Config) (p : ℕ) (p< : p
       let r : getD (set (s .rows) q (takeSegment bytesOf q (getD (s .rows) q noRow) (s .mem) x .row)) p noRow ≡ rowIn s = getD-set-other (s .rows) q p _ noRow n in
       rw (m, r) st)
 
-  event-stand : (past : List Event) (s : State bytesOf) (g : State ghost) (L : Log) (C : ℕ → ℕ) (e : Event) → Holding past s g L → Stand (rowIn s .slots) (told-of L C)
+  event-stand : (past : List Event) (s : State bytesOf) (g : State ghost) (L : Log) (C : ℕ → ℕ) (e : Event) → Holding past s g L
+      → Stand (rowIn s .slots) (told-of L C)
       → Stand (rowIn (after W judge bytesOf header s e) .slots) (told-of (logNext W Config U p (at s) L e) (clockNext W Config U p (at s) C e))
   event-stand past s g L C tick h st = rw (rows-older (s .rows) p) (tick-stand (rowIn s .slots) (told-of L C) st)
   event-stand past s g L C (receive k) h st = seen-stand past s g L C k (header k) refl h st
@@ -128,7 +130,8 @@ module _ (W : Answers) (Config : Type 0) (U : Layers W Config) (p : ℕ) (p< : p
   abbrev StandAfter : World Config → Log → (ℕ → ℕ) → List Event → Type 0
   StandAfter w L C es = Stand (getD (runs W Config U w es .ends .rows) p noRow .slots) (told-of (logRun W Config U p w L es) (clockRun W Config U p w C es))
 
-  run-stand : (es past : List Event) (s : State bytesOf) (g : State ghost) (L : Log) (C : ℕ → ℕ) → Holding past s g L → Stand (rowIn s .slots) (told-of L C) → StandAfter (at s) L C es
+  run-stand : (es past : List Event) (s : State bytesOf) (g : State ghost) (L : Log) (C : ℕ → ℕ) → Holding past s g L
+      → Stand (rowIn s .slots) (told-of L C) → StandAfter (at s) L C es
   run-stand [] past s g L C h st = st
   run-stand (v ∷ es) past s g L C h st =
       let q : next W Config U (at s) v ≡ at (after W judge bytesOf header s v) = next-at W Config U c promise p p< s g v (h .sim) in
@@ -136,7 +139,8 @@ module _ (W : Answers) (Config : Type 0) (U : Layers W Config) (p : ℕ) (p< : p
       (run-stand es (past ++ (v ∷ [])) (after W judge bytesOf header s v) _ (logNext W Config U p (at s) L v) (clockNext W Config U p (at s) C v)
       (step W Config U p p< c promise past s g L v h) (event-stand past s g L C v h st))
 
-  clock-snoc : (es : List Event) (w : World Config) (C : ℕ → ℕ) (e : Event) → clockRun W Config U p w C (es ++ (e ∷ [])) ≡ clockNext W Config U p (runs W Config U w es) (clockRun W Config U p w C es) e
+  clock-snoc : (es : List Event) (w : World Config) (C : ℕ → ℕ) (e : Event)
+      → clockRun W Config U p w C (es ++ (e ∷ [])) ≡ clockNext W Config U p (runs W Config U w es) (clockRun W Config U p w C es) e
   clock-snoc [] w C e = refl
   clock-snoc (v ∷ es) w C e = clock-snoc es (next W Config U w v) (clockNext W Config U p w C v) e
 
@@ -183,10 +187,12 @@ module _ (W : Answers) (Config : Type 0) (U : Layers W Config) (p : ℕ) (p< : p
     taken-now : logNext W Config U p (at s) L (receive k) ≡ entered L x (chosen (rowIn s .slots) x) ghostTold
     taken-now = log-now W Config U p p< c promise past s g L h k x e
 
-    log-by : (ch : Choice) (b : Bool) (t : ℕ) → chosen (rowIn s .slots) x ≡ ch → ghostTold ≡ cond b (Complete t) Pending → logNext W Config U p (at s) L (receive k) ≡ enters L x ch
+    log-by : (ch : Choice) (b : Bool) (t : ℕ) → chosen (rowIn s .slots) x ≡ ch → ghostTold ≡ cond b (Complete t) Pending
+        → logNext W Config U p (at s) L (receive k) ≡ enters L x ch
     log-by ch b t q o = taken-now ∙ ap (λ (y : Choice). entered L x y ghostTold) q ∙ ap (λ (y : Outcome). entered L x ch y) o ∙ entered-taken L x ch b t
 
-    clock-by : (ch : Choice) (b : Bool) (t : ℕ) → chosen (rowIn s .slots) x ≡ ch → ghostTold ≡ cond b (Complete t) Pending → clockNext W Config U p (at s) C (receive k) ≡ restarts C ch
+    clock-by : (ch : Choice) (b : Bool) (t : ℕ) → chosen (rowIn s .slots) x ≡ ch → ghostTold ≡ cond b (Complete t) Pending
+        → clockNext W Config U p (at s) C (receive k) ≡ restarts C ch
     clock-by ch b t q o = clock-now ∙ ap (λ (y : Choice). restarted C y ghostTold) q ∙ ap (λ (y : Outcome). restarted C ch y) o ∙ restarted-taken C ch b t
 
     in-bytes : takeIn p (rowIn s) (s .mem) x ≡ takeSegment bytesOf p (rowIn s) (s .mem) x
@@ -214,7 +220,8 @@ module _ (W : Answers) (Config : Type 0) (U : Layers W Config) (p : ℕ) (p< : p
         record { cause = u .0; number = u .1 .1; rejected = o; unchanged = refused-left (u .0) o }
 
     -- the memory that a segment which completes its frame leaves
-    bytes-now : (t : ℕ) (gs : List Seg) → ghostTold ≡ cond (frameComplete gs) (Complete t) Pending → logNext W Config U p (at s) L (receive k) t ≡ gs → frameComplete gs ≡ true
+    bytes-now : (t : ℕ) (gs : List Seg) → ghostTold ≡ cond (frameComplete gs) (Complete t) Pending → logNext W Config U p (at s) L (receive k) t ≡ gs
+        → frameComplete gs ≡ true
         → (i : ℕ) → i < x .frame-length → OneOf gs i (getD (receives W Config U (at s) k .world .mem) (frameAt p t + i) 0)
     bytes-now t gs o q w i l =
         let a : outcome ≡ Complete t = same ∙ o ∙ rw w in
@@ -345,7 +352,8 @@ module _ (W : Answers) (Config : Type 0) (U : Layers W Config) (p : ℕ) (p< : p
       (fourteen-at es (r .state) (r .ghosts) (takenSince W Config U p (begun m) es) (ticksSince W Config U p (begun m) es) (r .inv) st k g e f)
 
   -- a packet that carries no segment of the peer's; no segment at all
-  seen-left : (s : State bytesOf) (L : Log) (C : ℕ → ℕ) (x : Seen W) → ((g : Seg) → x ≡ segment p g → ⊥) → (logSeen W Config U p (at s) L x ≡ L) × (clockSeen W Config U p (at s) C x ≡ C)
+  seen-left : (s : State bytesOf) (L : Log) (C : ℕ → ℕ) (x : Seen W) → ((g : Seg) → x ≡ segment p g → ⊥)
+      → (logSeen W Config U p (at s) L x ≡ L) × (clockSeen W Config U p (at s) C x ≡ C)
   seen-left s L C (stranger a) n = (refl, refl)
   seen-left s L C (plain q a) n = (refl, refl)
   seen-left s L C (segment q g) n = caseB (eqb q p) (λ e. absurd (n g (ap (λ (y : ℕ). segment y g) (eqb-true q p e)))) (λ e. rw e (refl, refl))
@@ -355,7 +363,8 @@ module _ (W : Answers) (Config : Type 0) (U : Layers W Config) (p : ℕ) (p< : p
   said-left s (plain q a) n = refl
   said-left s (segment q g) n = absurd (n q g refl)
 
-  told-left : (m : List ℕ) → 55296 ≤ length m → (es : List Event) (k : List ℕ) → ((g : Seg) → header k ≡ segment p g → ⊥) → historyOf W Config U p (begun m) (es ++ (receive k ∷ [])) ≡ historyOf W Config U p (begun m) es
+  told-left : (m : List ℕ) → 55296 ≤ length m → (es : List Event) (k : List ℕ) → ((g : Seg) → header k ≡ segment p g → ⊥)
+      → historyOf W Config U p (begun m) (es ++ (receive k ∷ [])) ≡ historyOf W Config U p (begun m) es
   told-left m o es k n =
       let r : Reach W Config U p p< c promise [] es (start bytesOf m) (λ t. []) = reached W Config U p p< c promise m o es in
       let x = seen-left (r .state) (takenSince W Config U p (begun m) es) (ticksSince W Config U p (begun m) es) (header k) n in
@@ -417,7 +426,8 @@ given-up v gs t w l = caseB (v .pending) (λ e. absurd (omega (arith, young v gs
 
 -- ---- of every set-up whose layers keep their promise
 module _ (W : Answers) (Config : Type 0) (U : Layers W Config) (p : ℕ) (Adding : Type 0) (adds : Config → Adding → Config) where
-  pub every-run : (c : Config) (as′ : List Adding) → Promised W Config U (setUp Config Adding adds c as′ .config) → p < 8 → EveryRun W Config U p (setUp Config Adding adds c as′)
+  pub every-run : (c : Config) (as′ : List Adding) → Promised W Config U (setUp Config Adding adds c as′ .config) → p < 8
+      → EveryRun W Config U p (setUp Config Adding adds c as′)
   every-run c as′ promised p< = of (setUp Config Adding adds c as′) (set-up-rows Config Adding adds as′ (record { config = c; rows = emptyRows })) promised
     where
       of : (e : Endpoint Config) → e .rows ≡ emptyRows → Promised W Config U (e .config) → EveryRun W Config U p e

@@ -1,9 +1,10 @@
--- A memory that no program has: each slot is the list of the pieces taken since its frame opened, latest first. It keeps the laws of `Laws`, and a run over it is a function of the events alone.
-use mathlib.Core.Path.{_≡_, refl, sym, ap, subst, _∙_}
+-- A memory that no program has: each slot is the list of the pieces taken since its frame opened, latest first. It keeps the laws of `Laws`, and a run over
+-- it is a function of the events alone.
+use mathlib.Core.Path.{_≡_, refl, ap}
 use mathlib.Core.Logic.{_≢_}
-use mathlib.Core.Bool.{Bool, true, false, cond, _&&_, _||_}
+use mathlib.Core.Bool.{Bool, false, cond, _||_}
 use mathlib.Core.List.{List, [], _∷_}
-use Prim.Native.Nat.{ℕ, zero, suc, _+_, _-_, _≤_, _<_}
+use Prim.Native.Nat.{ℕ, _-_}
 use lib.ListN.{length, getD}
 use lib.Dec.{eqb}
 use borrow.Author.Tests.{eq-eqb, ne-eqb}

@@ -34,7 +34,8 @@ module _ (W : Answers) (judge : ℕ → Note → List ℕ → Verdict W) where
   spoken-back (good v) packet m k n l f =
       record { is = rw (W .gives-place v (slotStart k + 18) (n - 18), le-leb (slotStart k + 18 + (n - 18)) (length m) (omega arith)) (sym (handed m k n l f)) }
 
-  told-back : (p : ℕ) (packet : List ℕ) (g : Seg) (o : Effect bytesOf) (x : Outcome) → p < 8 → bytesOf .Ok (o .mem) → ((s : ℕ) → x ≡ Complete s → (s < 4) × Fits g) → Backs packet (o .mem) (told W judge bytesOf p g o x)
+  told-back : (p : ℕ) (packet : List ℕ) (g : Seg) (o : Effect bytesOf) (x : Outcome) → p < 8 → bytesOf .Ok (o .mem)
+      → ((s : ℕ) → x ≡ Complete s → (s < 4) × Fits g) → Backs packet (o .mem) (told W judge bytesOf p g o x)
   told-back p packet g o (Rejected r) lp ok f = bare-back packet (o .mem) (W .rejected r) (W .rejected-place r)
   told-back p packet g o Pending lp ok f = bare-back packet (o .mem) (W .pending) (W .pending-place)
   told-back p packet g o (Complete s) lp ok f =

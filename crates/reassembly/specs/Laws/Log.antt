@@ -1,4 +1,5 @@
--- The log of a run: the segments taken for each slot of a peer since its frame opened, latest first. It is what the memory of pieces (`Ghost`) keeps, told from the run itself.
+-- The log of a run: the segments taken for each slot of a peer since its frame opened, latest first. It is what the memory of pieces (`Ghost`) keeps, told
+-- from the run itself.
 use mathlib.Core.Path.{_≡_, refl, sym, ap, subst, _∙_}
 use mathlib.Core.Logic.{_≢_}
 use mathlib.Core.Bool.{Bool, true, false}
@@ -57,12 +58,14 @@ one-of (g ∷ gs) i a e =
     first q zero l c = refl
     first q (suc j) l c = clash (cc (a .0 i q, covered gs j i (omega arith) c))
 
-    later : carries g i ≡ false → (r : OneOf gs i (byteIn (map pieceOf gs) i)) → (j : ℕ) → j < suc (length gs) → carries (getD (g ∷ gs) j noSeg) i ≡ true → j ≡ suc (r .which)
+    later : carries g i ≡ false → (r : OneOf gs i (byteIn (map pieceOf gs) i)) → (j : ℕ) → j < suc (length gs) → carries (getD (g ∷ gs) j noSeg) i ≡ true
+        → j ≡ suc (r .which)
     later q r zero l c = clash (cc)
     later q r (suc j) l c = ap suc (r .only j (omega arith) c)
 
 -- one segment at most covers a byte
-pub apart-at : (gs : List Seg) → AllApart gs → (i j k : ℕ) → j < length gs → k < length gs → carries (getD gs j noSeg) i ≡ true → carries (getD gs k noSeg) i ≡ true → j ≡ k
+pub apart-at : (gs : List Seg) → AllApart gs → (i j k : ℕ) → j < length gs → k < length gs → carries (getD gs j noSeg) i ≡ true
+    → carries (getD gs k noSeg) i ≡ true → j ≡ k
 apart-at gs a i j k lj lk cj ck =
     let r : OneOf gs i (byteIn (map pieceOf gs) i) = one-of gs i a (covered gs j i lj cj) in
     r .only j lj cj ∙ sym (r .only k lk ck)
@@ -97,7 +100,8 @@ someBelow-at (suc n) f e i l =
     (λ q. rw q (or-false-l (f n) (someBelow n f) e))
 
 -- no byte of the segment is received: whatever it covers is not
-apart-from : (m : ℕ → List Piece) (k : ℕ) (g : Seg) (gs : List Seg) → m k ≡ map pieceOf gs → overlaps ghost m k g ≡ false → (i : ℕ) → carries g i ≡ true → receivedIn (map pieceOf gs) i ≡ false
+apart-from : (m : ℕ → List Piece) (k : ℕ) (g : Seg) (gs : List Seg) → m k ≡ map pieceOf gs → overlaps ghost m k g ≡ false → (i : ℕ) → carries g i ≡ true
+    → receivedIn (map pieceOf gs) i ≡ false
 unfolding overlaps
 apart-from m k g gs e o i c =
     let lo : g .offset ≤ i = within-low (g .offset) (length (g .bytes)) i c in
@@ -160,7 +164,8 @@ module _ (p : ℕ) where
       }))
 
   -- a segment that comes so far is entered
-  finish-enters : (L : Log) (c : Choice) (row : List Slot) (m : ℕ → List Piece) (s : ℕ) (g : Seg) (note : Note) → enters L g c ≡ entered L g c (finish ghost p s row m g note .outcome)
+  finish-enters : (L : Log) (c : Choice) (row : List Slot) (m : ℕ → List Piece) (s : ℕ) (g : Seg) (note : Note)
+      → enters L g c ≡ entered L g c (finish ghost p s row m g note .outcome)
   finish-enters L c row m s g note = caseB (complete ghost m (slotNo p s) (g .frame-length)) (λ e. rw e) (λ e. rw e)
 
   placed-logs : (row : List Slot) (m : ℕ → List Piece) (L : Log) (g : Seg) (c : Choice) → Tells row g c → Logs p row m L
@@ -220,7 +225,8 @@ module _ (p : ℕ) where
       }
 
   -- the list makes up the frame: each byte is from the one segment that covers it
-  pub pieced-byte : (s : ℕ) (g : Seg) (m : ℕ → List Piece) (gs : List Seg) → Pieced p s g m gs → complete ghost m (slotNo p s) (g .frame-length) ≡ true → (i : ℕ) → i < g .frame-length
+  pub pieced-byte : (s : ℕ) (g : Seg) (m : ℕ → List Piece) (gs : List Seg) → Pieced p s g m gs → complete ghost m (slotNo p s) (g .frame-length) ≡ true
+      → (i : ℕ) → i < g .frame-length
       → OneOf gs i (getD (frameIn ghost m (slotNo p s) (g .frame-length)) i 0)
   unfolding complete frameIn
   pieced-byte s g m gs w c i l =

@@ -1,5 +1,5 @@
--- Complete, told from the run (demand 2 over runs): a segment completes its frame exactly if the segments taken since that frame opened, with it, make up a frame exactly; and that is the frame in the memory.
--- Both ways from `EveryRun`: `complete-gathers`, `gathers-complete`.
+-- Complete, told from the run (demand 2 over runs): a segment completes its frame exactly if the segments taken since that frame opened, with it, make up a
+-- frame exactly; and that is the frame in the memory. Both ways from `EveryRun`: `complete-gathers`, `gathers-complete`.
 use mathlib.Core.Path.{_≡_, refl, sym, ap, subst, _∙_}
 use mathlib.Core.Logic.{inl, inr}
 use mathlib.Core.Bool.{Bool, true, false, cond}
@@ -61,7 +61,8 @@ makes-apart g earlier frame w i c =
     absurd (omega arith))
     (λ e. e)
 
-makes-length : (g : Seg) (earlier : List Seg) (frame : List ℕ) (ticks : ℕ) → MakesUp g (g ∷ earlier) frame → framePending earlier ticks ≡ true → lengthOf earlier ≡ g .frame-length
+makes-length : (g : Seg) (earlier : List Seg) (frame : List ℕ) (ticks : ℕ) → MakesUp g (g ∷ earlier) frame → framePending earlier ticks ≡ true
+    → lengthOf earlier ≡ g .frame-length
 unfolding framePending frameComplete allBelow
 makes-length g [] frame ticks w e = let z : false ≡ true = and-r (ltb ticks 4) false e in clash (cc)
 makes-length g (x ∷ xs) frame ticks w e = w .of-frame 1 (omega arith) .size
@@ -82,7 +83,8 @@ complete-is false s t e = not-complete Pending s refl (sym e)
 -- ---- what a run never changes: the configuration, and the memory's length
 
 module _ (W : Answers) (Config : Type 0) (U : Layers W Config) where
-  said-keeps : (w : World Config) (x : Seen W) → (saidOf W Config U w x .world .ends .config ≡ w .ends .config) × (length (saidOf W Config U w x .world .mem) ≡ length (w .mem))
+  said-keeps : (w : World Config) (x : Seen W)
+      → (saidOf W Config U w x .world .ends .config ≡ w .ends .config) × (length (saidOf W Config U w x .world .mem) ≡ length (w .mem))
   said-keeps w (stranger a) = (refl, refl)
   said-keeps w (plain q a) = (refl, refl)
   said-keeps w (segment q g) = (refl, take-length q (getD (w .ends .rows) (rowOf q) noRow) (w .mem) g)
@@ -95,7 +97,8 @@ module _ (W : Answers) (Config : Type 0) (U : Layers W Config) where
   next-keeps w tick = (refl, refl)
   next-keeps w (receive k) = receive-keeps w k
 
-  runs-keeps : (es : List Event) (w : World Config) → (runs W Config U w es .ends .config ≡ w .ends .config) × (length (runs W Config U w es .mem) ≡ length (w .mem))
+  runs-keeps : (es : List Event) (w : World Config)
+      → (runs W Config U w es .ends .config ≡ w .ends .config) × (length (runs W Config U w es .mem) ≡ length (w .mem))
   runs-keeps [] w = (refl, refl)
   runs-keeps (v ∷ es) w =
       let n = next-keeps w v in
@@ -103,7 +106,8 @@ module _ (W : Answers) (Config : Type 0) (U : Layers W Config) where
       (r .0 ∙ n .0, r .1 ∙ n .1)
 
   -- the memory that a segment leaves is the one that taking it leaves
-  segment-memory : (p : ℕ) (w : World Config) (k : List ℕ) (g : Seg) → 55296 ≤ length (w .mem) → U .header (w .ends .config) k ≡ segment p g → receives W Config U w k .world .mem ≡ taking W Config U p w g .mem
+  segment-memory : (p : ℕ) (w : World Config) (k : List ℕ) (g : Seg) → 55296 ≤ length (w .mem) → U .header (w .ends .config) k ≡ segment p g
+      → receives W Config U w k .world .mem ≡ taking W Config U p w g .mem
   segment-memory p w k g o e = rw (le-ltb (length (w .mem)) 55296 o, e) refl
 
 module _ (W : Answers) (Config : Type 0) (U : Layers W Config) (p : ℕ) (e : Endpoint Config) (every : EveryRun W Config U p e) (m : List ℕ) (enough : 55296 ≤ length m) (es : List Event) (k : List ℕ) (g : Seg) (sound : U .header (e .config) k ≡ segment p g) where
@@ -130,7 +134,8 @@ module _ (W : Answers) (Config : Type 0) (U : Layers W Config) (p : ℕ) (e : En
 
   -- the segments of a frame that is complete make it up
   taken-makes : (s ticks : ℕ) (new : Bool) (gs : List Seg) → frameComplete gs ≡ true
-      → Taken p s new g gs ticks before behind (effect .outcome) (runs W Config U world es .mem) (runs W Config U world (es ++ (receive k ∷ [])) .mem) → MakesUp g gs (frameTaken s)
+      → Taken p s new g gs ticks before behind (effect .outcome) (runs W Config U world es .mem) (runs W Config U world (es ++ (receive k ∷ [])) .mem)
+      → MakesUp g gs (frameTaken s)
   taken-makes s ticks new gs c t =
       let n : length (frameTaken s) ≡ g .frame-length = length-frame bytesOf (effect .mem) (slotNo p s) (g .frame-length) in
       record {
@@ -168,7 +173,8 @@ module _ (W : Answers) (Config : Type 0) (U : Layers W Config) (p : ℕ) (e : En
       (g ∷ [], (inr (x .0, (x .1, refl)), subst (λ (n : ℕ). MakesUp g (g ∷ []) (frameTaken n)) (z .1) (taken-makes (x .0) 0 true (g ∷ []) (z .0) t)))))))
 
   -- segments that make up a frame: the last of them completes it
-  pub gathers-complete : (gs : List Seg) (frame : List ℕ) → Gathers before g gs → MakesUp g gs frame → (s : ℕ) × ((effect .outcome ≡ Complete s) × (frameTaken s ≡ frame))
+  pub gathers-complete : (gs : List Seg) (frame : List ℕ) → Gathers before g gs → MakesUp g gs frame
+      → (s : ℕ) × ((effect .outcome ≡ Complete s) × (frameTaken s ≡ frame))
   gathers-complete gs frame (inl x) w =
       let s : ℕ = x .0 in
       let w′ : MakesUp g (g ∷ before .taken s) frame = subst (λ (y : List Seg). MakesUp g y frame) (x .1 .1) w in

@@ -284,7 +284,8 @@ any-whole m a q found h l e =
     ∙ ap (λ (j : ℕ). not (someBelow j (λ i. bitAt m 0 (a + i)))) t
 
 -- A turn of the test whether every bit is set: the first hi bits of byte q, all bits before it being set or not.
-all-turn : (m : List ℕ) (q hi : ℕ) → hi ≤ 8 → allBelow (q * 8 + hi) (λ i. bitAt m 0 i) ≡ (allBelow (q * 8) (λ i. bitAt m 0 i) && eqb (getD m q 0 % 2 ^ hi) (2 ^ hi - 1))
+all-turn : (m : List ℕ) (q hi : ℕ) → hi ≤ 8
+    → allBelow (q * 8 + hi) (λ i. bitAt m 0 i) ≡ (allBelow (q * 8) (λ i. bitAt m 0 i) && eqb (getD m q 0 % 2 ^ hi) (2 ^ hi - 1))
 unfolding bitAt
 all-turn m q hi h =
     all-add (q * 8) hi (λ i. bitAt m 0 i)
@@ -344,7 +345,8 @@ module _ (m : List ℕ) (a n r : ℕ) where
       rw e (any-first m a (a / 8) (a % 8) 8 (omega arith) (omega arith) (omega arith)) ∙ ap (λ (j : ℕ). not (someBelow j (λ i. bitAt m 0 (a + i)))) t
 
   -- the last of them
-  pub set-end : (M₀ M : List ℕ) (b b₀ : ℕ) → a ≤ b₀ * 8 → b₀ ≤ b → b ≡ (a + n) / 8 → b < length M₀ → M₀ ≡ setBits m 0 a (b₀ * 8 - a) → M ≡ setBits M₀ 0 (b₀ * 8) (b * 8 - b₀ * 8) → r ≡ 2 ^ ((a + n) % 8) - 2 ^ 0
+  pub set-end : (M₀ M : List ℕ) (b b₀ : ℕ) → a ≤ b₀ * 8 → b₀ ≤ b → b ≡ (a + n) / 8 → b < length M₀ → M₀ ≡ setBits m 0 a (b₀ * 8 - a)
+      → M ≡ setBits M₀ 0 (b₀ * 8) (b * 8 - b₀ * 8) → r ≡ 2 ^ ((a + n) % 8) - 2 ^ 0
       → set M ((a + n) / 8) (bitOr (getD M ((a + n) / 8) 0) r) ≡ setBits m 0 a n
   set-end M₀ M b b₀ h1 h2 h3 l e₀ e er =
       let z : b * 8 + 0 - b₀ * 8 ≡ b * 8 - b₀ * 8 = omega arith in
@@ -365,7 +367,8 @@ module _ (m : List ℕ) (a n r : ℕ) where
       (rw (er, ← h2) (any-masked m a b 0 ((a + n) % 8) found (omega arith) (omega arith) (omega arith) (rw z e) ∙ ap (λ (j : ℕ). not (someBelow j (λ i. bitAt m 0 (a + i)))) t))
 
 -- a whole byte between
-pub set-whole : (m M : List ℕ) (b b₀ : ℕ) → b₀ ≤ b → b < length m → M ≡ setBits m 0 (b₀ * 8) (b * 8 - b₀ * 8) → set M b (bitOr (getD M b 0) 255) ≡ setBits m 0 (b₀ * 8) ((b + 1) * 8 - b₀ * 8)
+pub set-whole : (m M : List ℕ) (b b₀ : ℕ) → b₀ ≤ b → b < length m → M ≡ setBits m 0 (b₀ * 8) (b * 8 - b₀ * 8)
+    → set M b (bitOr (getD M b 0) 255) ≡ setBits m 0 (b₀ * 8) ((b + 1) * 8 - b₀ * 8)
 set-whole m M b b₀ h l e =
     let z : b * 8 + 0 - b₀ * 8 ≡ b * 8 - b₀ * 8 = omega arith in
     let t : b * 8 + 8 - b₀ * 8 ≡ (b + 1) * 8 - b₀ * 8 = omega arith in

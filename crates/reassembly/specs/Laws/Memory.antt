@@ -26,10 +26,14 @@ within-is a n i l h = cc (le-leb a i l, lt-ltb i (a + n) h)
 pub record Laws (O : Ops) : Type 1 where
   pub ok-put : (m : O .S) (k a : ℕ) (bs : List ℕ) → O .Ok m → k < 32 → a + length bs ≤ 1532 → O .Ok (O .put m k a bs)
   pub ok-clear : (m : O .S) (k : ℕ) → O .Ok m → k < 32 → O .Ok (O .clear m k)
-  pub received-put : (m : O .S) (k a : ℕ) (bs : List ℕ) → O .Ok m → k < 32 → a + length bs ≤ 1532 → (i : ℕ) → i < 1532 → O .received (O .put m k a bs) k i ≡ (within a (length bs) i || O .received m k i)
-  pub byte-put : (m : O .S) (k a : ℕ) (bs : List ℕ) → O .Ok m → k < 32 → a + length bs ≤ 1532 → (i : ℕ) → i < 1532 → O .byte (O .put m k a bs) k i ≡ cond (within a (length bs) i) (getD bs (i - a) 0) (O .byte m k i)
-  pub received-put-other : (m : O .S) (k a : ℕ) (bs : List ℕ) → O .Ok m → k < 32 → a + length bs ≤ 1532 → (j i : ℕ) → j ≢ k → i < 1532 → O .received (O .put m k a bs) j i ≡ O .received m j i
-  pub byte-put-other : (m : O .S) (k a : ℕ) (bs : List ℕ) → O .Ok m → k < 32 → a + length bs ≤ 1532 → (j i : ℕ) → j ≢ k → i < 1532 → O .byte (O .put m k a bs) j i ≡ O .byte m j i
+  pub received-put : (m : O .S) (k a : ℕ) (bs : List ℕ) → O .Ok m → k < 32 → a + length bs ≤ 1532 → (i : ℕ) → i < 1532
+      → O .received (O .put m k a bs) k i ≡ (within a (length bs) i || O .received m k i)
+  pub byte-put : (m : O .S) (k a : ℕ) (bs : List ℕ) → O .Ok m → k < 32 → a + length bs ≤ 1532 → (i : ℕ) → i < 1532
+      → O .byte (O .put m k a bs) k i ≡ cond (within a (length bs) i) (getD bs (i - a) 0) (O .byte m k i)
+  pub received-put-other : (m : O .S) (k a : ℕ) (bs : List ℕ) → O .Ok m → k < 32 → a + length bs ≤ 1532 → (j i : ℕ) → j ≢ k → i < 1532
+      → O .received (O .put m k a bs) j i ≡ O .received m j i
+  pub byte-put-other : (m : O .S) (k a : ℕ) (bs : List ℕ) → O .Ok m → k < 32 → a + length bs ≤ 1532 → (j i : ℕ) → j ≢ k → i < 1532
+      → O .byte (O .put m k a bs) j i ≡ O .byte m j i
   pub received-clear : (m : O .S) (k : ℕ) → O .Ok m → k < 32 → (i : ℕ) → i < 1532 → O .received (O .clear m k) k i ≡ false
   pub received-clear-other : (m : O .S) (k : ℕ) → O .Ok m → k < 32 → (j i : ℕ) → j ≢ k → i < 1532 → O .received (O .clear m k) j i ≡ O .received m j i
   pub byte-clear-other : (m : O .S) (k : ℕ) → O .Ok m → k < 32 → (j i : ℕ) → j ≢ k → i < 1532 → O .byte (O .clear m k) j i ≡ O .byte m j i

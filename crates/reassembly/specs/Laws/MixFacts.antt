@@ -1,21 +1,21 @@
--- What the items given so far (`past`, latest first) say of a frame: the pieces that are there, what is noted of them, and its age. And counting: segments, ticks, frames pending.
-use mathlib.Core.Path.{_≡_, refl, sym, ap, subst, _∙_}
-use mathlib.Core.Logic.{_⊎_, inl, inr, _≢_}
+-- What the items given so far (`past`, latest first) say of a frame: the pieces that are there, what is noted of them, and its age. And counting: segments,
+-- ticks, frames pending.
+use mathlib.Core.Path.{_≡_, refl, sym, ap, _∙_}
+use mathlib.Core.Logic.{_≢_}
 use mathlib.Core.Bool.{Bool, true, false, cond, not, _&&_, _||_}
-use mathlib.Core.List.{List, [], _∷_, _++_, map, reverse, reverseAux, reverse-cons, reverseAux-eq, append-assoc}
-use Prim.Native.Nat.{ℕ, zero, suc, _+_, _-_, _*_, _≤_, _<_}
+use mathlib.Core.List.{List, [], _∷_, _++_, reverse, reverseAux, reverse-cons, append-assoc}
+use Prim.Native.Nat.{ℕ, zero, suc, _+_, _-_, _≤_, _<_}
 use native.Mathlib.Omega.{arith}
-use lib.ListN.{length, getD, take}
-use lib.Dec.{ltb, leb, eqb}
-use borrow.Author.Tests.{ltb-true, ltb-false, leb-true, leb-false, eqb-true, eqb-false, lt-ltb, le-ltb, le-leb, lt-leb, eq-eqb, ne-eqb}
-use Rattle.reassembly.specs.Laws.Base.{caseB, either, clash, and-l, and-r, and-yes, and-no, below-suc}
-use Rattle.reassembly.specs.Receive.{Event, receive, tick}
-use Rattle.reassembly.specs.Base.{within}
+use lib.ListN.{length, getD}
+use lib.Dec.{ltb, eqb}
+use borrow.Author.Tests.{ltb-true, ltb-false, eqb-true, eqb-false, lt-ltb, le-ltb, eq-eqb, ne-eqb}
+use Rattle.reassembly.specs.Laws.Base.{caseB, either, clash, and-yes, and-no, below-suc}
+use Rattle.reassembly.specs.Receive.{receive, tick}
 use Rattle.reassembly.specs.Laws.Ghost.{Piece, covers, receivedIn, byteIn}
-use Rattle.reassembly.specs.Slots.{Note, Mark, noNote, noted}
+use Rattle.reassembly.specs.Slots.{Note, noNote}
 use Rattle.reassembly.specs.Laws.Slots.{noted-swap}
-use Rattle.reassembly.specs.Take.{Seg, noteAfter}
-use Rattle.reassembly.specs.Mix.{Part, noPart, Frame, joined, offsetOf, partOf, states, noteTo, frameNote, Item, given, other, frameOf, times, timesItem, segmentsOf, ofItem, ticks, tickItem, howMany}
+use Rattle.reassembly.specs.Take.{noteAfter}
+use Rattle.reassembly.specs.Mix.{Frame, joined, offsetOf, partOf, states, noteTo, frameNote, Item, given, other, frameOf, times, timesItem, segmentsOf, ofItem, ticks, tickItem, howMany}
 use Rattle.reassembly.specs.Laws.CutFacts.{size, part-byte, part-differ}
 
 -- ---- counting
@@ -231,7 +231,8 @@ module _ (frames : List Frame) (f : ℕ) where
           (λ q. let d : j ≢ n = eqb-false j n q in rw (e, q, le-ltb j (suc n) (omega (arith, ltb-false j n e)))))
 
   -- all segments given, each once, in any order: what is noted is what the cut's own order gives
-  pub notes-all : (past : List Item) → ((j : ℕ) → 0 < times f j past → j < length (frameOf frames f .parts)) → ((j : ℕ) → j < length (frameOf frames f .parts) → times f j past ≡ 1)
+  pub notes-all : (past : List Item) → ((j : ℕ) → 0 < times f j past → j < length (frameOf frames f .parts))
+      → ((j : ℕ) → j < length (frameOf frames f .parts) → times f j past ≡ 1)
       → ((j : ℕ) → j < length (frameOf frames f .parts) → 0 < size (frameOf frames f .parts) j)
       → notes past ≡ frameNote (frameOf frames f)
   unfolding frameNote

@@ -1,16 +1,16 @@
 -- A test of a mixing that computes: for showing, above, that the claim's conditions can be met.
-use mathlib.Core.Path.{_≡_, refl, sym, ap, subst, _∙_}
-use mathlib.Core.Bool.{Bool, true, false, cond, not, _&&_, _||_}
-use mathlib.Core.List.{List, [], _∷_, _++_, map, append-assoc, append-nil}
-use Prim.Native.Nat.{ℕ, zero, suc, _+_, _-_, _≤_, _<_}
+use mathlib.Core.Path.{_≡_, refl}
+use mathlib.Core.Bool.{Bool, true, false, not, _&&_, _||_}
+use mathlib.Core.List.{List, [], _∷_, _++_, append-assoc, append-nil}
+use Prim.Native.Nat.{ℕ, _+_, _-_}
 use native.Mathlib.Omega.{arith}
-use lib.ListN.{length, getD}
+use lib.ListN.{length}
 use lib.Dec.{ltb, leb, eqb}
 use borrow.Author.Tests.{ltb-true, leb-true, eqb-true, eq-eqb}
 use Rattle.reassembly.specs.Laws.Base.{caseB, clash, and-l, and-r, allBelow-at}
 use Rattle.reassembly.specs.Base.{allBelow}
 use Rattle.reassembly.specs.Receive.{Answers, Seen}
-use Rattle.reassembly.specs.Mix.{Frame, partOf, frameOf, Item, given, other, isSegment, times, ticks, pendingAt, howMany, AllFree, Mixing}
+use Rattle.reassembly.specs.Mix.{Frame, frameOf, Item, given, other, isSegment, times, ticks, pendingAt, howMany, AllFree, Mixing}
 
 -- ---- a test of every place of a list
 
@@ -76,7 +76,8 @@ module _ (frames : List Frame) where
   implies true y h e = h
   implies false y h e = clash (cc)
 
-  pub mixing : (W : Answers) (header : List ℕ → Seen W) (p : ℕ) (items : List Item) → mixes items ≡ true → AllFree W header p items → Mixing W header p frames items
+  pub mixing : (W : Answers) (header : List ℕ → Seen W) (p : ℕ) (items : List Item) → mixes items ≡ true → AllFree W header p items
+      → Mixing W header p frames items
   mixing W header p items t free =
       let t₁ = and-r (everywhere labelled [] items) _ t in
       let t₂ = and-r (onceAll items) _ t₁ in

@@ -31,7 +31,8 @@ module _ (W : Answers) (header : List ℕ → Seen W) (judge : ℕ → Note → 
     seats : Seats p frames past fut (getD (e .rows) p noRow .slots) (e .mem)
 
   -- the packet of a segment reads as the segment
-  reads : (past fut : List Item) (f j : ℕ) → reverseAux past (given f j ∷ fut) ≡ items → header (partOf (frameOf frames f) j .packet) ≡ segment p (states (frameOf frames f) j)
+  reads : (past fut : List Item) (f j : ℕ) → reverseAux past (given f j ∷ fut) ≡ items
+      → header (partOf (frameOf frames f) j .packet) ≡ segment p (states (frameOf frames f) j)
   reads past fut f j is =
       cuts f (lf W header judge p p< frames items cuts mix past fut f j is) .sound j (lj W header judge p p< frames items cuts mix past fut f j is)
 
@@ -45,7 +46,8 @@ module _ (W : Answers) (header : List ℕ → Seen W) (judge : ℕ → Note → 
       → Step W header judge p p< frames items cuts mix past fut f j (h .is) (takeSegment ghost p (getD (e .rows) p noRow) (e .mem) (states (frameOf frames f) j))
   step past fut f j e h = take-step W header judge p p< frames items cuts mix past fut f j (h .is) _ _ (h .seats)
 
-  item-step : (past fut : List Item) (x : Item) (e : State ghost) → Inv past (x ∷ fut) e → Inv (x ∷ past) fut (run W judge ghost header e (cond (keeps (own W header p) (event frames x)) (event frames x ∷ []) []))
+  item-step : (past fut : List Item) (x : Item) (e : State ghost) → Inv past (x ∷ fut) e
+      → Inv (x ∷ past) fut (run W judge ghost header e (cond (keeps (own W header p) (event frames x)) (event frames x ∷ []) []))
   item-step past fut (given f j) e h =
       let r = reads past fut f j (h .is) in
       let o : Effect ghost = takeSegment ghost p (getD (e .rows) p noRow) (e .mem) (states (frameOf frames f) j) in

@@ -40,7 +40,8 @@ block-times g (suc n) f j =
     (λ r. rw (q, r, le-ltb j (suc n) (omega (arith, ltb-false j n r)))))))
     (λ e. rw e))
 
-turns-times : (frs : List Frame) (lo f j : ℕ) → lo ≤ f → times f j (turns lo frs) ≡ cond (ltb (f - lo) (length frs) && ltb j (length (getD frs (f - lo) noFrame .parts))) 1 0
+turns-times : (frs : List Frame) (lo f j : ℕ) → lo ≤ f
+    → times f j (turns lo frs) ≡ cond (ltb (f - lo) (length frs) && ltb j (length (getD frs (f - lo) noFrame .parts))) 1 0
 turns-times [] lo f j l = rw (le-ltb (f - lo) 0 (omega arith))
 turns-times (fr ∷ frs) lo f j l =
     times-append f j (block lo (length (fr .parts))) (turns (suc lo) frs)
@@ -132,6 +133,7 @@ turns-in-turn frames =
       one = λ before now after is f g lf lg wf wg. alone before now after (subst (λ (t : List Item). Rising 0 t) is (rising-turns 0 frames)) f g wf wg;
     }
   where
-    alone : (before : List Item) (now : Item) (after : List Item) → Rising 0 (before ++ (now ∷ after)) → (f g : ℕ) → pendingAt before now after f ≡ true → pendingAt before now after g ≡ true → f ≡ g
+    alone : (before : List Item) (now : Item) (after : List Item) → Rising 0 (before ++ (now ∷ after)) → (f g : ℕ) → pendingAt before now after f ≡ true
+        → pendingAt before now after g ≡ true → f ≡ g
     alone before (given h j) after r f g wf wg = let a = rising-at 0 h j before after r .1 in under-is h j before after a f wf ∙ sym (under-is h j before after a g wg)
     alone before (other e) after r f g wf wg = absurd (rising-other 0 before after e r)

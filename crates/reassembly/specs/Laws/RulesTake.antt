@@ -1,4 +1,5 @@
--- The slot rules (EveryRun) for one segment and one tick, over the memory of pieces: the row is as the history tells, the history decides, and the row that is left is as the next history tells.
+-- The slot rules (EveryRun) for one segment and one tick, over the memory of pieces: the row is as the history tells, the history decides, and the row that
+-- is left is as the next history tells.
 use mathlib.Core.Path.{_≡_, refl, sym, ap, _∙_}
 use mathlib.Core.Logic.{_⊎_, inl, inr, _≢_}
 use mathlib.Core.Bool.{Bool, true, false, cond, not, _&&_, _||_}
@@ -51,7 +52,8 @@ some-not : (n : ℕ) (f : ℕ → Bool) → someBelow n f ≡ false → (i : ℕ
 some-not n f e i l = caseB (f i) (λ q. clash (cc (someBelow-some n f i l q))) (λ q. q)
 
 -- 16 and its contrary, of the segments gs that are in slot k
-pub covered-overlaps : (m : ℕ → List Piece) (k : ℕ) (g : Seg) (gs : List Seg) (i : ℕ) → m k ≡ map pieceOf gs → carries g i ≡ true → covered gs i ≡ true → overlaps ghost m k g ≡ true
+pub covered-overlaps : (m : ℕ → List Piece) (k : ℕ) (g : Seg) (gs : List Seg) (i : ℕ) → m k ≡ map pieceOf gs → carries g i ≡ true → covered gs i ≡ true
+    → overlaps ghost m k g ≡ true
 unfolding overlaps
 covered-overlaps m k g gs i e c d =
     let lo : g .offset ≤ i = within-low (g .offset) (length (g .bytes)) i c in
@@ -60,7 +62,8 @@ covered-overlaps m k g gs i e c d =
     someBelow-some (testedBytes g) (λ j. receivedIn (m k) (g .offset + j)) (i - g .offset) (omega arith)
     (ap (λ (x : ℕ). receivedIn (m k) x) z ∙ ap (λ (x : List Piece). receivedIn x i) e ∙ sym (covered-is gs i) ∙ d)
 
-pub apart-overlaps : (m : ℕ → List Piece) (k : ℕ) (g : Seg) (gs : List Seg) → m k ≡ map pieceOf gs → ((i : ℕ) → carries g i ≡ true → covered gs i ≡ false) → overlaps ghost m k g ≡ false
+pub apart-overlaps : (m : ℕ → List Piece) (k : ℕ) (g : Seg) (gs : List Seg) → m k ≡ map pieceOf gs → ((i : ℕ) → carries g i ≡ true → covered gs i ≡ false)
+    → overlaps ghost m k g ≡ false
 unfolding overlaps
 apart-overlaps m k g gs e a =
     someBelow-none (testedBytes g) (λ j. receivedIn (m k) (g .offset + j))
@@ -81,7 +84,8 @@ overlaps-covered m k g gs e o =
       already = covered-is gs (g .offset + f .at) ∙ ap (λ (x : List Piece). receivedIn x (g .offset + f .at)) (sym e) ∙ f .passes;
     }
 
-pub overlaps-apart : (m : ℕ → List Piece) (k : ℕ) (g : Seg) (gs : List Seg) → m k ≡ map pieceOf gs → overlaps ghost m k g ≡ false → (i : ℕ) → carries g i ≡ true → covered gs i ≡ false
+pub overlaps-apart : (m : ℕ → List Piece) (k : ℕ) (g : Seg) (gs : List Seg) → m k ≡ map pieceOf gs → overlaps ghost m k g ≡ false → (i : ℕ)
+    → carries g i ≡ true → covered gs i ≡ false
 overlaps-apart m k g gs e o i c = caseB (covered gs i) (λ d. clash (cc (covered-overlaps m k g gs i e c d))) (λ d. d)
 
 -- ---- the row is as the history tells
@@ -89,7 +93,8 @@ overlaps-apart m k g gs e o i c = caseB (covered gs i) (λ d. clash (cc (covered
 pub record Stand (row : List Slot) (h : History) : Type 0 where
   pub four : length row ≡ 4
   pub stands : (s : ℕ) → s < 4 → Stands (getD row s free) (h .taken s) (h .ticks s)
-  pub distinct : (s t : ℕ) → s < 4 → t < 4 → getD row s free .pending ≡ true → getD row t free .pending ≡ true → getD row s free .identifier ≡ getD row t free .identifier → s ≡ t
+  pub distinct : (s t : ℕ) → s < 4 → t < 4 → getD row s free .pending ≡ true → getD row t free .pending ≡ true
+      → getD row s free .identifier ≡ getD row t free .identifier → s ≡ t
 
 module _ (row : List Slot) (h : History) (st : Stand row h) where
   abbrev slotOf : ℕ → Slot
@@ -221,7 +226,8 @@ put-stand row h h′ s v ls st w others only =
 
 module _ (p : ℕ) where
   -- the segment has been put into slot s: `c` is for that slot, whose segments are then g and the earlier ones
-  finish-stand : (row : List Slot) (m : ℕ → List Piece) (h : History) (s : ℕ) (v : Slot) (g : Seg) (earlier : List Seg) (note : Note) (c : Choice) → s < 4 → Stand row h
+  finish-stand : (row : List Slot) (m : ℕ → List Piece) (h : History) (s : ℕ) (v : Slot) (g : Seg) (earlier : List Seg) (note : Note) (c : Choice) → s < 4
+      → Stand row h
       → enters (h .taken) g c s ≡ g ∷ earlier → m (slotNo p s) ≡ map pieceOf (g ∷ earlier)
       → ((t : ℕ) → t ≢ s → (enters (h .taken) g c t ≡ h .taken t) × (restarts (h .ticks) c t ≡ h .ticks t))
       → v .pending ≡ true → v .identifier ≡ g .identifier → v .«frame_length» ≡ g .frame-length → v .age ≡ restarts (h .ticks) c s → restarts (h .ticks) c s < 4
@@ -323,7 +329,8 @@ tick-stand row h st =
 
 -- ---- one segment that passes 14: exactly one case, and what is told in it
 
-pub take-by : (O : Ops) (p : ℕ) (row : Row) (m : O .S) (g : Seg) (c : Choice) → chosen (row .slots) g ≡ c → takeSegment O p row m g ≡ placed O p (row .slots) m g c
+pub take-by : (O : Ops) (p : ℕ) (row : Row) (m : O .S) (g : Seg) (c : Choice) → chosen (row .slots) g ≡ c
+    → takeSegment O p row m g ≡ placed O p (row .slots) m g c
 unfolding takeSegment
 take-by O p row m g c e = ap (placed O p (row .slots) m g) e
 

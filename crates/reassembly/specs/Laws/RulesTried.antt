@@ -1,5 +1,5 @@
--- The slot rules, tried on the shortest runs, so that no clause of them is empty: from a set-up any part of a frame opens slot 0; the same packet again is 16; three ticks later the frame is still pending; after a fourth it is not,
--- and the same packet opens slot 0 anew.
+-- The slot rules, tried on the shortest runs, so that no clause of them is empty: from a set-up any part of a frame opens slot 0; the same packet again is
+-- 16; three ticks later the frame is still pending; after a fourth it is not, and the same packet opens slot 0 anew.
 use mathlib.Core.Path.{_≡_, refl, _∙_}
 use mathlib.Core.Bool.{true, false}
 use mathlib.Core.List.{List, [], _∷_}

@@ -1,4 +1,5 @@
--- One receive, one tick, and a run of them, over any memory that is asked as `Ops` says; and for one peer: the endpoint that sees every event, and another that sees only the ticks and this peer's packets, agree on this peer throughout.
+-- One receive, one tick, and a run of them, over any memory that is asked as `Ops` says; and for one peer: the endpoint that sees every event, and another
+-- that sees only the ticks and this peer's packets, agree on this peer throughout.
 use mathlib.Core.Path.{_≡_, refl, sym, ap, _∙_}
 use mathlib.Core.Logic.{_≢_}
 use mathlib.Core.Bool.{Bool, true, false, cond}
@@ -145,7 +146,8 @@ module _ (W : Answers) (judge : ℕ → Note → List ℕ → Verdict W) (A B : 
         same = rw r₁ (l .same);
       }
 
-  told-same : (x : Effect A) (y : Effect B) (g : Seg) (o : Outcome) → x .outcome ≡ o → Alike A B p (g .frame-length) x y → told W judge A p g x o ≡ told W judge B p g y o
+  told-same : (x : Effect A) (y : Effect B) (g : Seg) (o : Outcome) → x .outcome ≡ o → Alike A B p (g .frame-length) x y
+      → told W judge A p g x o ≡ told W judge B p g y o
   told-same x y g (Rejected r) q l = refl
   told-same x y g Pending q l = refl
   told-same x y g (Complete s) q l = rw (l .note, l .frame s q)
@@ -199,14 +201,16 @@ module _ (W : Answers) (judge : ℕ → Note → List ℕ → Verdict W) (A B : 
       }
 
   -- one event, and a list of them
-  pub event-sim : (e : State A) (g : State B) (ev : Event) → Sim A B p e g → Sim A B p (after W judge A header e ev) (run W judge B header g (cond (keeps (own W header p) ev) (ev ∷ []) []))
+  pub event-sim : (e : State A) (g : State B) (ev : Event) → Sim A B p e g
+      → Sim A B p (after W judge A header e ev) (run W judge B header g (cond (keeps (own W header p) ev) (ev ∷ []) []))
   event-sim e g tick h = tick-sim e g h
   event-sim e g (receive k) h =
       caseB (mine W p (header k))
       (λ m. rw m (mine-sim e g (header k) (listed k) m h .1))
       (λ m. rw m (other-sim e g (header k) (listed k) m h))
 
-  pub run-sim : (es : List Event) (e : State A) (g : State B) → Sim A B p e g → Sim A B p (run W judge A header e es) (run W judge B header g (strike (own W header p) es))
+  pub run-sim : (es : List Event) (e : State A) (g : State B) → Sim A B p e g
+      → Sim A B p (run W judge A header e es) (run W judge B header g (strike (own W header p) es))
   run-sim [] e g h = h
   run-sim (ev ∷ es) e g h =
       caseB (keeps (own W header p) ev)
@@ -214,7 +218,8 @@ module _ (W : Answers) (judge : ℕ → Note → List ℕ → Verdict W) (A B : 
       (λ m. rw m (run-sim es _ _ (rw m at (event-sim e g ev h))))
 
   -- the peer's answers are those of the run of its own packets and the ticks
-  pub answers-sim : (es : List Event) (e : State A) (g : State B) → Sim A B p e g → answers W header p judge A e es ≡ answers W header p judge B g (strike (own W header p) es)
+  pub answers-sim : (es : List Event) (e : State A) (g : State B) → Sim A B p e g
+      → answers W header p judge A e es ≡ answers W header p judge B g (strike (own W header p) es)
   answers-sim [] e g h = refl
   answers-sim (tick ∷ es) e g h = answers-sim es _ _ (tick-sim e g h)
   answers-sim (receive k ∷ es) e g h =

@@ -1,19 +1,19 @@
 -- Two endpoints that keep their bytes in two ways, and agree on one peer: its row is the same, and what its pending slots have received is the same.
 -- Taking one of the peer's segments keeps that, with the same outcome; taking another peer's segment touches nothing of it.
-use mathlib.Core.Path.{_≡_, refl, sym, ap, subst, _∙_}
+use mathlib.Core.Path.{_≡_, refl, sym, _∙_}
 use mathlib.Core.Logic.{_⊎_, inl, inr, _≢_}
-use mathlib.Core.Bool.{Bool, true, false, cond, not, _&&_, _||_}
-use mathlib.Core.List.{List, [], _∷_}
-use Prim.Native.Nat.{ℕ, zero, suc, _+_, _-_, _*_, _≤_, _<_}
+use mathlib.Core.Bool.{true, false, _||_}
+use mathlib.Core.List.{List}
+use Prim.Native.Nat.{ℕ, _+_, _-_, _≤_, _<_}
 use native.Mathlib.Omega.{arith}
 use lib.ListN.{length, getD, set, length-set}
 use lib.Seq.{getD-set-same, getD-set-other}
-use lib.Dec.{ltb, leb, eqb}
+use lib.Dec.{eqb}
 use borrow.Author.Tests.{eqb-true, eqb-false}
-use Rattle.reassembly.specs.Base.{someBelow, allBelow, table, within}
+use Rattle.reassembly.specs.Base.{within}
 use Rattle.reassembly.specs.Laws.Base.{caseB, either, clash, someBelow-ext, allBelow-ext, table-ext, allBelow-at}
 use Rattle.reassembly.specs.Slots.{Slot, Row, Note, noNote, noteOf, free}
-use Rattle.reassembly.specs.Take.{slotNo, Seg, Ops, Outcome, Rejected, Pending, Complete, NoMemory, AlreadyReceived, Choice, reject, old, fresh, chosen, testedBytes, storedBytes, noteAfter, openedSlot, furtherSlot, Effect, rejects, complete, overlaps, frameIn, finish, placed, takeSegment, Fits, Old, Fresh}
+use Rattle.reassembly.specs.Take.{slotNo, Seg, Ops, Outcome, Rejected, Pending, Complete, AlreadyReceived, Choice, reject, old, fresh, chosen, testedBytes, storedBytes, noteAfter, openedSlot, furtherSlot, Effect, complete, overlaps, frameIn, finish, placed, takeSegment}
 use Rattle.reassembly.specs.Laws.TakeFacts.{stored-length, Tells, chosen-tells, isComplete, not-complete, complete-slot, finish-mem}
 use Rattle.reassembly.specs.Laws.Memory.{Laws}
 
@@ -28,7 +28,8 @@ pub record RowOk (row : List Slot) : Type 0 where
   pub sizes : (s : ℕ) → s < 4 → getD row s free .pending ≡ true → getD row s free .«frame_length» ≤ 1532
 
 -- a store into a list, read back: at its own place, or elsewhere
-pub set-cases : {A : Type 0} (l : List A) (s : ℕ) (v d : A) (t : ℕ) → s < length l → ((t ≡ s) × (getD (set l s v) t d ≡ v)) ⊎ ((t ≢ s) × (getD (set l s v) t d ≡ getD l t d))
+pub set-cases : {A : Type 0} (l : List A) (s : ℕ) (v d : A) (t : ℕ) → s < length l
+    → ((t ≡ s) × (getD (set l s v) t d ≡ v)) ⊎ ((t ≢ s) × (getD (set l s v) t d ≡ getD l t d))
 set-cases l s v d t h =
     caseB (eqb t s)
     (λ q. inl (eqb-true t s q, rw (eqb-true t s q) (getD-set-same l s v d h)))
@@ -82,7 +83,8 @@ module _ (A B : Ops) (LA : Laws A) (LB : Laws B) (p : ℕ) (p< : p < 8) where
       → Agree A B (slotNo p s) n a b → Agree A B (slotNo p s) n (A .put a (slotNo p s) at bs) (B .put b (slotNo p s) at bs)
   put-agree s n at bs a b l nl f oa ob h =
       let k : ℕ = slotNo p s in
-      let hA : (i : ℕ) → i < n → A .received (A .put a k at bs) k i ≡ (within at (length bs) i || A .received a k i) = λ i j. LA .received-put a k at bs oa (omega arith) (omega arith) i (omega arith) in
+      let hA : (i : ℕ) → i < n
+      → A .received (A .put a k at bs) k i ≡ (within at (length bs) i || A .received a k i) = λ i j. LA .received-put a k at bs oa (omega arith) (omega arith) i (omega arith) in
       record {
         received = λ i j. cc (hA i j, LB .received-put b k at bs ob (omega arith) (omega arith) i (omega arith), h .received i j);
         byte = λ i j e.
@@ -191,7 +193,8 @@ module _ (A B : Ops) (LA : Laws A) (LB : Laws B) (p : ℕ) (p< : p < 8) where
       (λ j i n k. LB .byte-put-other b₁ _ _ _ ob₁ (omega arith) (omega arith) j i n k ∙ LB .byte-clear-other b _ (h .okB) (omega arith) j i n k))
       (rw sv) (rw sv)
 
-  pub take-alike : (row : Row) (a : A .S) (b : B .S) (g : Seg) → Same A B p (row .slots) a b → Alike A B p (g .frame-length) (takeSegment A p row a g) (takeSegment B p row b g)
+  pub take-alike : (row : Row) (a : A .S) (b : B .S) (g : Seg) → Same A B p (row .slots) a b
+      → Alike A B p (g .frame-length) (takeSegment A p row a g) (takeSegment B p row b g)
   unfolding takeSegment
   take-alike row a b g h = placed-alike (row .slots) a b g (chosen (row .slots) g) (chosen-tells (row .slots) g) h
 
@@ -237,6 +240,7 @@ module _ (A : Ops) (LA : Laws A) (q : ℕ) (q< : q < 8) where
         finish-row s _ _ g _ l (row-set row s _ l r (λ t. z)),
       )
 
-  pub take-apart : (row : Row) (a : A .S) (g : Seg) → RowOk (row .slots) → A .Ok a → Apart a (takeSegment A q row a g .mem) × RowOk (takeSegment A q row a g .row .slots)
+  pub take-apart : (row : Row) (a : A .S) (g : Seg) → RowOk (row .slots) → A .Ok a
+      → Apart a (takeSegment A q row a g .mem) × RowOk (takeSegment A q row a g .row .slots)
   unfolding takeSegment
   take-apart row a g r o = placed-apart (row .slots) a g (chosen (row .slots) g) (chosen-tells (row .slots) g) r o

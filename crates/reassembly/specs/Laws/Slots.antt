@@ -24,7 +24,8 @@ noteOf-pending i n a t = refl
 abbrev pub slotsOf : Row → List Slot
 slotsOf r = r .slots
 
-pub older-pending : (s : Slot) → older s .pending ≡ true → (s .pending ≡ true) × (older s ≡ pendingSlot (s .identifier) (s .«frame_length») (s .age + 1) (noteOf s))
+pub older-pending : (s : Slot) → older s .pending ≡ true
+    → (s .pending ≡ true) × (older s ≡ pendingSlot (s .identifier) (s .«frame_length») (s .age + 1) (noteOf s))
 unfolding older
 older-pending s e =
     caseB (s .pending)
@@ -83,7 +84,8 @@ first-none f l e s h =
     (λ d. clash (cc))
     (λ d. low4 s h a b c d))))
   where
-    low4 : (t : ℕ) → t < 4 → f (getD l 0 free) ≡ false → f (getD l 1 free) ≡ false → f (getD l 2 free) ≡ false → f (getD l 3 free) ≡ false → f (getD l t free) ≡ false
+    low4 : (t : ℕ) → t < 4 → f (getD l 0 free) ≡ false → f (getD l 1 free) ≡ false → f (getD l 2 free) ≡ false → f (getD l 3 free) ≡ false
+        → f (getD l t free) ≡ false
     low4 zero h a b c d = a
     low4 (suc zero) h a b c d = b
     low4 (suc (suc zero)) h a b c d = c

@@ -1,20 +1,20 @@
 -- The memory of bytes keeps the laws of `Laws`; and the frame of a slot as the view call hands it back.
-use mathlib.Core.Path.{_≡_, refl, sym, ap, subst, _∙_}
+use mathlib.Core.Path.{_≡_, refl, sym, ap, _∙_}
 use mathlib.Core.Logic.{_⊎_, inl, inr, _≢_}
-use mathlib.Core.Bool.{Bool, true, false, cond, not, _&&_, _||_}
+use mathlib.Core.Bool.{Bool, true, false, not, _||_}
 use mathlib.Core.List.{List, [], _∷_, _++_}
 use Prim.Native.Nat.{ℕ, zero, suc, _+_, _-_, _*_, _/_, _%_, _^_, _≤_, _<_}
 use native.Mathlib.Omega.{arith}
 use native.Mathlib.Nat.{zero-div, zero-add, suc-add}
-use lib.ListN.{length, getD, take, drop, set, length-set, replicate, length-replicate, getD-replicate, length-drop, length-take}
+use lib.ListN.{length, getD, take, drop, set, length-set, length-replicate, getD-replicate, length-drop, length-take}
 use lib.Seq.{getD-set-same, getD-set-other, sets, length-sets, ext-getD, getD-drop, getD-take, getD-append-add}
-use lib.Dec.{ltb, leb, eqb}
+use lib.Dec.{ltb, eqb}
 use lib.Bits.{bitOr, or-shr, or-mod}
-use borrow.Author.Tests.{ltb-true, ltb-false, leb-true, leb-false, eqb-true, eqb-false, lt-ltb, le-ltb, eq-eqb, ne-eqb, le-leb}
-use Rattle.reassembly.specs.Laws.Base.{caseB, either, clash, and-l, and-r, allBelow-at, length-table, getD-table, same-test, or-cases, or-true-r}
+use borrow.Author.Tests.{ltb-true, ltb-false, eqb-true, eqb-false, lt-ltb, eq-eqb, ne-eqb, le-leb}
+use Rattle.reassembly.specs.Laws.Base.{caseB, either, clash, allBelow-at, length-table, getD-table, same-test, or-cases, or-true-r}
 use Rattle.reassembly.specs.Base.{allBelow, table, within}
 use Rattle.reassembly.specs.Slots.{Row}
-use Rattle.reassembly.specs.Take.{slotNo, Ops, frameIn, Seg, takeSegment}
+use Rattle.reassembly.specs.Take.{slotNo, frameIn, Seg, takeSegment}
 use Rattle.reassembly.specs.Laws.Memory.{Laws, within-low, within-high, within-is}
 use Rattle.reassembly.specs.Store.{isOn, bitAt, setBit, setBits, slotStart, mapStart, mapSize, zeros, clearAt, putAt, receivedAt, byteAt, bytesOf, hasSlots, takeIn}
 

@@ -1,8 +1,6 @@
 -- A memory of bytes stays one: taking a segment of bytes stores bytes.
-use mathlib.Core.Path.{_≡_, refl, sym, ap, subst, _∙_}
-use mathlib.Core.Bool.{Bool, true, false, cond}
 use mathlib.Core.List.{List, [], _∷_}
-use Prim.Native.Nat.{ℕ, zero, suc, _+_, _*_, _/_, _%_, _^_, _≤_, _<_}
+use Prim.Native.Nat.{ℕ, zero, suc, _+_, _/_, _%_, _^_, _<_}
 use native.Mathlib.Omega.{arith}
 use lib.ListN.{length, getD, set, replicate}
 use lib.Seq.{sets}
@@ -11,7 +9,7 @@ use lib.Bits.{bitOr, or-lt}
 use Rattle.wire.specs.Bytes.{Bytes}
 use Rattle.reassembly.specs.Laws.Base.{caseB}
 use Rattle.reassembly.specs.Slots.{Slot, Row, free, noNote, noteOf}
-use Rattle.reassembly.specs.Take.{slotNo, Seg, Choice, reject, old, fresh, chosen, noteAfter, openedSlot, furtherSlot, overlaps, finish, placed, takeSegment}
+use Rattle.reassembly.specs.Take.{slotNo, Seg, Choice, reject, old, fresh, chosen, noteAfter, openedSlot, furtherSlot, overlaps, placed, takeSegment}
 use Rattle.reassembly.specs.Laws.TakeFacts.{finish-mem}
 use Rattle.reassembly.specs.Store.{setBit, setBits, slotStart, mapStart, zeros, clearAt, putAt, bytesOf, hasSlots, takeIn}
 

@@ -31,7 +31,8 @@ further-row row s g e = ap (λ (v : Slot). set row s v) (same (getD row s free) 
 
 -- ---- the search of a row
 
-pub found-at : (f : Slot → Bool) (row : List Slot) (s : ℕ) → s < 4 → ((t : ℕ) → t < s → f (getD row t free) ≡ false) → f (getD row s free) ≡ true → At s ≡ foundOf (first f row)
+pub found-at : (f : Slot → Bool) (row : List Slot) (s : ℕ) → s < 4 → ((t : ℕ) → t < s → f (getD row t free) ≡ false) → f (getD row s free) ≡ true
+    → At s ≡ foundOf (first f row)
 unfolding foundOf
 found-at f row s l n e = rw (first-is f row s l n e)
 
@@ -64,30 +65,36 @@ module _ (row : List Slot) (g : Seg) where
   unfolding decisionOf chosen
   decide-long n h l = rw (ne-eqb (length (g .bytes)) 0 n, le-ltb (g .frame-length) 32 h, lt-ltb 1532 (g .frame-length) l)
 
-  pub decide-past : length (g .bytes) ≢ 0 → 32 ≤ g .frame-length → g .frame-length ≤ 1532 → g .frame-length < g .offset + length (g .bytes) → Reject PastEnd ≡ decisionOf (chosen row g)
+  pub decide-past : length (g .bytes) ≢ 0 → 32 ≤ g .frame-length → g .frame-length ≤ 1532 → g .frame-length < g .offset + length (g .bytes)
+      → Reject PastEnd ≡ decisionOf (chosen row g)
   unfolding decisionOf chosen
   decide-past n h l p = rw (ne-eqb (length (g .bytes)) 0 n, le-ltb (g .frame-length) 32 h, le-ltb 1532 (g .frame-length) l, lt-ltb (g .frame-length) (g .offset + length (g .bytes)) p)
 
-  pub decide-other : Fits g → (s : ℕ) → At s ≡ foundOf (first (bears (g .identifier)) row) → getD row s free .«frame_length» ≢ g .frame-length → Reject OtherLength ≡ decisionOf (chosen row g)
+  pub decide-other : Fits g → (s : ℕ) → At s ≡ foundOf (first (bears (g .identifier)) row) → getD row s free .«frame_length» ≢ g .frame-length
+      → Reject OtherLength ≡ decisionOf (chosen row g)
   unfolding decisionOf
   decide-other f s e d = rw (chosen-fits row g f, from-at (first (bears (g .identifier)) row) s e, ne-eqb (getD row s free .«frame_length») (g .frame-length) d)
 
-  pub decide-further : Fits g → (s : ℕ) → At s ≡ foundOf (first (bears (g .identifier)) row) → getD row s free .«frame_length» ≡ g .frame-length → Further s ≡ decisionOf (chosen row g)
+  pub decide-further : Fits g → (s : ℕ) → At s ≡ foundOf (first (bears (g .identifier)) row) → getD row s free .«frame_length» ≡ g .frame-length
+      → Further s ≡ decisionOf (chosen row g)
   unfolding decisionOf
   decide-further f s e d = rw (chosen-fits row g f, from-at (first (bears (g .identifier)) row) s e, eq-eqb (getD row s free .«frame_length») (g .frame-length) d)
 
-  pub decide-full : Fits g → Nothing ≡ foundOf (first (bears (g .identifier)) row) → Nothing ≡ foundOf (first isFree row) → Reject NoSlot ≡ decisionOf (chosen row g)
+  pub decide-full : Fits g → Nothing ≡ foundOf (first (bears (g .identifier)) row) → Nothing ≡ foundOf (first isFree row)
+      → Reject NoSlot ≡ decisionOf (chosen row g)
   unfolding decisionOf
   decide-full f e n = rw (chosen-fits row g f, from-nothing (first (bears (g .identifier)) row) e, from-nothing (first isFree row) n)
 
-  pub decide-open : Fits g → Nothing ≡ foundOf (first (bears (g .identifier)) row) → (s : ℕ) → At s ≡ foundOf (first isFree row) → Open s ≡ decisionOf (chosen row g)
+  pub decide-open : Fits g → Nothing ≡ foundOf (first (bears (g .identifier)) row) → (s : ℕ) → At s ≡ foundOf (first isFree row)
+      → Open s ≡ decisionOf (chosen row g)
   unfolding decisionOf
   decide-open f e s a = rw (chosen-fits row g f, from-nothing (first (bears (g .identifier)) row) e, from-at (first isFree row) s a)
 
 -- ---- storing
 
 -- the part of the effect that the row's code gives
-finish-taken : (p s : ℕ) (row : List Slot) (m : List ℕ) (g : Seg) (note : Note) → takenOf (finish bytesOf p s row m g note) ≡ finished p s (record { slots = row }) m (g .frame-length)
+finish-taken : (p s : ℕ) (row : List Slot) (m : List ℕ) (g : Seg) (note : Note)
+    → takenOf (finish bytesOf p s row m g note) ≡ finished p s (record { slots = row }) m (g .frame-length)
 unfolding takenOf finished
 finish-taken p s row m g note = caseB (complete bytesOf m (4 * p + s) (g .frame-length)) (λ e. rw e) (λ e. rw e)
 
@@ -165,7 +172,8 @@ module _ (p : ℕ) (row : Row) (m : List ℕ) (g : Seg) where
   unfolding takenOf takeIn hasSlots
   no-peer h = (rw (le-ltb p 8 h), rw (le-ltb p 8 h))
 
-  pub no-memory : p < 8 → length m < 55296 → (_≡_ {A = Taken} (record { row = row; outcome = NoMemory }) (takenOf (takeIn p row m g))) × (m ≡ takeIn p row m g .mem)
+  pub no-memory : p < 8 → length m < 55296
+      → (_≡_ {A = Taken} (record { row = row; outcome = NoMemory }) (takenOf (takeIn p row m g))) × (m ≡ takeIn p row m g .mem)
   unfolding takenOf takeIn hasSlots
   no-memory h l = (rw (lt-ltb p 8 h, lt-leb 55296 (length m) l), rw (lt-ltb p 8 h, lt-leb 55296 (length m) l))
 

@@ -97,10 +97,12 @@ chosen-fits row g f =
     )
 
 -- a segment of no pending frame, with a slot free: it opens a frame in a free one
-pub chosen-opens : (row : List Slot) (g : Seg) → Fits g → first (bears (g .identifier)) row ≡ none → (s : ℕ) → first isFree row ≡ some s → (t : ℕ) × ((chosen row g ≡ fresh t) × Fresh row g t)
+pub chosen-opens : (row : List Slot) (g : Seg) → Fits g → first (bears (g .identifier)) row ≡ none → (s : ℕ) → first isFree row ≡ some s
+    → (t : ℕ) × ((chosen row g ≡ fresh t) × ((t < 4) × (getD row t free .pending ≡ false)))
 chosen-opens row g f e s n =
+    let b : First isFree row s = first-some isFree row s n in
     let c : chosen row g ≡ fresh s = chosen-fits row g f ∙ rw (e, n) in
-    (s, (c, subst (λ (x : Choice). Tells row g x) c (chosen-tells row g)))
+    (s, (c, (b .is-slot, is-free-false (getD row s free) (b .passes))))
 
 -- ---- outcomes
 
@@ -152,7 +154,8 @@ module _ (O : Ops) where
   take-complete p t row m g e = placed-tells p t (row .slots) m g (chosen (row .slots) g) (chosen-tells (row .slots) g) e
 
   -- a rejection changes neither the row nor the memory (demand 1)
-  finish-takes : {C : Type 0} (p s : ℕ) (row : List Slot) (m : O .S) (g : Seg) (note : Note) (r : Rejection) → finish O p s row m g note .outcome ≡ Rejected r → C
+  finish-takes : {C : Type 0} (p s : ℕ) (row : List Slot) (m : O .S) (g : Seg) (note : Note) (r : Rejection)
+      → finish O p s row m g note .outcome ≡ Rejected r → C
   finish-takes p s row m g note r e =
       caseB (complete O m (slotNo p s) (g .frame-length))
       (λ c. let z : Complete s ≡ Rejected r = rw c at e in clash (cc))

@@ -1,21 +1,21 @@
 -- What a user of `take` needs of its outcome: the memory keeps its length, and a complete frame lies in it, in one of the peer's four slots.
 -- Assumes nothing.
-use mathlib.Core.Path.{_≡_, refl, sym, ap, _∙_}
-use mathlib.Core.Bool.{Bool, true, false, cond, _&&_}
-use mathlib.Core.List.{List, [], _∷_}
-use Prim.Native.Nat.{ℕ, zero, suc, _+_, _-_, _*_, _≤_, _<_}
+use mathlib.Core.Path.{_≡_, refl, sym, _∙_}
+use mathlib.Core.Bool.{_&&_}
+use mathlib.Core.List.{List}
+use Prim.Native.Nat.{ℕ, _+_, _-_, _*_, _≤_, _<_}
 use native.Mathlib.Omega.{arith}
 use lib.ListN.{length, getD, set, take, drop, replicate, length-drop, length-take}
 use lib.Seq.{sets, length-sets, ext-getD, getD-drop, getD-take}
-use lib.Dec.{ltb, leb, eqb}
+use lib.Dec.{ltb, leb}
 use borrow.Author.Tests.{ltb-true, leb-true}
-use Rattle.reassembly.specs.Laws.Base.{caseB, clash, and-l, and-r, length-table, getD-table}
+use Rattle.reassembly.specs.Laws.Base.{caseB, and-l, and-r, length-table, getD-table}
 use Rattle.reassembly.specs.Base.{table}
 use Rattle.reassembly.specs.Slots.{Slot, Row, Note, noNote, noteOf, free}
-use Rattle.reassembly.specs.Take.{Seg, slotNo, storedBytes, AlreadyReceived, Rejection, Outcome, Rejected, Pending, Complete, NoMemory, Choice, reject, old, fresh, chosen, Effect, complete, overlaps, frameIn, finish, placed, furtherSlot, openedSlot, noteAfter, takeSegment, Fits}
-use Rattle.reassembly.specs.Laws.TakeFacts.{isComplete, not-complete, take-complete, take-rejects}
+use Rattle.reassembly.specs.Take.{Seg, slotNo, storedBytes, AlreadyReceived, Rejection, Rejected, Pending, Complete, NoMemory, Choice, reject, old, fresh, chosen, Effect, complete, overlaps, frameIn, finish, placed, furtherSlot, openedSlot, noteAfter, takeSegment, Fits}
+use Rattle.reassembly.specs.Laws.TakeFacts.{not-complete, take-complete, take-rejects}
 use Rattle.reassembly.specs.Store.{bytesOf, hasSlots, takeIn, putAt, clearAt, slotStart, mapStart, byteAt, takenOf}
-use Rattle.reassembly.specs.Laws.Store.{length-setBits, slot-inside}
+use Rattle.reassembly.specs.Laws.Store.{length-setBits}
 
 -- ---- the memory keeps its length
 
@@ -96,7 +96,8 @@ taken-outcome e = refl
 
 -- ---- what is not taken changes nothing
 
-pub take-refused : (p : ℕ) (row : Row) (m : List ℕ) (g : Seg) (r : Rejection) → takeIn p row m g .outcome ≡ Rejected r → (takeIn p row m g .row ≡ row) × (takeIn p row m g .mem ≡ m)
+pub take-refused : (p : ℕ) (row : Row) (m : List ℕ) (g : Seg) (r : Rejection) → takeIn p row m g .outcome ≡ Rejected r
+    → (takeIn p row m g .row ≡ row) × (takeIn p row m g .mem ≡ m)
 unfolding takeIn
 take-refused p row m g r e =
     caseB (hasSlots p m)
@@ -118,7 +119,8 @@ some-placed p row m g (old s) e =
 some-placed p row m g (fresh s) e =
     some-finish p s (set row s (openedSlot g)) (putAt (clearAt m (slotNo p s)) (slotNo p s) (g .offset) (g .bytes)) g (noteAfter noNote g) e
 
-pub take-no-memory : (p : ℕ) (row : Row) (m : List ℕ) (g : Seg) → takeIn p row m g .outcome ≡ NoMemory → (takeIn p row m g .row ≡ row) × (takeIn p row m g .mem ≡ m)
+pub take-no-memory : (p : ℕ) (row : Row) (m : List ℕ) (g : Seg) → takeIn p row m g .outcome ≡ NoMemory
+    → (takeIn p row m g .row ≡ row) × (takeIn p row m g .mem ≡ m)
 unfolding takeIn takeSegment
 take-no-memory p row m g e =
     caseB (hasSlots p m)

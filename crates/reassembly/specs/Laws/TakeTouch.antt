@@ -1,14 +1,13 @@
--- What the segment that completes a frame leaves, over the bytes and the row: the segment is stored and nothing else of the memory changes (Rules, `Touches`), and its slot is free.
+-- What the segment that completes a frame leaves, over the bytes and the row: the segment is stored and nothing else of the memory changes (Rules,
+-- `Touches`), and its slot is free.
 -- And what a tick leaves of one slot.
 -- Assumes nothing.
-use mathlib.Core.Path.{_≡_, refl, sym, ap, _∙_}
-use mathlib.Core.Bool.{Bool, true, false, cond, _&&_}
-use mathlib.Core.List.{List, map}
+use mathlib.Core.Path.{_≡_, refl}
+use mathlib.Core.Bool.{Bool, true, false}
+use mathlib.Core.List.{List}
 use Prim.Native.Nat.{ℕ, _+_, _≤_, _<_}
-use native.Mathlib.Omega.{arith}
-use lib.ListN.{length, getD, set}
+use lib.ListN.{getD, set}
 use lib.Seq.{set-set}
-use lib.Dec.{ltb, leb}
 use borrow.Author.Tests.{lt-ltb, le-ltb}
 use Rattle.reassembly.specs.Laws.Base.{caseB, allBelow-at}
 use Rattle.reassembly.specs.Slots.{Slot, Row, Note, noNote, noteOf, free, noRow, lifetime, older, olderRow}
@@ -32,7 +31,8 @@ all-set p s n m e i l = allBelow-at n (λ j. receivedAt m (slotNo p s) j) e i l
 
 module _ (p : ℕ) (row : List Slot) (m : List ℕ) (g : Seg) where
   -- slot t was written, and the memory is n
-  finished : (s t : ℕ) (v : Slot) (n : List ℕ) (note : Note) (new : Bool) → (t ≡ s → Touches p t new g m n) → finish bytesOf p t (set row t v) n g note .outcome ≡ Complete s
+  finished : (s t : ℕ) (v : Slot) (n : List ℕ) (note : Note) (new : Bool) → (t ≡ s → Touches p t new g m n)
+      → finish bytesOf p t (set row t v) n g note .outcome ≡ Complete s
       → Completes p s g row (finish bytesOf p t (set row t v) n g note .row .slots) m (finish bytesOf p t (set row t v) n g note .mem)
   finished s t v n note new touches e =
       caseB (complete bytesOf n (slotNo p t) (g .frame-length))

@@ -1,7 +1,7 @@
--- The definitions, tried: a toy header (peer, identifier, frame length, offset, then the segment's bytes), cases 9 and 10 of the worked cases and each rejection, computed;
--- and the claim of the toy, applied to a mixing, so that no clause of it is empty.
-use mathlib.Core.Path.{_≡_, refl, sym, ap, subst, _∙_}
-use mathlib.Core.Bool.{Bool, true, false, cond}
+-- The definitions, tried: a toy header (peer, identifier, frame length, offset, then the segment's bytes), cases 9 and 10 of the worked cases and each
+-- rejection, computed; and the claim of the toy, applied to a mixing, so that no clause of it is empty.
+use mathlib.Core.Path.{_≡_, refl}
+use mathlib.Core.Bool.{true, false, cond}
 use mathlib.Core.List.{List, [], _∷_, _++_, map}
 use mathlib.Core.Option.{Option, none, some}
 use Prim.Native.Nat.{ℕ, zero, suc, _+_, _≤_, _<_}
@@ -9,18 +9,18 @@ use native.Mathlib.Omega.{arith}
 use lib.ListN.{length, getD, drop, replicate}
 use lib.Dec.{ltb, eqb}
 use borrow.Author.Tests.{ltb-true}
-use Rattle.reassembly.specs.Laws.Base.{caseB, clash, below-two}
+use Rattle.reassembly.specs.Laws.Base.{caseB, below-two}
 use Rattle.reassembly.specs.Base.{someBelow, allBelow, table, within}
-use Rattle.reassembly.specs.Slots.{Note, noMark, noNote, noted, noteOf, older, olderRow, first, bears, isFree}
+use Rattle.reassembly.specs.Slots.{Note, noMark, older, olderRow, first, bears, isFree}
 use Rattle.reassembly.specs.Take.{Seg, Rejection, Empty, FrameLength, PastEnd, OtherLength, AlreadyReceived, NoSlot, rejectionCode, chosen, complete, overlaps, frameIn, takeSegment}
 use Rattle.reassembly.specs.Store.{isOn, bitAt, setBit, setBits, slotStart, mapStart, clearAt, putAt, receivedAt, byteAt, bytesOf}
 use Rattle.reassembly.specs.Receive.{Place, nowhere, Answers, Answer, Verdict, good, bad, Seen, stranger, segment, Event, receive, tick}
-use Rattle.reassembly.specs.Laws.Runs.{State, answers}
+use Rattle.reassembly.specs.Laws.Runs.{answers}
 use Rattle.reassembly.specs.Laws.NonInterference.{start, ghostStart}
 use Rattle.reassembly.specs.Laws.Ghost.{ghost}
-use Rattle.reassembly.specs.Mix.{Part, Frame, partOf, states, noteTo, frameNote, frameOf, Cut, Item, given, other, Mixing}
+use Rattle.reassembly.specs.Mix.{Part, Frame, partOf, states, frameOf, Cut, Item, given, other, Mixing}
 use Rattle.reassembly.specs.Laws.MixTest.{mixing}
-use Rattle.reassembly.specs.SetUp.{Layers, peerOf, Kept, Promised, Endpoint, World, setUp}
+use Rattle.reassembly.specs.SetUp.{Layers, peerOf, Kept, Promised, Endpoint, setUp}
 use Rattle.reassembly.specs.Claim.{deliveries, Claim}
 use Rattle.reassembly.specs.Laws.Claim.{claim}
 
@@ -182,5 +182,6 @@ cuts (suc zero) l = cut-b
 cuts (suc (suc f)) l = absurd (omega arith)
 
 -- each of the two is delivered once, over every memory that is large enough
-possible : (m : List ℕ) → 55296 ≤ length m → (f : ℕ) → f < 2 → deliveries toyAnswers (Unit {0}) toyLayers two f (record { ends = toySetUp; mem = m }) mixture ≡ 1
+possible : (m : List ℕ) → 55296 ≤ length m → (f : ℕ) → f < 2
+    → deliveries toyAnswers (Unit {0}) toyLayers two f (record { ends = toySetUp; mem = m }) mixture ≡ 1
 possible m o f l = toy-claim 2 (omega arith) .once two cuts mixture is-mixing m o f l

@@ -1,19 +1,20 @@
 -- The reader of IPv4 is sound and complete for the format.
 -- Assumes nothing.
-use Prim.Native.Nat.{ℕ, zero, suc, _+_, _-_, _*_, _/_, _%_, _^_, _<_, _≤_}
-use mathlib.Core.Path.{_≡_, refl, sym, ap, ap₂, subst, _∙_}
-use mathlib.Core.Bool.{Bool, true, false, not}
+use Prim.Native.Nat.{ℕ, _+_, _-_, _*_, _/_, _%_, _^_, _≤_}
+use mathlib.Core.Path.{_≡_, refl, sym, ap, subst, _∙_}
+use mathlib.Core.Bool.{false}
 use mathlib.Core.List.{List, [], _∷_, _++_}
 use native.Mathlib.Omega.{arith}
 use lib.ListN.{length, take, drop, length-append}
 use lib.Dec.{ltb}
 use lib.Seq.{take-at, take-take}
 use borrow.Author.Tests.{le-ltb, ltb-false}
-use Rattle.wire.specs.Bytes.{Bytes, be, beAt, part, _then_, fields, widths}
+use Rattle.wire.specs.Bytes.{Bytes, be, beAt, part}
 use Rattle.wire.specs.Laws.Bytes.{as-fields, be-value, be-lt, be-take, part-cut, part-mid, part-length, caseB}
 use Rattle.wire.specs.Sum.{total, ones}
-use Rattle.wire.specs.Checks.{Check, _⇒_, first, Passed, pass, passed, is-not, is-so, tests, passing}
-use Rattle.wire.specs.Ipv4.{Header, header, Fits, versionAt, wordsAt, headerAt, ipv4At, IsIpv4, ipv4Checks, ipv4Of}
+use Rattle.wire.specs.Checks.{first, Passed}
+use Rattle.wire.specs.Laws.Checks.{pass, passed, tests, passing, At, given, decided}
+use Rattle.wire.specs.Ipv4.{Header, header, Fits, versionAt, wordsAt, sizeAt, offsetAt, ipv4At, IsIpv4, ipv4Checks, ipv4Of, ReadsIpv4}
 use Rattle.wire.specs.declared.ipv4.Ipv4.{Ipv4}
 use Rattle.wire.specs.declared.ipv4.Ipv4Read.the-variants as I
 
@@ -44,6 +45,23 @@ reads-back f w rest = record {
 }
 
 -- ---- read, then written
+
+-- all the fields of the header at a packet's front
+unfoldable pub headerAt : List ℕ → Header
+headerAt s = record {
+  words = wordsAt s - 5;
+  service = beAt s 1 1;
+  size = sizeAt s;
+  id = beAt s 4 2;
+  flags = beAt s 6 2 / 2 ^ 13;
+  offset = offsetAt s;
+  life = beAt s 8 1;
+  protocol = beAt s 9 1;
+  checksum = beAt s 10 2;
+  source = beAt s 12 4;
+  destination = beAt s 16 4;
+  options = part s 20 (4 * wordsAt s);
+}
 
 -- a list that says version 4 and a header length that fits it begins with that header
 pub as-header : (s : List ℕ) → Bytes s → versionAt s ≡ 4 → 5 ≤ wordsAt s → 4 * wordsAt s ≤ length s
@@ -181,3 +199,23 @@ ipv4-bounds s h eq =
     let p = passed I.Refused (ipv4Checks s) (I.Packet (ipv4At s)) (I.Packet h) (λ r e. let z : _≡_ {A = ℕ} 0 1 = cc in omega arith) eq in
     let e : ipv4At s ≡ h = cc (p .1) in
     rw (← e) (omega (arith, tests), omega (arith, tests))
+
+-- ---- what the code cites: its exit number n, and what it accepts
+
+pub ipv4-exit : (s : List ℕ) (n : ℕ) → At (ipv4Checks s) n → ipv4Of s ≡ given I.Refused (ipv4Checks s) (I.Packet (ipv4At s)) n
+unfolding ipv4Of
+ipv4-exit s n p = decided I.Refused (ipv4Checks s) (I.Packet (ipv4At s)) n p
+
+pub ipv4-accepts : (s : List ℕ) (start end source destination protocol : ℕ) → Passed (ipv4Checks s)
+    → start ≡ 4 * (beAt s 0 1 % 16) → end ≡ beAt s 2 2 → source ≡ beAt s 12 4 → destination ≡ beAt s 16 4 → protocol ≡ beAt s 9 1
+    → I.Packet (record { start = start; end = end; source = source; destination = destination; protocol = protocol }) ≡ ipv4Of s
+unfolding ipv4Of ipv4At
+ipv4-accepts s start end source destination protocol p e1 e2 e3 e4 e5 =
+    rw (e1, e2, e3, e4, e5) (sym (pass I.Refused (ipv4Checks s) (I.Packet (ipv4At s)) p))
+
+pub reads-ipv4 : ReadsIpv4
+reads-ipv4 = record {
+  complete = λ source destination protocol payload s w. complete w;
+  sound = λ s b h e. let a = sound s b h e in (a .is, a .ordered, a .within);
+  ignores-trailing = λ n s t e. ignores-trailing s t n e;
+}

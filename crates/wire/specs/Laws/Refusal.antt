@@ -2,12 +2,11 @@
 -- Assumes nothing.
 use Prim.Native.Nat.{ℕ, _≤_, _%_}
 use mathlib.Core.Path.{_≡_, refl, sym, ap, _∙_}
-use mathlib.Core.Bool.{Bool, true, false, not}
+use mathlib.Core.Bool.{true, false, not}
 use mathlib.Core.List.{List, [], _∷_}
-use native.Mathlib.Omega.{arith}
 use borrow.Author.Tests.{le-ltb}
 use lib.ListN.{length}
-use lib.Dec.{ltb, eqb}
+use lib.Dec.{eqb}
 use Rattle.wire.specs.Bytes.{beAt}
 use Rattle.wire.specs.Checks.{Check, _⇒_, first}
 use Rattle.wire.specs.Refusal.{codeOf}
@@ -26,7 +25,8 @@ Gives n [] = Unit {0}
 Gives n ((test ⇒ r) ∷ checks) = (codeOf r ≡ n) × Gives n checks
 
 -- so does the list. `number` tells a refusal's number, and n for what is accepted
-gives : {A : Type 0} (number : A → ℕ) (refused : Refusal → A) (n : ℕ) (checks : List (Check Refusal)) (accepted : A) → ((r : Refusal) → number (refused r) ≡ codeOf r) → number accepted ≡ n
+gives : {A : Type 0} (number : A → ℕ) (refused : Refusal → A) (n : ℕ) (checks : List (Check Refusal)) (accepted : A)
+    → ((r : Refusal) → number (refused r) ≡ codeOf r) → number accepted ≡ n
     → Gives n checks → number (first refused checks accepted) ≡ n
 gives number refused n [] accepted f a g = a
 gives number refused n ((true ⇒ r) ∷ checks) accepted f a g = rw (f r) (g .0)

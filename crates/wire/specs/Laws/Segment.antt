@@ -1,18 +1,20 @@
 -- The reader of STT segments is sound and complete for the format, and blind to what document 01 ignores.
 -- Assumes nothing.
-use Prim.Native.Nat.{ℕ, zero, suc, _+_, _-_, _*_, _/_, _%_, _^_, _<_, _≤_}
+use Prim.Native.Nat.{ℕ, _+_, _-_, _*_, _/_, _%_, _≤_}
 use mathlib.Core.Path.{_≡_, refl, sym, ap, subst, _∙_}
-use mathlib.Core.List.{List, [], _∷_, _++_, append-assoc}
+use mathlib.Core.List.{List, [], _∷_, _++_}
 use native.Mathlib.Omega.{arith}
 use lib.ListN.{length, drop, length-append}
 use lib.Seq.{drop-at}
-use Rattle.wire.specs.Bytes.{Bytes, be, beAt, part, _then_}
+use Rattle.wire.specs.Bytes.{Bytes, be, beAt, part}
 use Rattle.wire.specs.Laws.Bytes.{as-fields, be-value, be-lt, part-cut, part-length}
 use Rattle.wire.specs.Sum.{total, ones, pseudo}
-use Rattle.wire.specs.Checks.{Passed, pass, passed, tests, passing}
+use Rattle.wire.specs.Checks.{Passed}
+use Rattle.wire.specs.Laws.Checks.{pass, passed, tests, passing, At, given, decided}
 use Rattle.wire.specs.Segment.{Header, header, Fits, IsSegment, wordsAt, segmentChecks, segmentAt, segmentOf}
 use Rattle.wire.specs.declared.segment.Segment.{Segment}
-use Rattle.wire.specs.declared.segment.SegmentRead.the-variants as S
+use Rattle.wire.specs.declared.carriage.Tunnel.{Tunnel}
+use Rattle.wire.specs.declared.carriage.Carried.the-variants as C
 
 pub header-length : (f : Header) → length (header f) ≡ 20 + length (f .options)
 unfolding header be
@@ -39,7 +41,7 @@ reads-back f w rest = record {
 
 pub complete : {source destination port frameLength offset identifier : ℕ} {bytes s : List ℕ} (w : IsSegment source destination port frameLength offset identifier bytes s)
     → let n = length (header (w .f)) in
-    (segmentOf source destination port s ≡ S.Segment (record { start = n; identifier = identifier; «frame_length» = frameLength; offset = offset })) × (drop n s ≡ bytes)
+    (segmentOf source destination port s ≡ C.Segment (record { start = n; identifier = identifier; «frame_length» = frameLength; offset = offset })) × (drop n s ≡ bytes)
 unfolding segmentOf segmentChecks segmentAt
 complete {source} {destination} {port} {frameLength} {offset} {identifier} {bytes} {s} w =
     let h : List ℕ = header (w .f) in
@@ -47,7 +49,7 @@ complete {source} {destination} {port} {frameLength} {offset} {identifier} {byte
     let n : length h ≡ 20 + length (w .f .options) = header-length (w .f) in
     let l : length s ≡ length h + length bytes = ap length (w .whole) ∙ length-append h bytes in
     let skip : 4 * wordsAt s ≡ length h = omega (arith, r .words, w .fits .words, w .fits .reserved, w .fits .options) in (
-      pass S.Refused (segmentChecks source destination port s) _ (omega (arith, passing, r .to, w .port-is, w .checksum, w .short))
+      pass C.Refused (segmentChecks source destination port s) _ (omega (arith, passing, r .to, w .port-is, w .checksum, w .short))
           ∙ rw (skip, r .frame-length, r .offset, r .identifier, w .frame-length-is, w .offset-is, w .identifier-is),
       rw (w .whole) (drop-at h bytes (length h) refl),
     )
@@ -111,11 +113,18 @@ sound-at source destination port s b p =
       within = within;
     }
 
-pub sound : (source destination port : ℕ) (s : List ℕ) → Bytes s → (g : Segment) → segmentOf source destination port s ≡ S.Segment g → Accepted source destination port s g
+pub sound : (source destination port : ℕ) (s : List ℕ) → Bytes s → (g : Segment) → segmentOf source destination port s ≡ C.Segment g → Accepted source destination port s g
 unfolding segmentOf
 sound source destination port s b g eq =
-    let p = passed S.Refused (segmentChecks source destination port s) (S.Segment (segmentAt s)) (S.Segment g) (λ r e. let z : _≡_ {A = ℕ} 0 1 = cc in omega arith) eq in
+    let p = passed C.Refused (segmentChecks source destination port s) (C.Segment (segmentAt s)) (C.Segment g) (λ r e. let z : _≡_ {A = ℕ} 0 1 = cc in omega arith) eq in
     subst (Accepted source destination port s) (cc (p .1)) (sound-at source destination port s b (p .0))
+
+pub no-tunnel : (source destination port : ℕ) (s : List ℕ) (t : Tunnel) → segmentOf source destination port s ≡ C.Tunnel t → ⊥
+unfolding segmentOf
+no-tunnel source destination port s t eq =
+    let p = passed C.Refused (segmentChecks source destination port s) (C.Segment (segmentAt s)) (C.Tunnel t) (λ r e. let z : _≡_ {A = ℕ} 0 1 = cc in omega arith) eq in
+    let e : C.Segment (segmentAt s) ≡ C.Tunnel t = p .1 in
+    let z : _≡_ {A = ℕ} 0 1 = cc in omega arith
 
 -- ---- what is ignored: the answer depends on the length, the port, the data offset, the checksum being right, and the three numbers of the segment;
 -- not on the source port, the reserved bits, the flags, the window, the urgent pointer or the options (but through the checksum, which is over all of them)
@@ -127,9 +136,23 @@ unfolding segmentOf segmentChecks segmentAt
 ignores source destination port s t l p w c e1 e2 e3 = rw (c, l, p, w, e1, e2, e3)
 
 -- where the bytes of what is accepted start, for any list
-pub segment-room : (source destination port : ℕ) (s : List ℕ) (g : Segment) → segmentOf source destination port s ≡ S.Segment g → g .start ≤ length s
+pub segment-room : (source destination port : ℕ) (s : List ℕ) (g : Segment) → segmentOf source destination port s ≡ C.Segment g → g .start ≤ length s
 unfolding segmentOf segmentChecks segmentAt
 segment-room source destination port s g eq =
-    let p = passed S.Refused (segmentChecks source destination port s) (S.Segment (segmentAt s)) (S.Segment g) (λ r e. let z : _≡_ {A = ℕ} 0 1 = cc in omega arith) eq in
+    let p = passed C.Refused (segmentChecks source destination port s) (C.Segment (segmentAt s)) (C.Segment g) (λ r e. let z : _≡_ {A = ℕ} 0 1 = cc in omega arith) eq in
     let e : segmentAt s ≡ g = cc (p .1) in
     rw (← e) (omega (arith, tests))
+
+-- ---- what the code cites: its exit number n, and what it accepts
+
+pub segment-exit : (source destination port : ℕ) (s : List ℕ) (n : ℕ) → At (segmentChecks source destination port s) n
+    → segmentOf source destination port s ≡ given C.Refused (segmentChecks source destination port s) (C.Segment (segmentAt s)) n
+unfolding segmentOf
+segment-exit source destination port s n p = decided C.Refused (segmentChecks source destination port s) (C.Segment (segmentAt s)) n p
+
+pub segment-accepts : (source destination port : ℕ) (s : List ℕ) (start identifier frameLength offset : ℕ) → Passed (segmentChecks source destination port s)
+    → start ≡ 4 * wordsAt s → identifier ≡ beAt s 8 4 → frameLength ≡ beAt s 4 2 → offset ≡ beAt s 6 2
+    → C.Segment (record { start = start; identifier = identifier; «frame_length» = frameLength; offset = offset }) ≡ segmentOf source destination port s
+unfolding segmentOf segmentAt
+segment-accepts source destination port s start identifier frameLength offset p e1 e2 e3 e4 =
+    rw (e1, e2, e3, e4) (sym (pass C.Refused (segmentChecks source destination port s) (C.Segment (segmentAt s)) p))

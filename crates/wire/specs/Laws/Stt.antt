@@ -1,18 +1,17 @@
 -- The reader of STT frames is sound and complete for the format, and blind to what document 01 ignores.
 -- Assumes nothing.
-use Prim.Native.Nat.{ℕ, zero, suc, _+_, _-_, _*_, _/_, _%_, _^_, _<_, _≤_}
-use mathlib.Core.Path.{_≡_, refl, sym, ap, subst, _∙_}
+use Prim.Native.Nat.{ℕ, _+_, _%_, _^_, _<_, _≤_}
+use mathlib.Core.Path.{_≡_, refl, sym, ap, _∙_}
 use mathlib.Core.Logic.{_≢_}
-use mathlib.Core.Bool.{Bool, true, false, not}
-use mathlib.Core.List.{List, [], _∷_, _++_}
+use mathlib.Core.List.{List, [], _∷_}
 use native.Mathlib.Omega.{arith}
 use borrow.Author.Tests.{eqb-false}
 use lib.ListN.{length, drop}
-use lib.Dec.{eqb}
 use Rattle.wire.specs.Bytes.{Bytes, be, beAt, _then_}
 use Rattle.wire.specs.Laws.Bytes.{as-fields, be-value, be-lt}
-use Rattle.wire.specs.Checks.{Passed, pass, passed, tests, passing}
-use Rattle.wire.specs.Stt.{stt, IsStt, sttChecks, sttOf}
+use Rattle.wire.specs.Checks.{Passed}
+use Rattle.wire.specs.Laws.Checks.{pass, passed, tests, passing, At, given, decided}
+use Rattle.wire.specs.Stt.{stt, IsStt, sttChecks, sttOf, ReadsStt}
 use Rattle.wire.specs.declared.stt.SttRead.the-variants as T
 
 record ReadsBack (flags context : ℕ) (frame s : List ℕ) : Type 0 where
@@ -74,7 +73,8 @@ sound s b context eq =
       within = h;
     }
 
--- ---- what is ignored: the answer depends on the length, the version, flags 0x01 and 0x02 and the Context ID alone, not on the other flags, the hints, the tag or the padding
+-- ---- what is ignored: the answer depends on the length, the version, flags 0x01 and 0x02 and the Context ID alone, not on the other flags, the hints, the
+-- tag or the padding
 
 pub ignores : (s t : List ℕ) → length s ≡ length t → beAt s 0 1 ≡ beAt t 0 1 → beAt s 1 1 % 4 ≡ beAt t 1 1 % 4 → beAt s 8 8 ≡ beAt t 8 8 → sttOf s ≡ sttOf t
 unfolding sttOf sttChecks
@@ -86,3 +86,20 @@ unfolding sttOf sttChecks
 stt-room s context eq =
     let p = passed T.Refused (sttChecks s) (T.Header (beAt s 8 8)) (T.Header context) (λ r e. let z : _≡_ {A = ℕ} 0 1 = cc in omega arith) eq in
     omega (arith, tests)
+
+-- ---- what the code cites: its exit number n, and what it accepts
+
+pub stt-exit : (s : List ℕ) (n : ℕ) → At (sttChecks s) n → sttOf s ≡ given T.Refused (sttChecks s) (T.Header (beAt s 8 8)) n
+unfolding sttOf
+stt-exit s n p = decided T.Refused (sttChecks s) (T.Header (beAt s 8 8)) n p
+
+pub stt-accepts : (s : List ℕ) (context : ℕ) → Passed (sttChecks s) → context ≡ beAt s 8 8 → T.Header context ≡ sttOf s
+unfolding sttOf
+stt-accepts s context p e = rw e (sym (pass T.Refused (sttChecks s) (T.Header (beAt s 8 8)) p))
+
+pub reads-stt : ReadsStt
+reads-stt = record {
+  complete = λ context frame s w. let c = complete w in (c .0, c .1);
+  sound = λ s b context e. let a = sound s b context e in (a .is, a .within);
+  ignores = ignores;
+}

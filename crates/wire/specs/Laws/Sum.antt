@@ -1,11 +1,10 @@
 -- Laws of the ones' complement sum.
 -- Assumes nothing.
-use mathlib.Core.Path.{_≡_, _∙_, sym, refl, ap, ap₂}
+use mathlib.Core.Path.{_≡_, _∙_, sym, refl, ap}
 use mathlib.Core.List.{List, [], _∷_, _++_, append-assoc}
 use Prim.Native.Nat.{ℕ, zero, suc, _+_, _-_, _*_, _/_, _%_, _^_, _<_, _≤_}
 use native.Mathlib.Omega.{arith}
-use native.Mathlib.Nat.{add-mul-mod-self-right, add-comm, add-assoc, zero-add, add-zero}
-use native.Mathlib.Numerals.{add-one}
+use native.Mathlib.Nat.{add-mul-mod-self-right, add-comm, zero-add, add-zero}
 use lib.ListN.{length, getD, drop}
 use lib.Seq.{drop-cons, drop-length}
 use Rattle.wire.specs.Bytes.{Bytes, be, beAt}
@@ -13,7 +12,7 @@ use Rattle.wire.specs.Laws.Bytes.{be-one, be-two, caseB}
 use Rattle.wire.specs.Checks.{pick}
 use borrow.Author.Tests.{ltb-true, ltb-false}
 use lib.Dec.{ltb}
-use Rattle.wire.specs.Sum.{total, ones, pseudo}
+use Rattle.wire.specs.Sum.{total, ones, pseudo, complement}
 
 -- ---- folding
 
@@ -171,10 +170,6 @@ total-field a c b even h =
     let p : total (a ++ (be 2 c ++ b)) ≡ total a + total (be 2 c ++ b) = total-append a (be 2 c ++ b) even in
     let q : total (a ++ (be 2 0 ++ b)) ≡ total a + total (be 2 0 ++ b) = total-append a (be 2 0 ++ b) even in
     omega (arith, total-be2 c b h, total-be2 0 b (omega arith))
-
--- what a writer puts into a field of zeroes, to make the sum all ones
-unfoldable pub complement : List ℕ → ℕ
-complement s = 65535 - ones (total s)
 
 pub complement-fits : (s : List ℕ) → complement s < 256 ^ 2
 unfolding complement

@@ -9,30 +9,24 @@ use native.Mathlib.Omega.{arith}
 use lib.ListN.{length, drop, length-drop}
 use lib.Dec.{ltb, eqb}
 use borrow.Author.Tests.{ltb-false, eqb-true, eqb-false, eq-eqb, le-ltb, ne-eqb}
-use Rattle.wire.specs.Checks.{pick, Check, _⇒_, first, Passed, tests}
+use Rattle.wire.specs.Checks.{pick, Check, _⇒_, first, Passed}
+use Rattle.wire.specs.Laws.Checks.{tests}
 use Rattle.wire.specs.Bytes.{Bytes, beAt}
 use Rattle.wire.specs.Laws.Bytes.{caseB, be-lt, be-split, be-drop}
 use Rattle.wire.specs.Sum.{total, ones, pseudo}
 use Rattle.wire.specs.Refusal.{codeOf}
 use Rattle.wire.specs.Ipv4.{ipv4Checks, ipv4At, ipv4Of}
 use Rattle.wire.specs.Udp.{udpSum, udpChecks, udpOf}
-use Rattle.wire.specs.Vxlan.{vniAt, vxlanChecks, vxlanOf}
-use Rattle.wire.specs.Nvgre.{nvgreChecks, nvgreOf}
+use Rattle.wire.specs.Vxlan.{vxlanChecks, vxlanAt, vxlanOf}
+use Rattle.wire.specs.Nvgre.{nvgreChecks, nvgreAt, nvgreOf}
 use Rattle.wire.specs.Segment.{segmentChecks, segmentAt, segmentOf}
 use Rattle.wire.specs.Stt.{sttChecks, sttOf}
 use Rattle.wire.specs.Frame.{frameChecks, frameOf}
-use Rattle.wire.specs.Carriage.{vxlan?, vxlanIn, udp?, vxlanUdpOf, nvgre?, nvgreIpOf, segment?, sttIpOf, carriageOf}
+use Rattle.wire.specs.Carriage.{carriageOf}
+use Rattle.wire.specs.declared.carriage.Carried.the-variants as C
 use Rattle.wire.specs.declared.ipv4.Ipv4.{Ipv4}
 use Rattle.wire.specs.declared.ipv4.Ipv4Read.the-variants as I
-use Rattle.wire.specs.declared.udp.UdpRead.{UdpRead}
-use Rattle.wire.specs.declared.udp.UdpRead.the-variants as U
-use Rattle.wire.specs.declared.vxlan.VxlanRead.{VxlanRead}
-use Rattle.wire.specs.declared.vxlan.VxlanRead.the-variants as X
-use Rattle.wire.specs.declared.nvgre.NvgreRead.{NvgreRead}
-use Rattle.wire.specs.declared.nvgre.NvgreRead.the-variants as G
 use Rattle.wire.specs.declared.segment.Segment.{Segment}
-use Rattle.wire.specs.declared.segment.SegmentRead.{SegmentRead}
-use Rattle.wire.specs.declared.segment.SegmentRead.the-variants as E
 use Rattle.wire.specs.declared.stt.SttRead.the-variants as H
 use Rattle.wire.specs.declared.frame.FrameRead.the-variants as F
 use Rattle.wire.specs.declared.carriage.Tunnel.{Tunnel}
@@ -132,21 +126,21 @@ gre-row s w l x =
 
 module _ (f : Tunnel → ℕ) (g : Segment → ℕ) (protocol source destination port : ℕ) (s : List ℕ) where
   -- what is made of the answer of each reader
-  vxlan-read : (t : List ℕ) → carriedNumber f g (vxlanIn t) ≡ first codeOf (vxlanChecks t) (f (record { start = 16; network = vniAt t; kind = 1 }))
-  unfolding vxlanIn vxlanOf
-  vxlan-read t = pull (λ (x : VxlanRead). carriedNumber f g (vxlan? x)) X.Refused (vxlanChecks t) (X.Header (vniAt t))
+  vxlan-read : (t : List ℕ) → carriedNumber f g (vxlanOf t) ≡ first codeOf (vxlanChecks t) (f (record { start = 16; network = beAt t 4 3; kind = 1 }))
+  unfolding vxlanOf vxlanAt
+  vxlan-read t = pull (carriedNumber f g) C.Refused (vxlanChecks t) (C.Tunnel (vxlanAt t))
 
-  udp-read : carriedNumber f g (vxlanUdpOf source destination s) ≡ first codeOf (udpChecks source destination s) (carriedNumber f g (vxlanIn (drop 8 s)))
-  unfolding vxlanUdpOf udpOf
-  udp-read = pull (λ (x : UdpRead). carriedNumber f g (udp? x (vxlanIn (drop 8 s)))) U.Refused (udpChecks source destination s) (U.Datagram (beAt s 2 2))
+  udp-read : carriedNumber f g (udpOf source destination s) ≡ first codeOf (udpChecks source destination s) (carriedNumber f g (vxlanOf (drop 8 s)))
+  unfolding udpOf
+  udp-read = pull (carriedNumber f g) C.Refused (udpChecks source destination s) (vxlanOf (drop 8 s))
 
-  nvgre-read : carriedNumber f g (nvgreIpOf s) ≡ first codeOf (nvgreChecks s) (f (record { start = 8; network = beAt s 4 3; kind = 2 }))
-  unfolding nvgreIpOf nvgreOf
-  nvgre-read = pull (λ (x : NvgreRead). carriedNumber f g (nvgre? x)) G.Refused (nvgreChecks s) (G.Header (beAt s 4 3))
+  nvgre-read : carriedNumber f g (nvgreOf s) ≡ first codeOf (nvgreChecks s) (f (record { start = 8; network = beAt s 4 3; kind = 2 }))
+  unfolding nvgreOf nvgreAt
+  nvgre-read = pull (carriedNumber f g) C.Refused (nvgreChecks s) (C.Tunnel (nvgreAt s))
 
-  segment-read : carriedNumber f g (sttIpOf source destination port s) ≡ first codeOf (segmentChecks source destination port s) (g (segmentAt s))
-  unfolding sttIpOf segmentOf
-  segment-read = pull (λ (x : SegmentRead). carriedNumber f g (segment? x)) E.Refused (segmentChecks source destination port s) (E.Segment (segmentAt s))
+  segment-read : carriedNumber f g (segmentOf source destination port s) ≡ first codeOf (segmentChecks source destination port s) (g (segmentAt s))
+  unfolding segmentOf
+  segment-read = pull (carriedNumber f g) C.Refused (segmentChecks source destination port s) (C.Segment (segmentAt s))
 
   abbrev rows : Rows
   rows = payloadRows protocol source destination port s
@@ -181,17 +175,17 @@ module _ (f : Tunnel → ℕ) (g : Segment → ℕ) (protocol source destination
   abbrev nvgreNext : ℕ
   nvgreNext = nvgreRows s otherwise f (record { start = 8; network = beAt s 4 3; kind = 2 })
 
-  by-vxlan : protocol ≡ 17 → carriedNumber f g (vxlanUdpOf source destination s) ≡ (rows otherwise vxlanNext)
+  by-vxlan : protocol ≡ 17 → carriedNumber f g (udpOf source destination s) ≡ (rows otherwise vxlanNext)
   unfolding udpChecks
   by-vxlan q =
       udp-read
-      ∙ under codeOf (udpChecks source destination s) (carriedNumber f g (vxlanIn (drop 8 s))) vxlanNext (λ p.
+      ∙ under codeOf (udpChecks source destination s) (carriedNumber f g (vxlanOf (drop 8 s))) vxlanNext (λ p.
       vxlan-read (drop 8 s)
       ∙ flag-row s (omega (arith, tests, p .1 .1 .1 .0)) _
       ∙ ap (λ (n : ℕ). vxlanRows s otherwise f (record { start = 16; network = n; kind = 1 })) (be-drop s 8 4 3))
       ∙ udp-rows q vxlanNext
 
-  by-nvgre : Bytes s → protocol ≡ 47 → carriedNumber f g (nvgreIpOf s) ≡ (rows otherwise nvgreNext)
+  by-nvgre : Bytes s → protocol ≡ 47 → carriedNumber f g (nvgreOf s) ≡ (rows otherwise nvgreNext)
   unfolding nvgreChecks
   by-nvgre w q = nvgre-read ∙ short-first ∙ nvgre-rows q nvgreNext
     where
@@ -201,7 +195,7 @@ module _ (f : Tunnel → ℕ) (g : Segment → ℕ) (protocol source destination
           (λ b. rw b)
           (λ b. gre-row s w (ltb-false (length s) 8 b) _ ∙ sym (rw b))
 
-  by-segment : length s ≤ 65535 → protocol ≡ 6 → carriedNumber f g (sttIpOf source destination port s) ≡ (rows otherwise g (segmentAt s))
+  by-segment : length s ≤ 65535 → protocol ≡ 6 → carriedNumber f g (segmentOf source destination port s) ≡ (rows otherwise g (segmentAt s))
   by-segment l q = segment-read ∙ segment-rows q l (g (segmentAt s))
 
   payload-number : Bytes s → length s ≤ 65535

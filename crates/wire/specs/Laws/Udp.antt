@@ -1,21 +1,23 @@
 -- Laws of UDP.
 -- Assumes nothing.
-use Prim.Native.Nat.{ℕ, zero, suc, _+_, _-_, _*_, _/_, _%_, _^_, _<_, _≤_}
-use mathlib.Core.Path.{_≡_, refl, sym, ap, subst, _∙_}
+use Prim.Native.Nat.{ℕ, _+_, _-_, _^_, _<_, _≤_}
+use mathlib.Core.Path.{_≡_, refl, sym, ap, _∙_}
 use mathlib.Core.Logic.{_⊎_, inl, inr, ⊎-elim}
-use mathlib.Core.Bool.{Bool, true, false, not}
 use mathlib.Core.List.{List, [], _∷_, _++_}
 use native.Mathlib.Omega.{arith}
-use borrow.Author.Tests.{eqb-true, eqb-false, eq-eqb, ne-eqb}
-use lib.ListN.{length, drop, length-append, length-drop}
+use borrow.Author.Tests.{eqb-true, eq-eqb, ne-eqb}
+use lib.ListN.{length, drop, length-drop}
 use lib.Dec.{eqb}
-use Rattle.wire.specs.Bytes.{Bytes, be, beAt, _then_}
+use Rattle.wire.specs.Bytes.{Bytes, be, beAt}
 use Rattle.wire.specs.Laws.Bytes.{as-fields, be-value, be-lt, caseB}
 use Rattle.wire.specs.Sum.{total, ones, pseudo}
-use Rattle.wire.specs.Laws.Sum.{total-append, total-be2, total-be4}
-use Rattle.wire.specs.Checks.{pick, Passed, pass, passed, tests, passing}
+use Rattle.wire.specs.Checks.{Passed}
+use Rattle.wire.specs.Laws.Checks.{pass, passed, tests, passing, At, given, decided}
 use Rattle.wire.specs.Udp.{udp, IsUdp, udpSum, udpChecks, udpOf}
-use Rattle.wire.specs.declared.udp.UdpRead.the-variants as U
+use Rattle.wire.specs.Vxlan.{vxlanOf}
+use Rattle.wire.specs.declared.refusal.Refusal.{Refusal}
+use Rattle.wire.specs.declared.carriage.Carried.{Carried}
+use Rattle.wire.specs.declared.carriage.Carried.the-variants as C
 
 -- ---- written, then read
 
@@ -84,46 +86,56 @@ as-udp source destination port s b h p n e =
       checksum-fits = be-lt s b 6 2;
     }
 
--- ---- complete: a datagram to the tunnel's port, with room for a tunnel header, is read as one
+-- ---- complete: of a datagram to VXLAN's port, with room for its header, what VXLAN's reader says of the payload is what is read
 
 pub complete : {source destination : ℕ} {payload s : List ℕ} → IsUdp source destination 4789 payload s → 8 ≤ length payload
-    → (udpOf source destination s ≡ U.Datagram 4789) × (drop 8 s ≡ payload) × (length s ≡ 8 + length payload)
+    → (udpOf source destination s ≡ vxlanOf payload) × (drop 8 s ≡ payload) × (length s ≡ 8 + length payload)
 unfolding udpOf udpChecks
 complete {source} {destination} {payload} {s} u h =
     let size : length s ≡ 8 + length payload = ap length (u .whole) ∙ udp-length (u .from) 4789 (8 + length payload) (u .checksum) payload in
     let a : ReadsBack (u .from) 4789 (8 + length payload) (u .checksum) s =
     rw (u .whole) (reads-back (u .from) 4789 (8 + length payload) (u .checksum) payload (u .port-fits) (u .size-fits) (u .checksum-fits)) in
-    let sum : udpSum source destination s ≡ 65535 = judged source destination s (⊎-elim (λ z. inl (a .checksum-is ∙ z)) inr (u .right)) in (
-      pass U.Refused (udpChecks source destination s) _ (omega (arith, passing, a .port, a .length-is)) ∙ rw (a .port),
-      rw (u .whole) (udp-payload (u .from) 4789 (8 + length payload) (u .checksum) payload),
+    let sum : udpSum source destination s ≡ 65535 = judged source destination s (⊎-elim (λ z. inl (a .checksum-is ∙ z)) inr (u .right)) in
+    let behind : drop 8 s ≡ payload = rw (u .whole) (udp-payload (u .from) 4789 (8 + length payload) (u .checksum) payload) in (
+      pass C.Refused (udpChecks source destination s) (vxlanOf (drop 8 s)) (omega (arith, passing, a .port, a .length-is)) ∙ ap vxlanOf behind,
+      behind,
       size,
     )
 
--- ---- sound: what is read as a datagram is one
+-- ---- sound: what is not refused is a datagram, and its payload was read
 
-pub record Accepted (source destination : ℕ) (s : List ℕ) (port : ℕ) : Type 0 where
-  pub port-is : port ≡ 4789
-  pub is : IsUdp source destination port (drop 8 s) s
+pub record Accepted (source destination : ℕ) (s : List ℕ) : Type 0 where
+  pub is : IsUdp source destination 4789 (drop 8 s) s
   pub room : 16 ≤ length s
 
-sound-at : (source destination : ℕ) (s : List ℕ) → Bytes s → Passed (udpChecks source destination s) → Accepted source destination s (beAt s 2 2)
+sound-at : (source destination : ℕ) (s : List ℕ) → Bytes s → Passed (udpChecks source destination s) → Accepted source destination s
 unfolding udpChecks
 sound-at source destination s b p =
     record {
-      port-is = omega (arith, tests);
-      is = as-udp source destination (beAt s 2 2) s b (omega (arith, tests)) refl (omega (arith, tests)) (omega (arith, tests));
+      is = as-udp source destination 4789 s b (omega (arith, tests)) (omega (arith, tests)) (omega (arith, tests)) (omega (arith, tests));
       room = omega (arith, tests);
     }
 
-pub sound : (source destination : ℕ) (s : List ℕ) → Bytes s → (port : ℕ) → udpOf source destination s ≡ U.Datagram port → Accepted source destination s port
-unfolding udpOf
-sound source destination s b port eq =
-    let p = passed U.Refused (udpChecks source destination s) (U.Datagram (beAt s 2 2)) (U.Datagram port) (λ r e. let z : _≡_ {A = ℕ} 0 1 = cc in omega arith) eq in
-    subst (Accepted source destination s) (cc (p .1)) (sound-at source destination s b (p .0))
+module _ (source destination : ℕ) (s : List ℕ) (x : Carried) (good : (r : Refusal) → C.Refused r ≡ x → ⊥) (eq : udpOf source destination s ≡ x) where
+  opened : Passed (udpChecks source destination s) × (vxlanOf (drop 8 s) ≡ x)
+  unfolding udpOf
+  opened = passed C.Refused (udpChecks source destination s) (vxlanOf (drop 8 s)) x good eq
 
--- what is read as a datagram has room for a tunnel header
-pub udp-room : (source destination : ℕ) (s : List ℕ) (port : ℕ) → udpOf source destination s ≡ U.Datagram port → 16 ≤ length s
-unfolding udpOf udpChecks
-udp-room source destination s port eq =
-    let p = passed U.Refused (udpChecks source destination s) (U.Datagram (beAt s 2 2)) (U.Datagram port) (λ r e. let z : _≡_ {A = ℕ} 0 1 = cc in omega arith) eq in
-    omega (arith, tests)
+  pub sound : Bytes s → Accepted source destination s × (vxlanOf (drop 8 s) ≡ x)
+  sound b = (sound-at source destination s b (opened .0), opened .1)
+
+  -- the same of any list
+  pub udp-room : (16 ≤ length s) × (vxlanOf (drop 8 s) ≡ x)
+  unfolding udpChecks
+  udp-room = let p = opened in (omega (arith, tests), p .1)
+
+-- ---- what the code cites: its exit number n, and what it accepts
+
+pub udp-exit : (source destination : ℕ) (s : List ℕ) (n : ℕ) → At (udpChecks source destination s) n
+    → udpOf source destination s ≡ given C.Refused (udpChecks source destination s) (vxlanOf (drop 8 s)) n
+unfolding udpOf
+udp-exit source destination s n p = decided C.Refused (udpChecks source destination s) (vxlanOf (drop 8 s)) n p
+
+pub udp-accepts : (source destination : ℕ) (s : List ℕ) → Passed (udpChecks source destination s) → vxlanOf (drop 8 s) ≡ udpOf source destination s
+unfolding udpOf
+udp-accepts source destination s p = sym (pass C.Refused (udpChecks source destination s) (vxlanOf (drop 8 s)) p)

@@ -9,11 +9,11 @@ use mathlib.Core.List.{List, [], _++_, append-assoc}
 use native.Mathlib.Omega.{arith}
 use lib.ListN.{length, take, drop, length-append, length-drop}
 use lib.Seq.{length-take-le, take-at, drop-at, drop-drop}
-use Rattle.wire.specs.Bytes.{be, beAt, part, laid, _then_}
-use Rattle.wire.specs.Laws.Bytes.{be-take, wrote, wrote-first, wrote-more, wrote-length, wrote-all, laid-more, part-length, part-append}
-use Rattle.wire.specs.Sum.{total, ones, pseudo}
-use Rattle.wire.specs.Laws.Sum.{complement, complement-fits, sealed, total-first, total-two, total-none, pseudo-total}
-use Rattle.wire.specs.Checks.{pass, passed, At, given, decided, tests, passing}
+use Rattle.wire.specs.Bytes.{be, beAt, part, laid, wrote, _then_}
+use Rattle.wire.specs.Laws.Bytes.{be-take, wrote-first, wrote-more, wrote-length, wrote-all, laid-more, part-length, part-append}
+use Rattle.wire.specs.Sum.{total, ones, pseudo, complement}
+use Rattle.wire.specs.Laws.Sum.{complement-fits, sealed, total-first, total-two, total-none, pseudo-total}
+use Rattle.wire.specs.Laws.Checks.{pass, passed, At, given, decided, tests, passing}
 use Rattle.wire.specs.Ipv4 as I
 use Rattle.wire.specs.Laws.Ipv4 as IL
 use Rattle.wire.specs.Udp.{udp}
@@ -24,7 +24,7 @@ use Rattle.wire.specs.Nvgre.{gre, IsNvgre}
 use Rattle.wire.specs.Stt.{stt, IsStt}
 use Rattle.wire.specs.Segment as S
 use Rattle.wire.specs.Carriage.{IsVxlanUdp, Tunnels}
-use Rattle.wire.specs.Write.{ipv4With, outer, ipv4Head, packet, sourcePort, vxlanBody, nvgreBody, sttFrame, flagsOf, tcp, tcpWith, segmentHeader, segmentBytes, segmentBody, vxlanPacket, nvgrePacket, segmentPacket, fitChecks, fits, segmentFitChecks, segmentFits, Written}
+use Rattle.wire.specs.Write.{ipv4With, outer, ipv4Head, packet, sourcePort, vxlanBody, nvgreBody, sttFrame, flagsOf, tcpWith, segmentHeader, segmentBytes, segmentBody, vxlanPacket, nvgrePacket, segmentPacket, fitChecks, fits, segmentFitChecks, segmentFits, Written}
 
 -- ---- the outer header
 
@@ -311,7 +311,7 @@ pub ipv4-head-from : (protocol size source destination k : ℕ) → k ≡ ones (
 unfolding ipv4Head outer complement ipv4With
 ipv4-head-from protocol size source destination k e = rw e
 
-port-is : (s : List ℕ) → 14 ≤ length s
+pub port-is : (s : List ℕ) → 14 ≤ length s
     → sourcePort s ≡ 49152 + (beAt s 0 2 + beAt s 2 2 + beAt s 4 2 + beAt s 6 2 + beAt s 8 2 + beAt s 10 2 + beAt s 12 2) % 16384
 unfolding sourcePort
 port-is s h =

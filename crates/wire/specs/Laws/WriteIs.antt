@@ -9,13 +9,13 @@ use borrow.Author.Tests.{ltb-true, ltb-false}
 use lib.ListN.{length, getD, take, drop, length-drop, List·getD-append}
 use lib.Dec.{ltb}
 use lib.Seq.{take-all, take-at, take-add, drop-drop, getD-append-add}
-use Rattle.wire.specs.Bytes.{Bytes, be, part}
-use Rattle.wire.specs.Laws.Bytes.{caseB, wrote}
+use Rattle.wire.specs.Bytes.{Bytes, be, part, wrote}
+use Rattle.wire.specs.Laws.Bytes.{caseB}
 use Rattle.wire.specs.Ipv4 as I
 use Rattle.wire.specs.Udp.{udp}
 use Rattle.wire.specs.Vxlan.{vxlan}
 use Rattle.wire.specs.Nvgre.{gre}
-use Rattle.wire.specs.Write.{outer, ipv4Head, packet, vxlanBody, nvgreBody, sttFrame, segmentBytes, vxlanPacket, nvgrePacket}
+use Rattle.wire.specs.Write.{outer, ipv4Head, packet, vxlanBody, nvgreBody, vxlanPacket, nvgrePacket}
 
 -- ---- parts
 

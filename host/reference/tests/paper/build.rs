@@ -157,15 +157,15 @@ impl Bed {
     /// Two peers; each has VNI 22 (binding 0, 3), VSID 4,096 (1, 4) and the
     /// Context ID above (2, 5), tenants 101 to 103 and 201 to 203.
     pub fn new() -> Bed {
-        let (mut endpoint, code) = Endpoint::start(OWN, PORT, 1500);
+        let (mut endpoint, code) = Endpoint::start(OWN, PORT.into(), 1500);
         assert_eq!(code, 0);
         for (peer, address) in [PEER, PEER_2].into_iter().enumerate() {
             let number = endpoint.add_peer(address).number;
             assert_eq!(number, Some(peer as u16));
-            let tenant = 100 * (peer as u16 + 1);
-            endpoint.add_binding(peer as u16, 1, 22, tenant + 1);
-            endpoint.add_binding(peer as u16, 2, 4096, tenant + 2);
-            endpoint.add_binding(peer as u16, 3, CONTEXT, tenant + 3);
+            let (peer, tenant) = (peer as u32, 100 * (peer as u32 + 1));
+            endpoint.add_binding(peer, 1, 22, tenant + 1);
+            endpoint.add_binding(peer, 2, 4096, tenant + 2);
+            endpoint.add_binding(peer, 3, CONTEXT, tenant + 3);
         }
         // First contents of any kind; ones are the worst a map can have.
         let memory = vec![0xFF; ENOUGH];

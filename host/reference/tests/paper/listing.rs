@@ -14,12 +14,12 @@ fn refused(code: u8) -> Added {
     Added { code, number: None }
 }
 
-fn start(own: u32, port: u16, mtu: u16) -> u8 {
+fn start(own: u32, port: u32, mtu: u32) -> u8 {
     let (endpoint, code) = Endpoint::start(own, port, mtu);
     let config = Config {
         own,
-        stt_port: port,
-        mtu,
+        stt_port: port as u16,
+        mtu: mtu as u16,
     };
     let expected = if code == 0 { config } else { Config::default() };
     assert_eq!(endpoint.config(), expected);
@@ -41,6 +41,13 @@ fn settings_have_ranges() {
         (18, OWN, 1, 1601),
         (18, OWN, 1, 0),
         (18, OWN, 1, 65_535),
+        // Numbers whose low 16 bits are in range.
+        (18, OWN, 65_536, 576),
+        (18, OWN, 65_537, 576),
+        (18, OWN, 1, 65_536 + 576),
+        (18, OWN, 1, 66_000),
+        (18, OWN, u32::MAX, 576),
+        (18, OWN, 1, u32::MAX),
     ];
     for (code, own, port, mtu) in settings {
         assert_eq!(start(own, port, mtu), code, "{own:x} {port} {mtu}");
@@ -49,7 +56,7 @@ fn settings_have_ranges() {
 
 #[test]
 fn peers_are_numbered_and_refused() {
-    let (mut endpoint, _) = Endpoint::start(OWN, PORT, 1500);
+    let (mut endpoint, _) = Endpoint::start(OWN, PORT.into(), 1500);
     for address in [OWN, 0, 0x00FF_FFFF, 0xE000_0000, 0xFFFF_FFFF] {
         assert_eq!(endpoint.add_peer(address), refused(18));
     }
@@ -70,13 +77,18 @@ fn peers_are_numbered_and_refused() {
 
 #[test]
 fn bindings_have_ranges() {
-    let (mut endpoint, _) = Endpoint::start(OWN, PORT, 1500);
+    let (mut endpoint, _) = Endpoint::start(OWN, PORT.into(), 1500);
     assert_eq!(endpoint.add_binding(0, 1, 22, 1), refused(18));
     endpoint.add_peer(PEER);
     let tries = [
         (18, 1, 1, 22),
         (18, 65_535, 1, 22),
         (18, 256, 1, 22),
+        (18, 65_536, 1, 22),
+        (18, u32::MAX, 1, 22),
+        (18, 0, 257, 22),
+        (18, 0, 65_537, 22),
+        (18, 0, u32::MAX, 22),
         (18, 0, 0, 4096),
         (18, 0, 4, 4096),
         (18, 0, 129, 4096),
@@ -104,6 +116,18 @@ fn bindings_have_ranges() {
 }
 
 #[test]
+fn tenants_have_16_bits() {
+    let mut bed = Bed::new();
+    let endpoint = &mut bed.endpoint;
+    for tenant in [65_536, 65_537, 1 << 31, u32::MAX] {
+        assert_eq!(endpoint.add_binding(0, 1, 23, tenant), refused(18));
+        // Before 19.
+        assert_eq!(endpoint.add_binding(0, 1, 22, tenant), refused(18));
+    }
+    assert_eq!(endpoint.add_binding(0, 1, 23, 65_535), added(6));
+}
+
+#[test]
 fn bindings_agree_in_peer_kind_and_id() {
     let mut bed = Bed::new();
     let endpoint = &mut bed.endpoint;
@@ -116,7 +140,7 @@ fn bindings_agree_in_peer_kind_and_id() {
 
 #[test]
 fn bindings_fill_up() {
-    let (mut endpoint, _) = Endpoint::start(OWN, PORT, 1500);
+    let (mut endpoint, _) = Endpoint::start(OWN, PORT.into(), 1500);
     endpoint.add_peer(PEER);
     for number in 0..64 {
         assert_eq!(endpoint.add_binding(0, 3, number, 1), added(number as u16));
@@ -132,7 +156,7 @@ fn bindings_fill_up() {
 
 #[test]
 fn a_refused_start_knows_nobody() {
-    for (own, port, mtu) in [(OWN, PORT, 575), (OWN, 0, 1500), (0, PORT, 1500)] {
+    for (own, port, mtu) in [(OWN, 7471, 575), (OWN, 0, 1500), (0, 7471, 1500)] {
         let (endpoint, code) = Endpoint::start(own, port, mtu);
         assert_eq!(code, 18);
         let mut bed = Bed {

@@ -58,7 +58,7 @@ fn slots_lie_where_the_paper_says() {
     for number in 0..6 {
         let peer = bed.endpoint.add_peer(PEER_2 + 1 + number);
         bed.endpoint
-            .add_binding(peer.number.unwrap(), 3, CONTEXT, number as u16);
+            .add_binding(peer.number.unwrap().into(), 3, CONTEXT, number);
     }
     let mut model = Model {
         memory: bed.memory.clone(),
@@ -120,7 +120,7 @@ fn a_tick_touches_no_memory_and_a_taken_slot_is_cleared() {
     assert_eq!(bed.memory[..100], frame[..100]);
 }
 
-/// The map in the memory says what is held, whoever wrote it: demand 1 has
+/// The map in the memory says what was received, whoever wrote it: demand 1 has
 /// memory of any contents at any call.
 #[test]
 fn the_map_alone_says_what_is_held() {

@@ -1,6 +1,6 @@
 //! Handing back: places that fit and places that do not.
 
-use niulassenc_reference::{view, Place};
+use niulassenc_reference::{cut, view, Place};
 
 fn place(in_memory: bool, start: usize, length: usize) -> Place {
     Place {
@@ -58,6 +58,33 @@ fn a_misfit_is_the_empty_part_at_the_packets_start() {
             "{in_memory} {start} {length}"
         );
     }
+}
+
+/// The cut is the view told by lengths alone, so it goes beyond what fits into a
+/// machine.
+#[test]
+fn a_cut_is_where_the_view_lies() {
+    let (packet, memory) = ([1, 2, 3, 4, 5], [9, 8, 7]);
+    for in_memory in [false, true] {
+        for start in 0..8 {
+            for length in 0..8 {
+                let place = place(in_memory, start, length);
+                let part = cut(packet.len(), memory.len(), place);
+                let got = view(&packet, &memory, place);
+                let slice: &[u8] = if part.in_memory { &memory } else { &packet };
+                assert_eq!(got, &slice[part.start..part.start + part.length]);
+                assert_eq!(got.as_ptr(), slice[part.start..].as_ptr());
+            }
+        }
+    }
+    let most = usize::MAX;
+    let all = place(true, 0, most);
+    assert_eq!(cut(0, most, all), all);
+    assert_eq!(cut(0, most - 1, all), Place::EMPTY);
+    let last = place(false, most, 0);
+    assert_eq!(cut(most, 0, last), last);
+    assert_eq!(cut(most, 0, place(false, most, 1)), Place::EMPTY);
+    assert_eq!(cut(most, most, place(true, most, most)), Place::EMPTY);
 }
 
 #[test]

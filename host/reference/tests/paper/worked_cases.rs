@@ -4,8 +4,8 @@
 use crate::build::*;
 use niulassenc_reference::{Endpoint, Wrapped};
 
-fn wrapping(mtu: u16) -> Endpoint {
-    let (mut endpoint, _) = Endpoint::start(OWN, PORT, mtu);
+fn wrapping(mtu: u32) -> Endpoint {
+    let (mut endpoint, _) = Endpoint::start(OWN, PORT.into(), mtu);
     endpoint.add_peer(PEER);
     endpoint.add_binding(0, 1, 22, 1);
     endpoint.add_binding(0, 2, 4096, 2);
@@ -13,7 +13,7 @@ fn wrapping(mtu: u16) -> Endpoint {
     endpoint
 }
 
-fn written(binding: u16) -> Vec<u8> {
+fn written(binding: u32) -> Vec<u8> {
     let mut output = [0xAA; 100];
     let wrapped = wrapping(1500).wrap(binding, &T, 0, 9, &mut output);
     assert_eq!((wrapped.code, wrapped.segments), (0, 1));

@@ -4,8 +4,8 @@ use crate::build::*;
 use niulassenc_reference::{view, Endpoint, Wrapped};
 
 /// Endpoint at OWN with one peer and one binding of each kind.
-fn writer(mtu: u16) -> Endpoint {
-    let (mut endpoint, code) = Endpoint::start(OWN, PORT, mtu);
+fn writer(mtu: u32) -> Endpoint {
+    let (mut endpoint, code) = Endpoint::start(OWN, PORT.into(), mtu);
     assert_eq!(code, 0);
     endpoint.add_peer(PEER);
     endpoint.add_binding(0, 1, 22, 1);
@@ -14,7 +14,7 @@ fn writer(mtu: u16) -> Endpoint {
     endpoint
 }
 
-fn refuses(code: u8, endpoint: &Endpoint, call: (u16, u32), frame: &[u8], room: usize) {
+fn refuses(code: u8, endpoint: &Endpoint, call: (u32, u32), frame: &[u8], room: usize) {
     let mut output = vec![0xAA; room];
     let wrapped = endpoint.wrap(call.0, frame, call.1, 5, &mut output);
     let expected = Wrapped {
@@ -27,13 +27,23 @@ fn refuses(code: u8, endpoint: &Endpoint, call: (u16, u32), frame: &[u8], room: 
 }
 
 /// The packet written into an output of `room` bytes, the rest untouched.
-fn writes(endpoint: &Endpoint, call: (u16, u32), frame: &[u8], room: usize) -> (Vec<u8>, u32) {
+fn writes(endpoint: &Endpoint, call: (u32, u32), frame: &[u8], room: usize) -> (Vec<u8>, u32) {
     let mut output = vec![0xAA; room];
     let wrapped = endpoint.wrap(call.0, frame, call.1, 5, &mut output);
     assert_eq!(wrapped.code, 0, "{call:?}, {} bytes", frame.len());
     assert!(output[wrapped.length..].iter().all(|&byte| byte == 0xAA));
     output.truncate(wrapped.length);
     (output, wrapped.segments)
+}
+
+#[test]
+fn bindings_are_asked_for_by_their_whole_number() {
+    let endpoint = writer(1500);
+    for binding in [3, 65_536, 65_537, 1 << 31, u32::MAX] {
+        refuses(23, &endpoint, (binding, 0), &T, 100);
+        // Before 13.
+        refuses(23, &endpoint, (binding, 0), &[], 100);
+    }
 }
 
 #[test]
@@ -52,7 +62,7 @@ fn an_stt_packet_whole() {
 /// identifier what is left of the segment's 0xe926.
 #[test]
 fn checksums_of_0_are_written_as_0() {
-    let (mut endpoint, _) = Endpoint::start(OWN, PORT, 1500);
+    let (mut endpoint, _) = Endpoint::start(OWN, PORT.into(), 1500);
     endpoint.add_peer(0x0A00_26B0);
     endpoint.add_binding(0, 3, CONTEXT, 3);
     let mut output = [0xAA; 72];
@@ -64,7 +74,7 @@ fn checksums_of_0_are_written_as_0() {
 
 #[test]
 fn three_stt_segments() {
-    let (mut endpoint, _) = Endpoint::start(OWN, PORT, 576);
+    let (mut endpoint, _) = Endpoint::start(OWN, PORT.into(), 576);
     endpoint.add_peer(PEER);
     endpoint.add_binding(0, 3, CONTEXT, 3);
     let frame = inner(1514);
@@ -135,7 +145,7 @@ fn answer_13_frames() {
 fn answer_22_the_mtu() {
     for mtu in [576, 1500] {
         let endpoint = writer(mtu);
-        let mtu = usize::from(mtu);
+        let mtu = mtu as usize;
         for (binding, headers) in [(0, 36), (1, 28)] {
             let (packet, count) = writes(&endpoint, (binding, 0), &inner(mtu - headers), mtu);
             assert_eq!((packet.len(), count), (mtu, 1));
@@ -196,13 +206,13 @@ fn a_matching_endpoint_unwraps() {
     }
 }
 
-fn unwrap_one(mtu: u16, length: usize, kind: u16, backwards: bool) {
+fn unwrap_one(mtu: u32, length: usize, kind: u32, backwards: bool) {
     let endpoint = writer(mtu);
     let frame = inner(length);
     let mut output = [0; 1600];
     let first = endpoint.wrap(kind, &frame, 0, u32::MAX, &mut output);
     if first.code == 22 {
-        assert!(kind < 2 && length + 28 > usize::from(mtu) - 8);
+        assert!(kind < 2 && length + 28 > mtu as usize - 8);
         return;
     }
     assert_eq!(first.code, 0);
@@ -210,16 +220,16 @@ fn unwrap_one(mtu: u16, length: usize, kind: u16, backwards: bool) {
     for segment in 0..first.segments {
         let wrapped = endpoint.wrap(kind, &frame, segment, u32::MAX, &mut output);
         assert_eq!((wrapped.code, wrapped.segments), (0, first.segments));
-        assert!(wrapped.length <= usize::from(mtu));
+        assert!(wrapped.length <= mtu as usize);
         packets.push(output[..wrapped.length].to_vec());
     }
     if backwards {
         packets.reverse();
     }
-    let (mut matching, _) = Endpoint::start(PEER, PORT, 576);
+    let (mut matching, _) = Endpoint::start(PEER, PORT.into(), 576);
     matching.add_peer(OWN);
-    let id = [22, 4096, CONTEXT][usize::from(kind)];
-    matching.add_binding(0, kind as u8 + 1, id, 77);
+    let id = [22, 4096, CONTEXT][kind as usize];
+    matching.add_binding(0, kind + 1, id, 77);
     let mut memory = vec![0xA5; ENOUGH];
     let last = packets.len() - 1;
     for (number, packet) in packets.iter().enumerate() {

@@ -47,7 +47,7 @@ fn memory_first(r: &mut Recorder, prng: &mut Prng) {
         }
         r.receive(1, &part(length as u32, &[9; 100], 3, 61));
     }
-    // A frame under way outlives a memory too short: 15 tells.
+    // A pending frame outlives a memory too short: 15 tells.
     r.lend(55_295, 5);
     r.receive(2, &part(60_000, &[9; 101], 61, 70));
     r.lend(55_296, 6);

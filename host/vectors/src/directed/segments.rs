@@ -191,7 +191,7 @@ fn slots_full(r: &mut Recorder, prng: &mut Prng) {
     let fifth = good_frame(prng, 32);
     r.receive(17, &part(4, &fifth, 0, 32));
     r.receive(17, &part(4, &fifth, 0, 9));
-    // The other peer, and those under way, go on.
+    // The other peer, and the pending ones, go on.
     let other = Label::new(PORT, 4, 32, 0);
     r.receive(0, &segment(FROM_B, other, &fifth));
     r.receive(0, &vxlan(FROM_A, 22, &T));
@@ -464,7 +464,7 @@ fn context_last(r: &mut Recorder, prng: &mut Prng) {
 }
 
 /// Demand 1 covers memory of any contents at any call: the map in the memory
-/// says what is held, whoever wrote it. The paper gives no code to expect here
+/// says what was received, whoever wrote it. The paper gives no code to expect here
 /// without working out the new contents, so these are recorded only.
 fn changed_memory(r: &mut Recorder, prng: &mut Prng) {
     for length in [33, 37, 40, 40, 41, 47] {

@@ -6,7 +6,8 @@ use native.Mathlib.Omega.{arith}
 use borrow.Author.Needs.{needs}
 use lib.ListN.{take}
 use mathlib.Core.List.{List}
-use Rattle.wire.specs.Checks.{Check, Passed, deciding}
+use Rattle.wire.specs.Checks.{Check, Passed}
+use Rattle.wire.specs.Laws.Checks.{deciding}
 use Rattle.endpoint.specs.Config.{configOf, findBinding, isSome, isNetwork, addBindingChecks, withBinding}
 use Rattle.endpoint.specs.Laws.ConfigExits.{behind, bindingsOf, list-binding-exit, isFound, binding-found, network-kind}
 use Rattle.endpoint.specs.declared.answer.ConfigRefusal.{ConfigRefusal}

@@ -5,7 +5,8 @@ use mathlib.Core.Bool.{true, false}
 use native.Mathlib.Omega.{arith}
 use borrow.Author.Needs.{needs}
 use lib.ListN.{take}
-use Rattle.wire.specs.Checks.{Passed, deciding}
+use Rattle.wire.specs.Checks.{Passed}
+use Rattle.wire.specs.Laws.Checks.{deciding}
 use Rattle.endpoint.specs.Config.{configOf, findPeer, isSome, addPeerChecks, withAddress}
 use Rattle.endpoint.specs.Laws.ConfigExits.{behind, peersOf, list-peer-exit, isFound, peer-found}
 use Rattle.endpoint.specs.declared.config.Endpoint.{Endpoint}

@@ -4,7 +4,7 @@ use mathlib.Core.Path.{_∙_, sym, ap}
 use native.Mathlib.Omega.{arith}
 use Rattle.endpoint.specs.Laws.Promises.{start-promised}
 use borrow.Author.Needs.{needs}
-use Rattle.wire.specs.Checks.{deciding}
+use Rattle.wire.specs.Laws.Checks.{deciding}
 use Rattle.endpoint.specs.declared.answer.Start.the-variants as S
 use Rattle.endpoint.specs.declared.config.Endpoint.{Endpoint}
 use Rattle.endpoint.specs.declared.config.Started.{Started}

@@ -4,7 +4,8 @@ use Prim.Native.Nat.{_<_, _≤_}
 use mathlib.Core.Path.{_≡_, _∙_, sym}
 use lib.ListN.{length}
 use native.Mathlib.Omega.{arith}
-use Rattle.wire.specs.Frame.{IsFrame, sound}
+use Rattle.wire.specs.Frame.{IsFrame}
+use Rattle.wire.specs.Laws.Frame.{sound}
 use Rattle.endpoint.specs.Wrap.{segmentsOf}
 use Rattle.endpoint.specs.Laws.WrapExits.{send-frame, send-mtu, send-segment, send-output, send-written}
 use borrow.Author.Needs.{needs}

@@ -9,8 +9,9 @@ use lib.ListN.{take, length-take}
 use lib.Seq.{length-take-le}
 use Rattle.wire.specs.Bytes.{beAt}
 use Rattle.wire.specs.Sum.{total, ones}
-use Rattle.wire.specs.Checks.{deciding}
-use Rattle.wire.specs.Ipv4.{ipv4Checks, ipv4-exit, ipv4-accepts}
+use Rattle.wire.specs.Laws.Checks.{deciding}
+use Rattle.wire.specs.Ipv4.{ipv4Checks}
+use Rattle.wire.specs.Laws.Ipv4.{ipv4-exit, ipv4-accepts}
 use borrow.Author.Needs.{needs}
 use Rattle.wire.proofs.ipv4.read.Statement.{statement}
 use Rattle.wire.proofs.ipv4.read.Tie as tie

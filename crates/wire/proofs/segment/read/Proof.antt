@@ -1,9 +1,10 @@
 -- `wire::segment::read` meets its contract.
 -- Assumes nothing.
-use mathlib.Core.Path.{_≡_, _∙_, sym, refl, ap}
+use mathlib.Core.Path.{sym}
 use native.Mathlib.Omega.{arith}
-use Rattle.wire.specs.Checks.{deciding}
-use Rattle.wire.specs.Segment.{segmentChecks, segment-exit, segment-accepts}
+use Rattle.wire.specs.Laws.Checks.{deciding}
+use Rattle.wire.specs.Segment.{segmentChecks}
+use Rattle.wire.specs.Laws.Segment.{segment-exit, segment-accepts}
 use borrow.Author.Needs.{needs}
 use Rattle.wire.proofs.segment.read.Statement.{statement}
 use Rattle.wire.proofs.segment.read.Tie as tie

@@ -1,9 +1,10 @@
 -- `wire::stt::read` meets its contract.
 -- Assumes nothing.
-use mathlib.Core.Path.{_≡_, _∙_, sym, refl, ap}
+use mathlib.Core.Path.{sym}
 use native.Mathlib.Omega.{arith}
-use Rattle.wire.specs.Checks.{deciding}
-use Rattle.wire.specs.Stt.{sttChecks, stt-exit, stt-accepts}
+use Rattle.wire.specs.Laws.Checks.{deciding}
+use Rattle.wire.specs.Stt.{sttChecks}
+use Rattle.wire.specs.Laws.Stt.{stt-exit, stt-accepts}
 use borrow.Author.Needs.{needs}
 use Rattle.wire.proofs.stt.read.Statement.{statement}
 use Rattle.wire.proofs.stt.read.Tie as tie

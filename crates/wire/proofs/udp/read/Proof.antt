@@ -1,9 +1,14 @@
 -- `wire::udp::read` meets its contract.
 -- Assumes nothing.
-use mathlib.Core.Path.{_≡_, _∙_, sym, refl, ap}
+use mathlib.Core.Path.{_∙_, sym, ap}
 use native.Mathlib.Omega.{arith}
-use Rattle.wire.specs.Checks.{deciding}
-use Rattle.wire.specs.Udp.{udpChecks, udp-exit, udp-accepts}
+use Rattle.wire.specs.Laws.Checks.{deciding}
+use Rattle.wire.specs.Udp.{udpChecks}
+use Rattle.wire.specs.Laws.Udp.{udp-exit, udp-accepts}
+use Prim.Native.Nat.{_-_}
+use lib.ListN.{length, drop, length-drop}
+use lib.Seq.{take-all}
+use Rattle.wire.specs.Vxlan.{vxlanOf}
 use borrow.Author.Needs.{needs}
 use Rattle.wire.proofs.udp.read.Statement.{statement}
 use Rattle.wire.proofs.udp.read.Tie as tie
@@ -40,9 +45,23 @@ returns-5 : tie.Need-returns-5
 unfolding udpChecks
 returns-5 c = sym (udp-exit _ _ _ 4 (omega (arith, deciding)))
 
+sub-read : tie.Need-sub-read
+sub-read c = search needs
+
+part-read-start : tie.Need-part-read-start
+part-read-start c = search needs
+
+part-read-end : tie.Need-part-read-end
+part-read-end c = search needs
+
+read-requires : tie.Need-read-requires
+read-requires c κs = search needs
+
 returns-6 : tie.Need-returns-6
 unfolding udpChecks
-returns-6 c = udp-accepts _ _ _ _ (omega (arith, deciding)) (c .before .before .before .before .before .before .be16 .ensures)
+returns-6 c =
+    let s = c .before .before .before .before .before .before .before .before .before .before .before .args .s .now in
+    c .read .ensures ∙ ap vxlanOf (take-all (length s - 8) (drop 8 s) (omega (arith, length-drop 8 s))) ∙ udp-accepts _ _ s (omega (arith, deciding))
 
 pub read-spec : {M : Type 1} → statement M
 read-spec =
@@ -57,4 +76,8 @@ read-spec =
     returns-4
     judged-requires
     returns-5
+    sub-read
+    part-read-start
+    part-read-end
+    read-requires
     returns-6)

@@ -1,9 +1,10 @@
 -- `wire::vxlan::read` meets its contract.
 -- Assumes nothing.
-use mathlib.Core.Path.{_≡_, _∙_, sym, refl, ap}
+use mathlib.Core.Path.{sym}
 use native.Mathlib.Omega.{arith}
-use Rattle.wire.specs.Checks.{deciding}
-use Rattle.wire.specs.Vxlan.{vxlanChecks, vxlan-exit, vxlan-accepts}
+use Rattle.wire.specs.Laws.Checks.{deciding}
+use Rattle.wire.specs.Vxlan.{vxlanChecks}
+use Rattle.wire.specs.Laws.Vxlan.{vxlan-exit, vxlan-accepts}
 use borrow.Author.Needs.{needs}
 use Rattle.wire.proofs.vxlan.read.Statement.{statement}
 use Rattle.wire.proofs.vxlan.read.Tie as tie

@@ -2,7 +2,7 @@
 -- Assumes nothing.
 use mathlib.Core.Path.{sym}
 use native.Mathlib.Omega.{arith}
-use Rattle.wire.specs.Checks.{deciding}
+use Rattle.wire.specs.Laws.Checks.{deciding}
 use Rattle.wire.specs.Write.{fitChecks}
 use Rattle.wire.specs.Laws.Write.{fits-exit}
 use borrow.Author.Needs.{needs}

@@ -3,7 +3,7 @@
 use mathlib.Core.Path.{_∙_, ap}
 use Prim.Native.Nat.{ℕ, _-_}
 use Rattle.wire.specs.Bytes.{be, laid}
-use Rattle.wire.specs.Laws.Sum.{complement}
+use Rattle.wire.specs.Sum.{complement}
 use borrow.Author.Needs.{needs}
 use Rattle.wire.proofs.write.seal.Statement.{statement}
 use Rattle.wire.proofs.write.seal.Tie as tie

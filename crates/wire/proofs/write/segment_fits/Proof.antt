@@ -2,7 +2,7 @@
 -- Assumes nothing.
 use mathlib.Core.Path.{sym}
 use native.Mathlib.Omega.{arith}
-use Rattle.wire.specs.Checks.{deciding}
+use Rattle.wire.specs.Laws.Checks.{deciding}
 use Rattle.wire.specs.Write.{segmentFitChecks}
 use Rattle.wire.specs.Laws.Write.{segment-fits-exit}
 use borrow.Author.Needs.{needs}
@@ -12,6 +12,9 @@ use Rattle.wire.proofs.write.segment_fits.Tie as tie
 returns : tie.Need-returns
 unfolding segmentFitChecks
 returns c = sym (segment-fits-exit _ _ _ _ 0 (omega (arith, deciding)))
+
+sub-if2 : tie.Need-sub-if2
+sub-if2 c = search needs
 
 returns-2 : tie.Need-returns-2
 unfolding segmentFitChecks
@@ -57,6 +60,7 @@ segment-fits-spec =
     tie.close
     (tie.spec
     returns
+    sub-if2
     returns-2
     add-if3
     returns-3

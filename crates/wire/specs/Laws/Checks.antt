@@ -1,0 +1,59 @@
+-- Laws of ordered checks.
+-- Assumes nothing.
+use mathlib.Core.Path.{_≡_, refl}
+use mathlib.Core.Bool.{true, false, not}
+use Prim.Native.Nat.{ℕ, zero, suc}
+use lib.Dec.{eqb}
+use borrow.Author.Tests.{ltb-true, ltb-false, leb-true, leb-false, eqb-true, eq-eqb, not-false, lt-ltb, le-ltb, le-leb, lt-leb, ne-eqb}
+use mathlib.Core.List.{List, [], _∷_}
+use Rattle.wire.specs.Checks.{Check, _⇒_, first, Passed}
+
+-- accepted exactly when no check is met
+pub pass : {R A : Type 0} (refused : R → A) (checks : List (Check R)) (accepted : A) → Passed checks → first refused checks accepted ≡ accepted
+pass refused [] accepted p = refl
+pass refused ((test ⇒ r) ∷ checks) accepted p = rw (p .0) (pass refused checks accepted (p .1))
+
+pub passed : {R A : Type 0} (refused : R → A) (checks : List (Check R)) (accepted x : A)
+    → ((r : R) → refused r ≡ x → ⊥) → first refused checks accepted ≡ x → Passed checks × (accepted ≡ x)
+passed refused [] accepted x n e = (tt, e)
+passed refused ((true ⇒ r) ∷ checks) accepted x n e = absurd (n r e)
+passed refused ((false ⇒ r) ∷ checks) accepted x n e =
+    let p = passed refused checks accepted x n e in
+    ((refl, p .0), p .1)
+
+-- check n is the first that is met; past the last, none is
+abbrev pub At : {R : Type 0} → List (Check R) → ℕ → Type 0
+At [] n = Unit {0}
+At ((test ⇒ r) ∷ checks) zero = test ≡ true
+At ((test ⇒ r) ∷ checks) (suc n) = (test ≡ false) × At checks n
+
+-- what is then given
+abbrev pub given : {R A : Type 0} → (R → A) → List (Check R) → A → ℕ → A
+given refused [] accepted n = accepted
+given refused ((test ⇒ r) ∷ checks) accepted zero = refused r
+given refused ((test ⇒ r) ∷ checks) accepted (suc n) = given refused checks accepted n
+
+-- the one law by which code with early returns meets a list of checks: its exit number n gives what the list gives
+pub decided : {R A : Type 0} (refused : R → A) (checks : List (Check R)) (accepted : A) (n : ℕ)
+    → At checks n → first refused checks accepted ≡ given refused checks accepted n
+decided refused [] accepted n p = refl
+decided refused ((test ⇒ r) ∷ checks) accepted zero p = rw p
+decided refused ((test ⇒ r) ∷ checks) accepted (suc n) p = rw (p .0) (decided refused checks accepted n (p .1))
+
+-- a check for a number other than the one that is asked for
+pub is-not : (a b : ℕ) → a ≡ b → not (eqb a b) ≡ false
+is-not a b e = rw (eq-eqb a b e)
+
+pub is-met : (a b : ℕ) → (a ≡ b → ⊥) → not (eqb a b) ≡ true
+is-met a b h = rw (ne-eqb a b h)
+
+pub is-so : (a b : ℕ) → not (eqb a b) ≡ false → a ≡ b
+is-so a b e = eqb-true a b (not-false (eqb a b) e)
+
+-- for omega: what a passed check says
+pub ruleset tests = (ltb-true, ltb-false, leb-true, leb-false, eqb-true, is-so)
+
+-- for omega: that a check is passed, or met
+pub ruleset passing = (le-ltb, lt-leb, is-not, ne-eqb)
+
+pub ruleset deciding = (lt-ltb, le-ltb, le-leb, lt-leb, eq-eqb, ne-eqb, is-not, is-met)

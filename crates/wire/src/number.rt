@@ -1,0 +1,81 @@
+// Assigned numbers and fixed sizes, as the RFCs and document 01 give them.
+
+// IP protocol numbers.
+pub const PROTOCOL_TCP: u8 = 6;
+
+pub const PROTOCOL_UDP: u8 = 17;
+
+pub const PROTOCOL_GRE: u8 = 47;
+
+// The UDP port of VXLAN (RFC 7348, 5).
+pub const VXLAN_PORT: u16 = 4789;
+
+// VXLAN's flag I (RFC 7348, 5), and its number from the lowest bit.
+pub const VXLAN_FLAG: u8 = 0x08;
+
+pub const VXLAN_FLAG_BIT: u8 = 3;
+
+// The TCP flags that we write (RFC 793, 3.1; draft-davie-stt-06, 3.2).
+pub const TCP_ACK: u8 = 0x10;
+
+pub const TCP_PSH_ACK: u8 = 0x18;
+
+pub const TIME_TO_LIVE: u8 = 64;
+
+// The kinds of a network (document 01, "Listing and numbers").
+pub const KIND_VXLAN: u8 = 1;
+
+pub const KIND_NVGRE: u8 = 2;
+
+pub const KIND_STT: u8 = 3;
+
+// Header lengths, without options.
+pub const IPV4_HEADER: usize = 20;
+
+pub const UDP_HEADER: usize = 8;
+
+pub const VXLAN_HEADER: usize = 8;
+
+pub const UDP_VXLAN_HEADERS: usize = 16;
+
+pub const GRE_HEADER: usize = 8;
+
+pub const TCP_HEADER: usize = 20;
+
+pub const STT_HEADER: usize = 18;
+
+// The headers in front of a frame or a segment, all of them.
+pub const VXLAN_OVERHEAD: usize = 36;
+
+pub const NVGRE_OVERHEAD: usize = 28;
+
+pub const SEGMENT_OVERHEAD: usize = 40;
+
+// The checksum's place in a TCP header.
+pub const TCP_CHECKSUM: usize = 16;
+
+// The protocol type 0x6558 of GRE, transparent Ethernet bridging (RFC 7637, 3.2), in its two bytes.
+pub const GRE_TYPE_HIGH: u8 = 0x65;
+
+pub const GRE_TYPE_LOW: u8 = 0x58;
+
+// Types of a tagged Ethernet frame (IEEE 802.1Q, 802.1ad).
+pub const TYPE_VLAN: u16 = 0x8100;
+
+pub const TYPE_SERVICE_VLAN: u16 = 0x88A8;
+
+// An inner frame's bounds.
+pub const FRAME_LEAST: usize = 14;
+
+pub const FRAME_MOST: usize = 1514;
+
+// The largest length that a 16-bit field tells.
+pub const LENGTH_MOST: usize = 65535;
+
+// The source ports of VXLAN and STT (document 01, "Wrapping"): the first one, and how many there are.
+pub const PORT_LEAST: u64 = 49152;
+
+pub const PORTS: u64 = 16384;
+
+// A ones' complement sum with its checksum in it (RFC 1071): all ones.
+pub const ALL_ONES: u16 = 0xFFFF;

@@ -1,0 +1,417 @@
+/*
+ * A fuzz target for clang's libFuzzer. An input is read as a run of calls: starts, additions, receives of raw and of built
+ * packets, ticks, wraps and cuts, on one endpoint with one memory. Everything that a call is lent ends right before a page that
+ * may not be touched, or begins right behind one. After each call these are checked:
+ *
+ * - the code is one that the call can give;
+ * - a refusal changed neither endpoint nor memory nor output, a good call only what it may change, and no call its input;
+ * - what is delivered lies where the answer says, is a good frame, and goes to the tenant of its binding.
+ *
+ * The archive is not instrumented, so the fuzzer is told what happened by counters of its own: the answers given to each call,
+ * and how many frames were pending.
+ */
+#define _GNU_SOURCE
+#include <stdio.h>
+#include <stdlib.h>
+#include <string.h>
+#include <sys/mman.h>
+#include <unistd.h>
+
+#include "niulassenc.h"
+
+enum { MEMORY = NIULASSENC_MEMORY_BYTES, LONGEST = 2000, OWN = 0x0a000002, STT_PORT = 7471 };
+
+#define CHECK(fact)                                                             \
+    do {                                                                        \
+        if (!(fact)) {                                                          \
+            fprintf(stderr, "fuzz: line %d: %s does not hold\n", __LINE__, #fact); \
+            abort();                                                            \
+        }                                                                       \
+    } while (0)
+
+enum call { START, PEER, BINDING, RAW, BUILT, TICK, WRAP, CUT, CALLS };
+
+/* What the fuzzer looks at: each answer to each call, and each number of pending frames. */
+__attribute__((section("__libfuzzer_extra_counters"))) static uint8_t counters[CALLS * 32 + 64];
+
+static void count(enum call call, uint8_t code)
+{
+    counters[call * 32 + (code < 31 ? code : 31)]++;
+}
+
+/* The input, read from the front; 0 where it has ended. */
+static const uint8_t *input;
+static size_t left;
+
+static uint32_t number(size_t bytes)
+{
+    uint32_t value = 0;
+
+    for (; bytes > 0; bytes--) {
+        value = value << 8 | (left > 0 ? *input : 0);
+        if (left > 0) {
+            input++;
+            left--;
+        }
+    }
+    return value;
+}
+
+static size_t bytes(uint8_t *to, size_t length)
+{
+    size_t had = length < left ? length : left;
+
+    memcpy(to, input, had);
+    memset(to + had, 0, length - had);
+    input += had;
+    left -= had;
+    return length;
+}
+
+/* Pages with one on each side that may not be touched. */
+struct region {
+    uint8_t *begin;
+    size_t size;
+};
+
+static struct region region(size_t least)
+{
+    size_t page = (size_t)sysconf(_SC_PAGESIZE), size = (least + page - 1) / page * page;
+    uint8_t *all = mmap(NULL, size + 2 * page, PROT_NONE, MAP_PRIVATE | MAP_ANONYMOUS, -1, 0);
+
+    CHECK(all != MAP_FAILED && mprotect(all + page, size, PROT_READ | PROT_WRITE) == 0);
+    struct region made = {all + page, size};
+    return made;
+}
+
+/* A part of the region: its last bytes, or its first. */
+static uint8_t *part(struct region from, size_t length, bool at_end)
+{
+    return at_end ? from.begin + from.size - length : from.begin;
+}
+
+static struct region endpoint_pages, memory_pages, packet_pages, output_pages;
+static struct niulassenc_endpoint *endpoint;
+static uint8_t *memory;
+static bool at_end;
+
+/* What was there before a call. */
+static struct niulassenc_endpoint endpoint_before;
+static uint8_t memory_before[MEMORY], lent_before[LONGEST];
+
+/* The bytes of an endpoint that mean something: not the padding at its end. */
+enum { ENDPOINT_BYTES = offsetof(struct niulassenc_endpoint, owners) + NIULASSENC_BINDINGS };
+
+static void remember(void)
+{
+    memcpy(&endpoint_before, endpoint, sizeof endpoint_before);
+    memcpy(memory_before, memory, MEMORY);
+}
+
+static bool endpoint_same(void)
+{
+    return memcmp(&endpoint_before, endpoint, ENDPOINT_BYTES) == 0;
+}
+
+static bool memory_same(void)
+{
+    return memcmp(memory_before, memory, MEMORY) == 0;
+}
+
+/* Whether all that changed of the memory lies in one slot. */
+static bool one_slot_changed(void)
+{
+    unsigned changed = 0;
+
+    for (size_t at = 0; at < MEMORY; at += NIULASSENC_SLOT_BYTES)
+        changed += memcmp(memory_before + at, memory + at, NIULASSENC_SLOT_BYTES) != 0;
+    return changed <= 1;
+}
+
+static void count_pending(void)
+{
+    unsigned pending = 0;
+
+    for (unsigned peer = 0; peer < NIULASSENC_PEERS; peer++)
+        for (unsigned slot = 0; slot < NIULASSENC_SLOTS; slot++)
+            pending += endpoint->peers[peer].slots[slot].pending;
+    counters[CALLS * 32 + pending]++;
+}
+
+static void put16(uint8_t *at, uint32_t value)
+{
+    at[0] = (uint8_t)(value >> 8);
+    at[1] = (uint8_t)value;
+}
+
+static void put32(uint8_t *at, uint32_t value)
+{
+    put16(at, value >> 16);
+    put16(at + 2, value);
+}
+
+static uint32_t sum(uint32_t from, const uint8_t *data, size_t length)
+{
+    for (size_t i = 0; i < length; i++)
+        from += i % 2 ? data[i] : (uint32_t)data[i] << 8;
+    while (from >> 16)
+        from = (from & 0xffff) + (from >> 16);
+    return from;
+}
+
+/* Makes some fields right, as `which` says: the header's length fields, the addresses, the checksums. */
+static void mend(uint8_t *packet, size_t length, uint32_t which)
+{
+    if (length < 20)
+        return;
+    size_t header = (packet[0] & 15u) * 4;
+    if (which & 1) {
+        packet[0] = 0x45;
+        header = 20;
+        put16(packet + 2, (uint32_t)length);
+        put16(packet + 6, 0x4000);
+    }
+    if (which & 2) {
+        put32(packet + 12, OWN + 1 + (which >> 5) % 9);
+        put32(packet + 16, OWN);
+    }
+    size_t total = (size_t)packet[2] << 8 | packet[3];
+    if (which & 4 && header >= 20 && header <= total && total <= length) {
+        size_t payload = total - header;
+        size_t field = packet[9] == 6 && payload >= 20 ? 16 : packet[9] == 17 && payload >= 8 ? 6 : 0;
+        if (field != 0) {
+            put16(packet + header + field, 0);
+            uint32_t pseudo = sum(packet[9] + (uint32_t)payload, packet + 12, 8);
+            put16(packet + header + field, ~sum(pseudo, packet + header, payload));
+        }
+    }
+    if (which & 8 && header >= 20 && header <= length) {
+        put16(packet + 10, 0);
+        put16(packet + 10, ~sum(0, packet, header));
+    }
+}
+
+/* A delivered frame: where it lies, what it is, whose it is. */
+static void delivered(struct niulassenc_receipt got, const uint8_t *packet, size_t length)
+{
+    struct niulassenc_part frame = niulassenc_view(packet, length, memory, MEMORY, got);
+
+    CHECK(frame.length == got.length && frame.bytes == (got.in_memory ? memory : packet) + got.start);
+    CHECK(frame.length >= NIULASSENC_FRAME_MIN && frame.length <= NIULASSENC_FRAME_MAX);
+    CHECK(!(frame.bytes[12] == 0x81 && frame.bytes[13] == 0x00) && !(frame.bytes[12] == 0x88 && frame.bytes[13] == 0xa8));
+    CHECK(got.binding < endpoint->binding_count && endpoint->tenants[got.binding] == got.tenant);
+    CHECK(got.in_memory == (endpoint->kinds[got.binding] == NIULASSENC_STT));
+}
+
+static void receive(enum call call, const uint8_t *built, size_t length, size_t memory_length)
+{
+    uint8_t *packet = part(packet_pages, length, at_end);
+    uint8_t *lent = at_end ? memory + MEMORY - memory_length : memory;
+
+    memcpy(packet, built, length);
+    memcpy(lent_before, built, length);
+    remember();
+    struct niulassenc_receipt got = niulassenc_receive(endpoint, packet, length, lent, memory_length);
+    count(call, got.code);
+    CHECK(memcmp(lent_before, packet, length) == 0);
+    CHECK(got.code <= NIULASSENC_NO_SLOT);
+    CHECK((got.code == NIULASSENC_MEMORY_TOO_SMALL) == (memory_length < MEMORY));
+    CHECK(one_slot_changed());
+    if (got.code == NIULASSENC_DONE) {
+        delivered(got, packet, length);
+        return;
+    }
+    CHECK(got.tenant == NIULASSENC_NONE && got.binding == NIULASSENC_NONE);
+    CHECK(got.start == 0 && got.length == 0 && !got.in_memory);
+    if (got.code == NIULASSENC_PENDING)
+        return;
+    bool of_a_frame = got.code >= NIULASSENC_BAD_TUNNEL_HEADER && got.code <= NIULASSENC_BAD_FRAME && packet[9] == 6;
+    CHECK(of_a_frame || (endpoint_same() && memory_same()));
+}
+
+/* Any bytes, some of whose fields are made right. */
+static void raw(void)
+{
+    uint8_t packet[LONGEST];
+    uint32_t which = number(2);
+    size_t length = number(2) % (LONGEST + 1), memory_length = which & 16 ? number(2) % (MEMORY + 1) : MEMORY;
+
+    bytes(packet, length);
+    mend(packet, length, which);
+    receive(RAW, packet, length, memory_length);
+}
+
+/* A packet of one of the three kinds from one of the peers, with a short frame, and now and then with a fault. */
+static void built(void)
+{
+    uint8_t packet[LONGEST] = {0x45, 0, 0, 0, 0, 0, 0x40, 0, 64};
+    uint32_t which = number(1), protocol = number(1) % 4;
+    size_t length = 20;
+
+    if (protocol == 0) {
+        packet[9] = 17;
+        put16(packet + 22, 4789);
+        packet[28] = 8;
+        packet[34] = (uint8_t)number(1);
+        length += 16 + bytes(packet + 36, number(1) % 80);
+        put16(packet + 24, (uint32_t)length - 20);
+    } else if (protocol == 1) {
+        packet[9] = 47;
+        put32(packet + 20, 0x20006558);
+        put16(packet + 25, 0x1000 >> 8);
+        packet[26] = (uint8_t)number(1);
+        length += 8 + bytes(packet + 28, number(1) % 80);
+    } else {
+        packet[9] = 6;
+        put16(packet + 22, STT_PORT);
+        put16(packet + 24, protocol == 2 ? 32 + number(1) % 8 : number(2));
+        put16(packet + 26, protocol == 2 ? number(1) % 40 : number(2));
+        put32(packet + 28, number(1) % 6);
+        packet[32] = 0x50;
+        length += 20 + bytes(packet + 40, number(1) % (protocol == 2 ? 41 : 256));
+    }
+    mend(packet, length, 1 | 2 | which << 5);
+    if (which & 8) /* a field is wrong, the checksums are right */
+        packet[number(1) % 64] ^= (uint8_t)number(1);
+    mend(packet, length, packet[9] == 6 || which & 4 ? 4 | 8 : 8);
+    if (which & 16) /* anything is wrong */
+        packet[number(1) % 64] ^= (uint8_t)number(1);
+    receive(BUILT, packet, length, MEMORY);
+}
+
+static void start(void)
+{
+    uint32_t which = number(1);
+    struct niulassenc_started got = niulassenc_start(which & 1 ? number(4) : OWN, which & 2 ? number(4) : STT_PORT,
+                                                     which & 4 ? number(4) : NIULASSENC_MTU_MIN + which);
+
+    count(START, got.code);
+    CHECK(got.code == NIULASSENC_DONE || got.code == NIULASSENC_OUT_OF_RANGE);
+    CHECK((got.code == NIULASSENC_DONE) == (got.endpoint.port != 0));
+    CHECK(got.endpoint.peer_count == 0 && got.endpoint.binding_count == 0);
+    *endpoint = got.endpoint;
+}
+
+static void add(enum call call)
+{
+    struct niulassenc_addition got;
+    uint32_t which = number(1);
+
+    remember();
+    if (call == PEER) {
+        got = niulassenc_add_peer(endpoint, which & 1 ? number(4) : OWN + 1 + which % 9);
+    } else {
+        uint32_t peer = which & 1 ? number(4) : (which >> 1) % 8, kind = which & 16 ? number(4) : number(1) % 4;
+        uint64_t network = which & 32 ? (uint64_t)number(4) << 32 | number(4) : number(2);
+        got = niulassenc_add_binding(endpoint, peer, kind, network, which & 64 ? number(4) : number(2));
+    }
+    count(call, got.code);
+    CHECK(got.code == NIULASSENC_DONE || (got.code >= NIULASSENC_OUT_OF_RANGE && got.code <= NIULASSENC_FULL));
+    CHECK(got.code == NIULASSENC_DONE || (got.number == NIULASSENC_NONE && endpoint_same()));
+    CHECK(endpoint->peer_count <= NIULASSENC_PEERS && endpoint->binding_count <= NIULASSENC_BINDINGS);
+    CHECK(memory_same());
+}
+
+static void tick(void)
+{
+    remember();
+    uint8_t code = niulassenc_tick(endpoint);
+    count(TICK, code);
+    CHECK(code == NIULASSENC_DONE && memory_same());
+    for (unsigned peer = 0; peer < NIULASSENC_PEERS; peer++)
+        for (unsigned slot = 0; slot < NIULASSENC_SLOTS; slot++)
+            CHECK(endpoint->peers[peer].slots[slot].age < NIULASSENC_TICKS);
+}
+
+static void wrap(void)
+{
+    uint32_t which = number(1), binding = which & 1 ? number(4) : number(1) % 8, segment = which & 2 ? number(4) : which >> 6;
+    size_t length = number(2) % 1600, room = which & 4 ? number(2) % (LONGEST + 1) : LONGEST;
+    uint8_t *frame = part(packet_pages, length, at_end), *output = part(output_pages, room, at_end);
+
+    for (size_t i = 0; i < length; i++)
+        frame[i] = (uint8_t)(i + which);
+    memcpy(lent_before, frame, length);
+    memset(output, 0xa5, room);
+    remember();
+    struct niulassenc_writing got = niulassenc_wrap(endpoint, binding, frame, length, segment, number(1), output, room);
+    count(WRAP, got.code);
+    CHECK(memcmp(lent_before, frame, length) == 0 && endpoint_same() && memory_same());
+    CHECK(got.code == NIULASSENC_DONE || got.code == NIULASSENC_BAD_FRAME ||
+          (got.code >= NIULASSENC_OUTPUT_TOO_SHORT && got.code <= NIULASSENC_NO_SUCH));
+    CHECK(got.length <= room && got.length <= endpoint->mtu);
+    CHECK((got.code == NIULASSENC_DONE) == (got.segments > 0));
+    CHECK(got.segments <= NIULASSENC_SEGMENTS_MAX && (got.segments == 0 || segment < got.segments));
+    for (size_t i = got.length; i < room; i++)
+        CHECK(output[i] == 0xa5);
+}
+
+static void cut(void)
+{
+    uint32_t which = number(1);
+    size_t numbers[4];
+
+    for (int i = 0; i < 4; i++)
+        numbers[i] = which >> i & 1 ? (size_t)0 - number(1) : number(2);
+    struct niulassenc_part_at got = niulassenc_cut(numbers[0], numbers[1], numbers[2], numbers[3], which & 16);
+    size_t size = which & 16 ? numbers[1] : numbers[0];
+    bool fits = numbers[3] <= size && numbers[2] <= size - numbers[3];
+    count(CUT, fits);
+    CHECK(got.start == (fits ? numbers[2] : 0) && got.length == (fits ? numbers[3] : 0));
+    CHECK(got.in_memory == (fits && which & 16));
+}
+
+int LLVMFuzzerTestOneInput(const uint8_t *data, size_t size);
+
+int LLVMFuzzerInitialize(int *count, char ***arguments);
+
+int LLVMFuzzerInitialize(int *count, char ***arguments)
+{
+    (void)count;
+    (void)arguments;
+    CHECK(niulassenc_matches());
+    endpoint_pages = region(sizeof *endpoint);
+    memory_pages = region(MEMORY);
+    packet_pages = region(LONGEST);
+    output_pages = region(LONGEST);
+    return 0;
+}
+
+int LLVMFuzzerTestOneInput(const uint8_t *data, size_t size)
+{
+    input = data;
+    left = size;
+    uint32_t how = number(1);
+    at_end = how & 1;
+    endpoint = (struct niulassenc_endpoint *)(void *)part(endpoint_pages, sizeof *endpoint, at_end);
+    memory = part(memory_pages, MEMORY, at_end);
+    memset(memory, how & 2 ? 0xff : 0, MEMORY);
+    *endpoint = niulassenc_start(OWN, STT_PORT, NIULASSENC_MTU_MIN + (how >> 2)).endpoint;
+    for (uint32_t i = 0; i < 4; i++) {
+        CHECK(niulassenc_add_peer(endpoint, OWN + 1 + i).code == NIULASSENC_DONE);
+        CHECK(niulassenc_add_binding(endpoint, i, NIULASSENC_VXLAN, 22, i).code == NIULASSENC_DONE);
+        CHECK(niulassenc_add_binding(endpoint, i, NIULASSENC_STT, 0, i).code == NIULASSENC_DONE);
+        CHECK(niulassenc_add_binding(endpoint, i, NIULASSENC_NVGRE, 0x1016, i).code == NIULASSENC_DONE);
+    }
+    while (left > 0) {
+        uint32_t next = number(1) % 16;
+        if (next == 0)
+            start();
+        else if (next == 1)
+            add(PEER);
+        else if (next == 2)
+            add(BINDING);
+        else if (next == 3)
+            tick();
+        else if (next < 6)
+            wrap();
+        else if (next == 6)
+            cut();
+        else if (next < 10)
+            raw();
+        else
+            built();
+        count_pending();
+    }
+    return 0;
+}

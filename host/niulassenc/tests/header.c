@@ -1,0 +1,52 @@
+/*
+ * What the header says, in lines that tests/header.rs compares with the Rust cover: the version, the limits, the names and
+ * numbers of the codes, and the text of every number that a code may be.
+ */
+#include <inttypes.h>
+#include <stdio.h>
+
+#include "niulassenc.h"
+
+#define LIMIT(name) printf("limit " #name " %u\n", (unsigned)NIULASSENC_##name)
+#define CODE(name) printf("code " #name " %u\n", (unsigned)NIULASSENC_##name)
+
+int main(void)
+{
+    printf("version %" PRIu32 "\n", (uint32_t)NIULASSENC_VERSION);
+    LIMIT(PEERS);
+    LIMIT(BINDINGS);
+    LIMIT(SLOTS);
+    LIMIT(MTU_MIN);
+    LIMIT(MTU_MAX);
+    LIMIT(FRAME_MIN);
+    LIMIT(FRAME_MAX);
+    LIMIT(SEGMENTS_MAX);
+    LIMIT(TICKS);
+    LIMIT(SLOT_BYTES);
+    LIMIT(MEMORY_BYTES);
+    LIMIT(NONE);
+    CODE(MEMORY_TOO_SMALL);
+    CODE(NOT_IPV4);
+    CODE(BAD_IPV4_CHECKSUM);
+    CODE(FRAGMENT);
+    CODE(NOT_FOR_US);
+    CODE(UNKNOWN_PEER);
+    CODE(UNKNOWN_PROTOCOL);
+    CODE(BAD_TRANSPORT_HEADER);
+    CODE(BAD_TRANSPORT_CHECKSUM);
+    CODE(BAD_TUNNEL_HEADER);
+    CODE(NO_BINDING);
+    CODE(BAD_FRAME);
+    CODE(BAD_SEGMENT);
+    CODE(LENGTH_DIFFERS);
+    CODE(ALREADY_RECEIVED);
+    CODE(NO_SLOT);
+    CODE(OUT_OF_RANGE);
+    CODE(ALREADY_LISTED);
+    CODE(FULL);
+    CODE(OUTPUT_TOO_SHORT);
+    CODE(EXCEEDS_MTU);
+    CODE(NO_SUCH);
+    for (unsigned code = 0; code < 256; code++)
+        printf("text %u %s\n", code, niulassenc_text(code));
+}

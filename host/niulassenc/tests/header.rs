@@ -1,0 +1,126 @@
+//! C's header and this crate say the same: version, limits, the names, numbers
+//! and texts of the codes. `header.c` tells what the header has.
+
+use niulassenc::{limits, numbers, text, Refusal, VERSION};
+use std::fmt::Write;
+use std::path::Path;
+use std::process::Command;
+
+/// `MemoryTooSmall` as C has it: `MEMORY_TOO_SMALL`.
+fn name_in_c(refusal: Refusal) -> String {
+    let mut name = String::new();
+    for letter in format!("{refusal:?}").chars() {
+        if letter.is_ascii_uppercase() && !name.is_empty() {
+            name.push('_');
+        }
+        name.push(letter.to_ascii_uppercase());
+    }
+    name
+}
+
+fn ours() -> String {
+    let mut lines = format!("version {VERSION}\n");
+    for (name, value) in [
+        ("PEERS", limits::PEERS),
+        ("BINDINGS", limits::BINDINGS),
+        ("SLOTS", limits::SLOTS),
+        ("MTU_MIN", limits::MTU_MIN),
+        ("MTU_MAX", limits::MTU_MAX),
+        ("FRAME_MIN", limits::FRAME_MIN),
+        ("FRAME_MAX", limits::FRAME_MAX),
+        ("SEGMENTS_MAX", limits::SEGMENTS_MAX),
+        ("TICKS", limits::TICKS),
+        ("SLOT_BYTES", limits::SLOT_BYTES),
+        ("MEMORY_BYTES", limits::MEMORY_NEEDED),
+        ("NONE", usize::from(numbers::NONE)),
+    ] {
+        let _ = writeln!(lines, "limit {name} {value}");
+    }
+    for &refusal in Refusal::ALL {
+        let _ = writeln!(lines, "code {} {}", name_in_c(refusal), refusal.number());
+    }
+    for code in 0..=255 {
+        let _ = writeln!(lines, "text {code} {}", text(code));
+    }
+    lines
+}
+
+/// Compiles and runs `header.c`. It calls no function of the archive, but the
+/// compiler may leave in the inline ones that do.
+fn theirs() -> String {
+    let folder = Path::new(env!("CARGO_MANIFEST_DIR"));
+    let program = Path::new(env!("CARGO_TARGET_TMPDIR")).join("header");
+    let compiled = Command::new("gcc")
+        .args([
+            "-std=c11",
+            "-O1",
+            "-Wall",
+            "-Wextra",
+            "-Wpedantic",
+            "-Werror",
+        ])
+        .arg("-I")
+        .arg(folder.join("../../include"))
+        .arg("-o")
+        .arg(&program)
+        .arg(folder.join("tests/header.c"))
+        .status()
+        .expect("gcc is there");
+    assert!(compiled.success());
+    let output = Command::new(&program).output().expect("it runs");
+    assert!(output.status.success());
+    String::from_utf8(output.stdout).expect("text")
+}
+
+#[test]
+fn header_and_crate_say_the_same() {
+    let (ours, theirs) = (ours(), theirs());
+    for (ours, theirs) in ours.lines().zip(theirs.lines()) {
+        assert_eq!(ours, theirs);
+    }
+    assert_eq!(ours, theirs);
+}
+
+/// Every enumerator of the header's codes has its line in `header.c`, and so has
+/// every macro that is a number.
+#[test]
+fn nothing_of_the_header_is_left_out() {
+    let folder = Path::new(env!("CARGO_MANIFEST_DIR"));
+    let header = std::fs::read_to_string(folder.join("../../include/niulassenc.h")).expect("there");
+    let program = std::fs::read_to_string(folder.join("tests/header.c")).expect("there");
+    let begin = header.find("enum niulassenc_code {").expect("the codes");
+    let codes = header[begin..].lines().skip(1);
+    let codes = codes.take_while(|line| !line.starts_with('}'));
+    let codes = codes.filter_map(|line| line.trim_start().strip_prefix("NIULASSENC_"));
+    let codes = codes.map(|line| line.split(' ').next().unwrap_or_default());
+    let codes: Vec<&str> = codes
+        .filter(|&name| name != "DONE" && name != "PENDING")
+        .collect();
+    assert_eq!(codes.len(), Refusal::ALL.len());
+    let macros = header
+        .lines()
+        .filter_map(|line| line.strip_prefix("#define NIULASSENC_"));
+    let limits: Vec<&str> = macros
+        .filter_map(|rest| {
+            let (name, value) = rest.split_once(' ')?;
+            let number = value.starts_with(|first: char| first.is_ascii_digit());
+            (number && !name.starts_with("VERSION")).then_some(name)
+        })
+        .collect();
+    assert_eq!(limits.len(), 12);
+    for name in codes {
+        assert!(program.contains(&format!("CODE({name});")), "{name}");
+    }
+    for name in limits {
+        assert!(program.contains(&format!("LIMIT({name});")), "{name}");
+    }
+}
+
+#[test]
+fn crate_and_archive_go_together() {
+    assert!(niulassenc::matches());
+    assert_eq!(niulassenc::version(), VERSION);
+    let parts = env!("CARGO_PKG_VERSION").split('.');
+    let parts = parts.map(|part| part.parse::<u32>().expect("a number"));
+    assert_eq!(parts.fold(0, |sum, part| sum * 256 + part), VERSION);
+}

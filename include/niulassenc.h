@@ -1,0 +1,326 @@
+/*
+ * niulassenc: a tunnel endpoint for VXLAN (RFC 7348), NVGRE (RFC 7637) and STT (draft-davie-stt-06), without a heap.
+ *
+ * The functions are those of the crate `niulassenc`: each is proved to do what its contract there says, for every input. What is
+ * not proved is that a caller keeps the rules of this header. They are few:
+ *
+ * - Header and archive are of one version: niulassenc_matches() says so. Ask it once, before anything else.
+ * - A pointer is never NULL, not even where its length is 0, and is aligned for its type.
+ * - What one call is given does not overlap: endpoint, packet and memory are three separate objects, and so are endpoint,
+ *   frame and output.
+ * - An endpoint comes from niulassenc_start. It is plain data: it holds no pointer, may be copied, and needs no clean-up.
+ *   Its fields may be read. Only the functions write it.
+ * - Calls on one endpoint do not run at the same time; only wraps may, with each other, since they only read it. Calls on
+ *   different endpoints with different memories may: there is no state outside what a call is given.
+ * - Reassembly memory belongs to one endpoint. It may contain anything at first, and each receive is given it as the last one
+ *   left it. Where somebody else writes it, a receive stays safe and delivers what it finds there.
+ *
+ * An address is a number: 10.0.0.1 is 0x0a000001. So are a port and a network id: none is in network byte order. Settings and
+ * numbers of peers, bindings, tenants and segments are 32 bits wide, so that one that is too large is refused and not cut off.
+ *
+ * C11 or C++11, or later; x86-64 Linux. docs/EMBEDDING.md is the guide.
+ */
+#ifndef NIULASSENC_H
+#define NIULASSENC_H
+
+#include <stdbool.h>
+#include <stddef.h>
+#include <stdint.h>
+
+#ifdef __cplusplus
+extern "C" {
+#endif
+
+/* The version of this header. niulassenc_version() gives the archive's in the same form. */
+#define NIULASSENC_VERSION_MAJOR 0
+#define NIULASSENC_VERSION_MINOR 2
+#define NIULASSENC_VERSION_PATCH 0
+#define NIULASSENC_VERSION \
+    (NIULASSENC_VERSION_MAJOR * 0x10000u + NIULASSENC_VERSION_MINOR * 0x100u + NIULASSENC_VERSION_PATCH)
+
+/* Limits. */
+#define NIULASSENC_PEERS 8            /* peers of an endpoint */
+#define NIULASSENC_BINDINGS 64        /* bindings of an endpoint */
+#define NIULASSENC_SLOTS 4            /* STT frames that may be pending from one peer */
+#define NIULASSENC_MTU_MIN 576        /* largest outer packet that is written: from */
+#define NIULASSENC_MTU_MAX 1600       /* to */
+#define NIULASSENC_FRAME_MIN 14       /* inner frame, in bytes: from */
+#define NIULASSENC_FRAME_MAX 1514     /* to */
+#define NIULASSENC_SEGMENTS_MAX 3     /* STT segments of one frame, at the smallest MTU */
+#define NIULASSENC_TICKS 4            /* a pending frame is given up at this tick after its first segment */
+#define NIULASSENC_SLOT_BYTES 1728    /* reassembly memory of one slot */
+#define NIULASSENC_MEMORY_BYTES 55296 /* reassembly memory that a receive needs: 8 peers of 4 slots */
+
+/* What stands for a tenant, a binding or a number that is not there. 0xFFFF is a tenant's number too: the code decides. */
+#define NIULASSENC_NONE 0xFFFF
+
+/* The answers. From 2 on they are refusals: a refused call leaves the endpoint, the memory and the output as they came. The one
+ * exception is 11, 12 or 13 on an STT frame that has become complete: its last segment is stored, and its slot is freed. Later
+ * versions may have more: treat a number that you do not know as a refusal. */
+enum niulassenc_code {
+    NIULASSENC_DONE = 0,                    /* delivered, written or done */
+    NIULASSENC_PENDING = 1,                 /* segment received, its frame not yet complete */
+    NIULASSENC_MEMORY_TOO_SMALL = 2,        /* reassembly memory under 55,296 bytes */
+    NIULASSENC_NOT_IPV4 = 3,                /* under 20 bytes; version not 4; header length under 5 words; total length below
+                                               the header or above the bytes given */
+    NIULASSENC_BAD_IPV4_CHECKSUM = 4,       /* IPv4 header checksum wrong */
+    NIULASSENC_FRAGMENT = 5,                /* more-fragments bit set or fragment offset not 0 */
+    NIULASSENC_NOT_FOR_US = 6,              /* destination is not our address */
+    NIULASSENC_UNKNOWN_PEER = 7,            /* source is not a listed peer */
+    NIULASSENC_UNKNOWN_PROTOCOL = 8,        /* protocol not 17, 6 or 47; or destination port not 4789 (17) or not the STT port
+                                               (6) */
+    NIULASSENC_BAD_TRANSPORT_HEADER = 9,    /* UDP, GRE or TCP-shaped header broken */
+    NIULASSENC_BAD_TRANSPORT_CHECKSUM = 10, /* UDP checksum non-zero and wrong, or TCP checksum wrong */
+    NIULASSENC_BAD_TUNNEL_HEADER = 11,      /* VXLAN, NVGRE or STT frame header wrong */
+    NIULASSENC_NO_BINDING = 12,             /* no binding for this peer, kind and network id */
+    NIULASSENC_BAD_FRAME = 13,              /* inner frame not 14 to 1,514 bytes, or tagged (0x8100, 0x88A8) */
+    NIULASSENC_BAD_SEGMENT = 14,            /* segment empty; frame length outside 32 to 1,532; offset plus segment above it */
+    NIULASSENC_LENGTH_DIFFERS = 15,         /* a frame pending from this peer has this identifier and another length */
+    NIULASSENC_ALREADY_RECEIVED = 16,       /* some byte of the segment was received already */
+    NIULASSENC_NO_SLOT = 17,                /* a new identifier, and the peer's four slots are taken */
+    NIULASSENC_OUT_OF_RANGE = 18,           /* a setting or binding outside its range, or naming a peer not listed */
+    NIULASSENC_ALREADY_LISTED = 19,         /* peer or binding already listed */
+    NIULASSENC_FULL = 20,                   /* 8 peers or 64 bindings are listed already */
+    NIULASSENC_OUTPUT_TOO_SHORT = 21,       /* output shorter than the packet */
+    NIULASSENC_EXCEEDS_MTU = 22,            /* VXLAN or NVGRE packet would exceed the MTU */
+    NIULASSENC_NO_SUCH = 23                 /* no such binding, or no such segment number */
+};
+
+enum niulassenc_kind {
+    NIULASSENC_VXLAN = 1, /* ids 0 to 16,777,215 */
+    NIULASSENC_NVGRE = 2, /* ids 4,096 to 16,777,214 */
+    NIULASSENC_STT = 3    /* any 64-bit Context ID */
+};
+
+/* A slot of the reassembly memory: a pending STT frame, or free, every number 0. */
+struct niulassenc_slot {
+    uint32_t identifier;
+    uint16_t frame_length; /* of the STT frame, its 18-byte header included */
+    uint8_t age;           /* ticks since its first segment: 0 to 3 */
+    bool pending;
+};
+
+struct niulassenc_peer {
+    struct niulassenc_slot slots[NIULASSENC_SLOTS];
+};
+
+/* An endpoint. Peer i is peers[i] and addresses[i]. Binding i is networks[i], tenants[i], kinds[i] and owners[i], the number of
+ * its peer. */
+struct niulassenc_endpoint {
+    uint64_t networks[NIULASSENC_BINDINGS];
+    struct niulassenc_peer peers[NIULASSENC_PEERS];
+    uint32_t addresses[NIULASSENC_PEERS];
+    uint32_t own;
+    uint16_t tenants[NIULASSENC_BINDINGS];
+    uint16_t port;
+    uint16_t mtu;
+    uint16_t peer_count;
+    uint16_t binding_count;
+    uint8_t kinds[NIULASSENC_BINDINGS];
+    uint8_t owners[NIULASSENC_BINDINGS];
+};
+
+/* What a start gives. A refused one (18) gives an endpoint with every number 0: adding to it is 18. */
+struct niulassenc_started {
+    struct niulassenc_endpoint endpoint;
+    uint8_t code;
+};
+
+/* What an adding call gives: the number of the new peer or binding, NIULASSENC_NONE where the code is not 0. */
+struct niulassenc_addition {
+    uint16_t number;
+    uint8_t code;
+};
+
+/* What a receive gives. Code 0: the frame is `length` bytes from `start` on, of the memory or else of the packet, and goes to
+ * the tenant. Any other code: tenant and binding are NIULASSENC_NONE, and the place is empty (0, 0, in the packet). */
+struct niulassenc_receipt {
+    size_t start;
+    size_t length;
+    uint16_t tenant;
+    uint16_t binding;
+    uint8_t code;
+    bool in_memory;
+};
+
+/* What a wrap gives: the length of the packet that was written, and how many segments its frame has. Both are 0 where the
+ * code is not 0. */
+struct niulassenc_writing {
+    size_t length;
+    uint32_t segments;
+    uint8_t code;
+};
+
+/* Where the part of a place lies: `length` bytes from `start` on, of the memory or else of the packet. */
+struct niulassenc_part_at {
+    size_t start;
+    size_t length;
+    bool in_memory;
+};
+
+/* The layout that the archive has. Where a compiler lays out otherwise, or the target is another one, nothing is built. */
+#ifdef __cplusplus
+#define NIULASSENC_HOLDS(fact) static_assert(fact, "niulassenc.h: " #fact)
+#else
+#define NIULASSENC_HOLDS(fact) _Static_assert(fact, "niulassenc.h: " #fact)
+#endif
+#define NIULASSENC_SIZE(type, bytes) NIULASSENC_HOLDS(sizeof(struct type) == (bytes))
+#define NIULASSENC_AT(type, field, offset) NIULASSENC_HOLDS(offsetof(struct type, field) == (offset))
+
+NIULASSENC_HOLDS(sizeof(size_t) == 8);
+NIULASSENC_HOLDS(sizeof(bool) == 1);
+NIULASSENC_HOLDS(NIULASSENC_MEMORY_BYTES == NIULASSENC_PEERS * NIULASSENC_SLOTS * NIULASSENC_SLOT_BYTES);
+
+NIULASSENC_SIZE(niulassenc_slot, 8);
+NIULASSENC_AT(niulassenc_slot, identifier, 0);
+NIULASSENC_AT(niulassenc_slot, frame_length, 4);
+NIULASSENC_AT(niulassenc_slot, age, 6);
+NIULASSENC_AT(niulassenc_slot, pending, 7);
+
+NIULASSENC_SIZE(niulassenc_peer, 32);
+NIULASSENC_AT(niulassenc_peer, slots, 0);
+
+NIULASSENC_SIZE(niulassenc_endpoint, 1072);
+NIULASSENC_AT(niulassenc_endpoint, networks, 0);
+NIULASSENC_AT(niulassenc_endpoint, peers, 512);
+NIULASSENC_AT(niulassenc_endpoint, addresses, 768);
+NIULASSENC_AT(niulassenc_endpoint, own, 800);
+NIULASSENC_AT(niulassenc_endpoint, tenants, 804);
+NIULASSENC_AT(niulassenc_endpoint, port, 932);
+NIULASSENC_AT(niulassenc_endpoint, mtu, 934);
+NIULASSENC_AT(niulassenc_endpoint, peer_count, 936);
+NIULASSENC_AT(niulassenc_endpoint, binding_count, 938);
+NIULASSENC_AT(niulassenc_endpoint, kinds, 940);
+NIULASSENC_AT(niulassenc_endpoint, owners, 1004);
+
+NIULASSENC_SIZE(niulassenc_started, 1080);
+NIULASSENC_AT(niulassenc_started, endpoint, 0);
+NIULASSENC_AT(niulassenc_started, code, 1072);
+
+NIULASSENC_SIZE(niulassenc_addition, 4);
+NIULASSENC_AT(niulassenc_addition, number, 0);
+NIULASSENC_AT(niulassenc_addition, code, 2);
+
+NIULASSENC_SIZE(niulassenc_receipt, 24);
+NIULASSENC_AT(niulassenc_receipt, start, 0);
+NIULASSENC_AT(niulassenc_receipt, length, 8);
+NIULASSENC_AT(niulassenc_receipt, tenant, 16);
+NIULASSENC_AT(niulassenc_receipt, binding, 18);
+NIULASSENC_AT(niulassenc_receipt, code, 20);
+NIULASSENC_AT(niulassenc_receipt, in_memory, 21);
+
+NIULASSENC_SIZE(niulassenc_writing, 16);
+NIULASSENC_AT(niulassenc_writing, length, 0);
+NIULASSENC_AT(niulassenc_writing, segments, 8);
+NIULASSENC_AT(niulassenc_writing, code, 12);
+
+NIULASSENC_SIZE(niulassenc_part_at, 24);
+NIULASSENC_AT(niulassenc_part_at, start, 0);
+NIULASSENC_AT(niulassenc_part_at, length, 8);
+NIULASSENC_AT(niulassenc_part_at, in_memory, 16);
+
+#undef NIULASSENC_AT
+#undef NIULASSENC_SIZE
+#undef NIULASSENC_HOLDS
+
+/* The archive's version, in the form of NIULASSENC_VERSION. */
+uint32_t niulassenc_version(void);
+
+/* The bytes of an endpoint, as the archive has it. */
+uint32_t niulassenc_endpoint_bytes(void);
+
+/* Whether header and archive go together. Where they do not, make no other call: one that writes the endpoint could write past
+ * the struct that this header declares. */
+static inline bool niulassenc_matches(void)
+{
+    return niulassenc_version() == NIULASSENC_VERSION && niulassenc_endpoint_bytes() == sizeof(struct niulassenc_endpoint);
+}
+
+/* Starts an endpoint: own address, port of STT (1 to 65,535), largest outer packet that is written (576 to 1,600): 18. */
+struct niulassenc_started niulassenc_start(uint32_t own, uint32_t port, uint32_t mtu);
+
+/* Lists a peer: 18, 19, 20. */
+struct niulassenc_addition niulassenc_add_peer(struct niulassenc_endpoint *endpoint, uint32_t address);
+
+/* Binds a network of a listed peer to a tenant, 0 to 65,535: 18, 19, 20. The kind is one of enum niulassenc_kind. */
+struct niulassenc_addition niulassenc_add_binding(struct niulassenc_endpoint *endpoint, uint32_t peer, uint32_t kind,
+                                                  uint64_t network, uint32_t tenant);
+
+/* Receives an outer packet, from the first byte of its IPv4 header on; bytes past its total length are ignored: 1 to 17. A frame
+ * in the packet is good as long as the packet is left as it is; one in the memory, until the next receive with that memory. */
+struct niulassenc_receipt niulassenc_receive(struct niulassenc_endpoint *endpoint, const uint8_t *packet,
+                                             size_t packet_length, uint8_t *memory, size_t memory_length);
+
+/* A tick: every pending frame grows older by 1, and those that reach 4 are given up. How long one lasts is the caller's choice.
+ * The answer is always 0. */
+uint8_t niulassenc_tick(struct niulassenc_endpoint *endpoint);
+
+/* Wraps a frame (14 to 1,514 bytes, untagged) for the binding: the outer packet that carries it, or its segment of this
+ * number, is written at the front of the output, and no byte behind it is touched: 13, 21, 22, 23. Segments count from 0 and
+ * are asked for one a call; VXLAN and NVGRE have segment 0 only. The identifier names the STT frame: all its segments take the
+ * same one, and frames that are pending at a peer at once take different ones. A packet is never longer than the MTU. */
+struct niulassenc_writing niulassenc_wrap(const struct niulassenc_endpoint *endpoint, uint32_t binding, const uint8_t *frame,
+                                          size_t frame_length, uint32_t segment, uint32_t identifier, uint8_t *output,
+                                          size_t output_length);
+
+/* The part to cut for a place, given the lengths of the packet and of the memory: the place itself where it fits, else the empty
+ * part at the packet's start (0, 0, in the packet). What it gives always fits. */
+struct niulassenc_part_at niulassenc_cut(size_t packet_length, size_t memory_length, size_t start, size_t length,
+                                         bool in_memory);
+
+/* A part of the packet or of the memory. */
+struct niulassenc_part {
+    const uint8_t *bytes;
+    size_t length;
+};
+
+/* The frame of a receipt, where it lies: nothing is copied. Where nothing was delivered, the empty part at the packet's start.
+ * niulassenc_cut decides; here a pointer is added. */
+static inline struct niulassenc_part niulassenc_view(const uint8_t *packet, size_t packet_length, const uint8_t *memory,
+                                                     size_t memory_length, struct niulassenc_receipt receipt)
+{
+    struct niulassenc_part_at at =
+        niulassenc_cut(packet_length, memory_length, receipt.start, receipt.length, receipt.in_memory);
+    struct niulassenc_part part = {(at.in_memory ? memory : packet) + at.start, at.length};
+
+    return part;
+}
+
+/* A short text for a code, for a log; "unknown code" for one that this header does not have. */
+static inline const char *niulassenc_text(uint32_t code)
+{
+    static const char *const texts[] = {
+        "done",
+        "segment received, frame not yet complete",
+        "reassembly memory too small",
+        "not an IPv4 packet, or cut short",
+        "IPv4 header checksum wrong",
+        "IPv4 fragment",
+        "not for our address",
+        "sender is not a listed peer",
+        "not VXLAN, NVGRE or STT",
+        "UDP, GRE or TCP header broken",
+        "UDP or TCP checksum wrong",
+        "tunnel header wrong",
+        "no binding for this network of the peer",
+        "inner frame too short, too long or tagged",
+        "segment empty or outside its frame",
+        "identifier pending with another frame length",
+        "segment received already",
+        "the peer's slots are all taken",
+        "setting or binding out of range",
+        "already listed",
+        "no room for another peer or binding",
+        "output too short for the packet",
+        "packet would exceed the MTU",
+        "no such binding or segment",
+    };
+
+    return code < sizeof texts / sizeof *texts ? texts[code] : "unknown code";
+}
+
+#ifdef __cplusplus
+}
+#endif
+
+#endif
