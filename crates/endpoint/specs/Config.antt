@@ -80,6 +80,13 @@ lent networks kinds owners tenants addresses own port mtu peers bindings = recor
   owners = owners;
 }
 
+-- what a function that adds a peer knows of an endpoint, and what one that adds a binding knows
+abbrev pub peersOf : (addresses : List ℕ) (own port count : ℕ) → Endpoint
+peersOf addresses own port count = lent [] [] [] [] addresses own port 0 count 0
+
+abbrev pub bindingsOf : (networks kinds owners tenants : List ℕ) (peers count : ℕ) → Endpoint
+bindingsOf networks kinds owners tenants peers count = lent networks kinds owners tenants [] 0 0 0 peers count
+
 -- ---- lookups: the lowest-numbered one that matches
 
 -- number i of these addresses is this one

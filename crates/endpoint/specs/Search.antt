@@ -2,11 +2,13 @@
 -- Assumes nothing.
 use mathlib.Core.Option.{Option, none, some}
 use Prim.Native.Nat.{ℕ}
+use Rattle.endpoint.specs.declared.answer.Drop.{Drop}
 use Rattle.endpoint.specs.declared.search.Found.{Found}
 use Rattle.endpoint.specs.declared.search.Found.the-variants as F
 unfoldable pub use Rattle.reassembly.specs.Search.{from, lowest}
 pub use Rattle.reassembly.specs.Search.{Lowest}
 
-abbrev pub foundOf : Option ℕ → Found
-foundOf none = F.Nothing
-foundOf (some i) = F.At i
+-- as the code answers it: the number, or the refusal where the listing ends
+abbrev pub foundOf : Drop → Option ℕ → Found
+foundOf d none = F.Refused d
+foundOf d (some i) = F.At i

@@ -5,7 +5,7 @@ ghost use Rattle.endpoint.specs.Answer.{startCode, addedValuesOf};
 ghost use Rattle.wire.specs.Table.{numbered};
 ghost use Rattle.endpoint.specs.Table.{startRows, addPeerRows, addBindingRows};
 ghost use Rattle.endpoint.specs.Demand1.{StartRule, AddRule, PeerAdded, BindingAdded};
-ghost use Rattle.endpoint.specs.Config.{isNetwork, startOf, refusedStart, addPeerOf, addBindingOf, freeRow, fresh, lent};
+ghost use Rattle.endpoint.specs.Config.{isNetwork, startOf, refusedStart, addPeerOf, addBindingOf, freeRow, fresh, lent, peersOf, bindingsOf};
 use crate::answer::Added;
 use crate::answer::ConfigRefusal;
 use crate::answer::Start;
@@ -124,9 +124,9 @@ pub fn list_peer(
     port: u16,
     address: u32,
 ) -> Added
-    ensures { λ r. ⌜ r ≡ addPeerOf (lent [] [] [] [] (now (addresses .entry)) own port 0 (now (count .entry)) 0) address .answer ⌝ }
-    ensures { λ _. ⌜ now (addresses .exit) ≡ addPeerOf (lent [] [] [] [] (now (addresses .entry)) own port 0 (now (count .entry)) 0) address .endpoint .addresses ⌝ }
-    ensures { λ _. ⌜ now (count .exit) ≡ addPeerOf (lent [] [] [] [] (now (addresses .entry)) own port 0 (now (count .entry)) 0) address .endpoint .«peer_count» ⌝ }
+    ensures { λ r. ⌜ r ≡ addPeerOf (peersOf (now (addresses .entry)) own port (now (count .entry))) address .answer ⌝ }
+    ensures { λ _. ⌜ now (addresses .exit) ≡ addPeerOf (peersOf (now (addresses .entry)) own port (now (count .entry))) address .endpoint .addresses ⌝ }
+    ensures { λ _. ⌜ now (count .exit) ≡ addPeerOf (peersOf (now (addresses .entry)) own port (now (count .entry))) address .endpoint .«peer_count» ⌝ }
 {
     if port == 0 {
         return Added::Refused(ConfigRefusal::OutOfRange);
@@ -202,12 +202,24 @@ pub fn list_binding(
     network: u64,
     tenant: u32,
 ) -> Added
-    ensures { λ r. ⌜ r ≡ addBindingOf (lent (now (networks .entry)) (now (kinds .entry)) (now (owners .entry)) (now (tenants .entry)) [] 0 0 0 «peer_count» (now (count .entry))) peer kind network tenant .answer ⌝ }
-    ensures { λ _. ⌜ now (networks .exit) ≡ addBindingOf (lent (now (networks .entry)) (now (kinds .entry)) (now (owners .entry)) (now (tenants .entry)) [] 0 0 0 «peer_count» (now (count .entry))) peer kind network tenant .endpoint .networks ⌝ }
-    ensures { λ _. ⌜ now (kinds .exit) ≡ addBindingOf (lent (now (networks .entry)) (now (kinds .entry)) (now (owners .entry)) (now (tenants .entry)) [] 0 0 0 «peer_count» (now (count .entry))) peer kind network tenant .endpoint .kinds ⌝ }
-    ensures { λ _. ⌜ now (owners .exit) ≡ addBindingOf (lent (now (networks .entry)) (now (kinds .entry)) (now (owners .entry)) (now (tenants .entry)) [] 0 0 0 «peer_count» (now (count .entry))) peer kind network tenant .endpoint .owners ⌝ }
-    ensures { λ _. ⌜ now (tenants .exit) ≡ addBindingOf (lent (now (networks .entry)) (now (kinds .entry)) (now (owners .entry)) (now (tenants .entry)) [] 0 0 0 «peer_count» (now (count .entry))) peer kind network tenant .endpoint .tenants ⌝ }
-    ensures { λ _. ⌜ now (count .exit) ≡ addBindingOf (lent (now (networks .entry)) (now (kinds .entry)) (now (owners .entry)) (now (tenants .entry)) [] 0 0 0 «peer_count» (now (count .entry))) peer kind network tenant .endpoint .«binding_count» ⌝ }
+    ensures { λ r. ⌜ r ≡ addBindingOf
+        (bindingsOf (now (networks .entry)) (now (kinds .entry)) (now (owners .entry)) (now (tenants .entry)) «peer_count» (now (count .entry)))
+        peer kind network tenant .answer ⌝ }
+    ensures { λ _. ⌜ now (networks .exit) ≡ addBindingOf
+        (bindingsOf (now (networks .entry)) (now (kinds .entry)) (now (owners .entry)) (now (tenants .entry)) «peer_count» (now (count .entry)))
+        peer kind network tenant .endpoint .networks ⌝ }
+    ensures { λ _. ⌜ now (kinds .exit) ≡ addBindingOf
+        (bindingsOf (now (networks .entry)) (now (kinds .entry)) (now (owners .entry)) (now (tenants .entry)) «peer_count» (now (count .entry)))
+        peer kind network tenant .endpoint .kinds ⌝ }
+    ensures { λ _. ⌜ now (owners .exit) ≡ addBindingOf
+        (bindingsOf (now (networks .entry)) (now (kinds .entry)) (now (owners .entry)) (now (tenants .entry)) «peer_count» (now (count .entry)))
+        peer kind network tenant .endpoint .owners ⌝ }
+    ensures { λ _. ⌜ now (tenants .exit) ≡ addBindingOf
+        (bindingsOf (now (networks .entry)) (now (kinds .entry)) (now (owners .entry)) (now (tenants .entry)) «peer_count» (now (count .entry)))
+        peer kind network tenant .endpoint .tenants ⌝ }
+    ensures { λ _. ⌜ now (count .exit) ≡ addBindingOf
+        (bindingsOf (now (networks .entry)) (now (kinds .entry)) (now (owners .entry)) (now (tenants .entry)) «peer_count» (now (count .entry)))
+        peer kind network tenant .endpoint .«binding_count» ⌝ }
 {
     let owner = peer as usize;
     if least(peer_count as usize, 8) <= owner {

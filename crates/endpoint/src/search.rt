@@ -1,12 +1,15 @@
 // Lookups (document 01, "Listing and numbers"): the lowest-numbered peer or binding that matches.
 ghost use mathlib.Core.Path.{_≡_};
 ghost use Prim.Native.Nat.{_≤_, min};
+ghost use Rattle.endpoint.specs.declared.answer.Drop.the-variants as D;
 ghost use Rattle.endpoint.specs.Search.{lowest, foundOf};
 ghost use Rattle.endpoint.specs.Config.{hasAddress, binds};
+use crate::answer::Drop;
 
+// The number that matches, or the refusal where the listing ends.
 pub enum Found {
     At(usize),
-    Nothing,
+    Refused(Drop),
 }
 
 // The smaller of two numbers.
@@ -23,28 +26,29 @@ fn wide(x: u8) -> usize
     x as usize
 }
 
-// The lowest of the first n peers that has this address. The loop goes over all eight, whatever n is: with a fixed number of turns a turn takes three instructions.
+// The lowest of the first n peers that has this address, or 7. The loop goes over all eight, whatever n is: with a fixed number of turns a
+// turn takes three instructions.
 pub(crate) fn find_peer(addresses: &[u32; 8], n: usize, address: u32) -> Found
     requires { ⌜ n ≤ 8 ⌝ }
-    ensures { λ r. ⌜ r ≡ foundOf (lowest (hasAddress (now (addresses .entry)) address) n) ⌝ }
+    ensures { λ r. ⌜ r ≡ foundOf D.Peer (lowest (hasAddress (now (addresses .entry)) address) n) ⌝ }
 {
     let mut i: usize = 0;
     let found = loop {
         if 8 <= i {
-            break Found::Nothing;
+            break Found::Refused(Drop::Peer);
         }
         if addresses[i] == address {
             if i < n {
                 break Found::At(i);
             }
-            break Found::Nothing;
+            break Found::Refused(Drop::Peer);
         }
         i += 1;
     };
     found
 }
 
-// The lowest of the first n bindings that has this network, kind and peer. The loop goes over all 64, whatever n is, as above.
+// The lowest of the first n bindings that has this network, kind and peer, or 12.
 pub(crate) fn find_binding<'a>(
     networks: &'a [u64; 64],
     kinds: &'a [u8; 64],
@@ -55,20 +59,17 @@ pub(crate) fn find_binding<'a>(
     network: u64,
 ) -> Found
     requires { ⌜ n ≤ 64 ⌝ }
-    ensures { λ r. ⌜ r ≡ foundOf (lowest (binds (now (networks .entry)) (now (kinds .entry)) (now (owners .entry)) peer kind network) n) ⌝ }
+    ensures { λ r. ⌜ r ≡ foundOf D.Binding (lowest (binds (now (networks .entry)) (now (kinds .entry)) (now (owners .entry)) peer kind network) n) ⌝ }
 {
     let mut i: usize = 0;
     let found = loop {
-        if 64 <= i {
-            break Found::Nothing;
+        if n <= i {
+            break Found::Refused(Drop::Binding);
         }
         if networks[i] == network {
             if kinds[i] == kind {
                 if wide(owners[i]) == peer {
-                    if i < n {
-                        break Found::At(i);
-                    }
-                    break Found::Nothing;
+                    break Found::At(i);
                 }
             }
         }

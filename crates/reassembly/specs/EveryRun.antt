@@ -107,6 +107,8 @@ module _ (W : Answers) (Config : Type 0) (U : Layers W Config) (p : ℕ) (e : En
 
   -- ---- THE STATEMENT, of every run from a set-up, for peer p
   pub record EveryRun : Type 0 where
+    -- at first no segment is taken
+    pub begins : (m : List ℕ) (s : ℕ) → history m [] .taken s ≡ []
     -- a frame is pending exactly while the run says so: three ticks at most since it opened, and at the fourth it is not
     pub stands : (m : List ℕ) → 55296 ≤ length m → (es : List Event) (s : ℕ) → s < 4
         → Stands (getD (getD (after m es .ends .rows) p noRow .slots) s free) (history m es .taken s) (history m es .ticks s)

@@ -16,12 +16,14 @@ use Rattle.wire.specs.Laws.Checks.{At, given, decided}
 use Rattle.endpoint.specs.declared.answer.Added.{Added}
 use Rattle.endpoint.specs.declared.answer.Added.the-variants as A
 use Rattle.endpoint.specs.declared.answer.Start.the-variants as S
+use Rattle.endpoint.specs.declared.answer.Drop.{Drop}
+use Rattle.endpoint.specs.declared.answer.Drop.the-variants as D
 use Rattle.endpoint.specs.declared.search.Found.{Found}
 use Rattle.endpoint.specs.declared.search.Found.the-variants as F
 use Rattle.endpoint.specs.declared.config.Endpoint.{Endpoint}
 use Rattle.endpoint.specs.declared.config.Configured.{Configured}
 use Rattle.endpoint.specs.Search.{lowest, foundOf}
-use Rattle.endpoint.specs.Config.{configOf, hasAddress, findPeer, binds, findBinding, isSome, fresh, startChecks, refusedStart, startOf, refusedAdd, addPeerChecks, withAddress, addPeerOf, isNetwork, addBindingChecks, withBinding, addBindingOf, lent}
+use Rattle.endpoint.specs.Config.{configOf, hasAddress, findPeer, binds, findBinding, isSome, fresh, startChecks, refusedStart, startOf, refusedAdd, addPeerChecks, withAddress, addPeerOf, isNetwork, addBindingChecks, withBinding, addBindingOf, peersOf, bindingsOf}
 
 -- ---- ordered checks: behind k that are passed
 
@@ -62,13 +64,6 @@ pull : {R A B : Type 0} (g : A → B) (refused : R → A) (checks : List (Check 
 pull g refused [] accepted = refl
 pull g refused ((true ⇒ r) ∷ checks) accepted = refl
 pull g refused ((false ⇒ r) ∷ checks) accepted = pull g refused checks accepted
-
--- an endpoint of which only this is told
-abbrev pub peersOf : (addresses : List ℕ) (own port count : ℕ) → Endpoint
-peersOf addresses own port count = lent [] [] [] [] addresses own port 0 count 0
-
-abbrev pub bindingsOf : (networks kinds owners tenants : List ℕ) (peers count : ℕ) → Endpoint
-bindingsOf networks kinds owners tenants peers count = lent networks kinds owners tenants [] 0 0 0 peers count
 
 -- the endpoint e with these peers, and with these bindings
 abbrev pub withPeers : Endpoint → (addresses : List ℕ) (count : ℕ) → Endpoint
@@ -111,19 +106,22 @@ module _ (addresses : List ℕ) (own port count address : ℕ) where
 
   -- its exit number n
   pub list-peer-exit : (n : ℕ) → At (addPeerChecks (peersOf addresses own port count) address) n
-      → let c = given (refusedAdd (peersOf addresses own port count)) (addPeerChecks (peersOf addresses own port count) address) (peerAdded (peersOf addresses own port count) address) n in
+      → let c = given (refusedAdd (peersOf addresses own port count)) (addPeerChecks (peersOf addresses own port count) address) (peerAdded
+      (peersOf addresses own port count) address) n in
       ListedPeer (c .answer) (c .endpoint .addresses) (c .endpoint .«peer_count»)
   list-peer-exit n p =
       let q = sym (add-peer-exit (peersOf addresses own port count) address n p) in
       (ap (λ (c : Configured). c .answer) q, (ap (λ (c : Configured). c .endpoint .addresses) q, ap (λ (c : Configured). c .endpoint .«peer_count») q))
 
-pub add-peer-out : (e : Endpoint) (address : ℕ) (a : Added) (xs : List ℕ) (n : ℕ) → ListedPeer (e .addresses) (e .own) (e .port) (e .«peer_count») address a xs n
+pub add-peer-out : (e : Endpoint) (address : ℕ) (a : Added) (xs : List ℕ) (n : ℕ)
+    → ListedPeer (e .addresses) (e .own) (e .port) (e .«peer_count») address a xs n
     → record { endpoint = withPeers e xs n; answer = a } ≡ addPeerOf e address
 unfolding addPeerOf addPeerChecks withAddress findPeer configOf
 add-peer-out e address a xs n w =
     let s : Endpoint = peersOf (e .addresses) (e .own) (e .port) (e .«peer_count») in
     rw (w .0, w .1 .0, w .1 .1)
-    (pull (λ (c : Configured). record { endpoint = withPeers e (c .endpoint .addresses) (c .endpoint .«peer_count»); answer = c .answer }) (refusedAdd s) (addPeerChecks s address) (peerAdded s address))
+    (pull (λ (c : Configured). record { endpoint = withPeers e (c .endpoint .addresses) (c .endpoint .«peer_count»); answer = c .answer }) (refusedAdd s)
+    (addPeerChecks s address) (peerAdded s address))
 
 module _ (networks kinds owners tenants : List ℕ) (peers count peer kind network tenant : ℕ) where
   abbrev Told : Endpoint
@@ -149,7 +147,14 @@ module _ (networks kinds owners tenants : List ℕ) (peers count peer kind netwo
           ap (λ (c : Configured). c .endpoint .networks) q,
           (
             ap (λ (c : Configured). c .endpoint .kinds) q,
-            (ap (λ (c : Configured). c .endpoint .owners) q, (ap (λ (c : Configured). c .endpoint .tenants) q, ap (λ (c : Configured). c .endpoint .«binding_count») q)),
+            (
+              ap (λ (c : Configured). c .endpoint .owners) q,
+              (
+                ap (λ (c : Configured). c .endpoint .tenants) q,
+                ap (λ
+                    (c : Configured). c .endpoint .«binding_count») q,
+              ),
+            ),
           ),
         ),
       )
@@ -169,27 +174,28 @@ add-binding-out e peer kind network tenant a ns ks os ts n w =
 -- ---- what a lookup answers, as the test of check 19
 
 abbrev pub isFound : Found → Bool
-isFound F.Nothing = false
+isFound (F.Refused d) = false
 isFound (F.At i) = true
 
-is-found : (o : Option ℕ) → isFound (foundOf o) ≡ isSome o
-is-found none = refl
-is-found (some i) = refl
+is-found : (d : Drop) (o : Option ℕ) → isFound (foundOf d o) ≡ isSome o
+is-found d none = refl
+is-found d (some i) = refl
 
 pub peer-found : (e : Endpoint) (address n : ℕ) (f : Found) → n ≡ min (e .«peer_count») 8
-    → f ≡ foundOf (lowest (hasAddress (e .addresses) address) n) → isSome (findPeer (configOf e) address) ≡ isFound f
+    → f ≡ foundOf D.Peer (lowest (hasAddress (e .addresses) address) n) → isSome (findPeer (configOf e) address) ≡ isFound f
 unfolding findPeer configOf
 peer-found e address n f k r =
-    sym (is-found (lowest (hasAddress (e .addresses) address) (min (e .«peer_count») 8)))
-    ∙ ap (λ (k : ℕ). isFound (foundOf (lowest (hasAddress (e .addresses) address) k))) (sym k)
+    sym (is-found D.Peer (lowest (hasAddress (e .addresses) address) (min (e .«peer_count») 8)))
+    ∙ ap (λ (k : ℕ). isFound (foundOf D.Peer (lowest (hasAddress (e .addresses) address) k))) (sym k)
     ∙ ap isFound (sym r)
 
 pub binding-found : (e : Endpoint) (peer kind network n : ℕ) (f : Found) → n ≡ min (e .«binding_count») 64
-    → f ≡ foundOf (lowest (binds (e .networks) (e .kinds) (e .owners) peer kind network) n) → isSome (findBinding (configOf e) peer kind network) ≡ isFound f
+    → f ≡ foundOf D.Binding (lowest (binds (e .networks) (e .kinds) (e .owners) peer kind network) n)
+    → isSome (findBinding (configOf e) peer kind network) ≡ isFound f
 unfolding findBinding configOf
 binding-found e peer kind network n f k r =
-    sym (is-found (lowest (binds (e .networks) (e .kinds) (e .owners) peer kind network) (min (e .«binding_count») 64)))
-    ∙ ap (λ (k : ℕ). isFound (foundOf (lowest (binds (e .networks) (e .kinds) (e .owners) peer kind network) k))) (sym k)
+    sym (is-found D.Binding (lowest (binds (e .networks) (e .kinds) (e .owners) peer kind network) (min (e .«binding_count») 64)))
+    ∙ ap (λ (k : ℕ). isFound (foundOf D.Binding (lowest (binds (e .networks) (e .kinds) (e .owners) peer kind network) k))) (sym k)
     ∙ ap isFound (sym r)
 
 -- ---- the ids of a kind

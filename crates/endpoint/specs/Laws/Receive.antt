@@ -66,17 +66,16 @@ use Rattle.endpoint.specs.Stages.{carriedFrom, contentFrom, strangerWith
 
 -- ---- a search, as the code makes it
 
-pub found-none : (o : Option ℕ) → foundOf o ≡ L.Nothing → o ≡ none
-found-none none e = refl
-found-none (some i) e = let z : _≡_ {A = ℕ} 0 1 = cc in absurd (omega arith)
+pub found-none : (d x : Drop) (o : Option ℕ) → foundOf d o ≡ L.Refused x → o ≡ none
+found-none d x none e = refl
+found-none d x (some i) e = let z : _≡_ {A = ℕ} 0 1 = cc in absurd (omega arith)
 
-pub found-some : (o : Option ℕ) (i : ℕ) → foundOf o ≡ L.At i → o ≡ some i
-found-some none i e = let z : _≡_ {A = ℕ} 0 1 = cc in absurd (omega arith)
-found-some (some j) i e = cc
+pub found-some : (d : Drop) (o : Option ℕ) (i : ℕ) → foundOf d o ≡ L.At i → o ≡ some i
+found-some d none i e = let z : _≡_ {A = ℕ} 0 1 = cc in absurd (omega arith)
+found-some d (some j) i e = cc
 
--- among as many as the call counted
-pub found-among : (test : ℕ → Bool) (n all : ℕ) (f : Found) → f ≡ foundOf (lowest test n) → n ≡ all → f ≡ foundOf (lowest test all)
-found-among test n all f q s = q ∙ ap (λ (x : ℕ). foundOf (lowest test x)) s
+pub found-among : (d : Drop) (test : ℕ → Bool) (n all : ℕ) (f : Found) → f ≡ foundOf d (lowest test n) → n ≡ all → f ≡ foundOf d (lowest test all)
+found-among d test n all f q s = q ∙ ap (λ (x : ℕ). foundOf d (lowest test x)) s
 
 -- ---- the ways out of what a listed peer's packet brings
 

@@ -10,6 +10,7 @@ use lib.Dec.{eqb}
 use borrow.Author.Tests.{eqb-true, eq-eqb, ne-eqb, eqb-false}
 use Rattle.reassembly.specs.Laws.Base.{and-l, and-r, caseB, clash}
 pub use Rattle.reassembly.specs.Laws.Search.{lowest-some, lowest-none, lowest-is, lowest-not}
+use Rattle.endpoint.specs.declared.answer.Drop.{Drop}
 use Rattle.endpoint.specs.declared.search.Found.the-variants as F
 use Rattle.endpoint.specs.Search.{lowest, foundOf}
 use Rattle.endpoint.specs.Config.{hasAddress, binds}
@@ -17,11 +18,11 @@ use Rattle.endpoint.specs.Config.{hasAddress, binds}
 module _ (test : ℕ → Bool) where
   -- ---- the code's loop: nothing below i passes
 
-  pub found-at : (n i : ℕ) → i < n → ((j : ℕ) → j < i → test j ≡ false) → test i ≡ true → F.At i ≡ foundOf (lowest test n)
-  found-at n i l h e = sym (ap foundOf (lowest-is test n i (record { below = l; passes = e; least = h })))
+  pub found-at : (d : Drop) (n i : ℕ) → i < n → ((j : ℕ) → j < i → test j ≡ false) → test i ≡ true → F.At i ≡ foundOf d (lowest test n)
+  found-at d n i l h e = sym (ap (foundOf d) (lowest-is test n i (record { below = l; passes = e; least = h })))
 
-  pub found-nothing : (n i : ℕ) → n ≤ i → ((j : ℕ) → j < i → test j ≡ false) → F.Nothing ≡ foundOf (lowest test n)
-  found-nothing n i l h = sym (ap foundOf (lowest-not test n (λ j b. h j (omega arith))))
+  pub found-nothing : (d : Drop) (n i : ℕ) → n ≤ i → ((j : ℕ) → j < i → test j ≡ false) → F.Refused d ≡ foundOf d (lowest test n)
+  found-nothing d n i l h = sym (ap (foundOf d) (lowest-not test n (λ j b. h j (omega arith))))
 
 -- ---- the tests, as the code makes them
 

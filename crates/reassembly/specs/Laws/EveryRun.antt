@@ -392,6 +392,7 @@ module _ (W : Answers) (Config : Type 0) (U : Layers W Config) (p : ℕ) (p< : p
   every-from : EveryRun W Config U p (record { config = c; rows = emptyRows })
   every-from =
       record {
+        begins = λ m s. refl;
         stands = λ m o es s l. stand-from m o es .stands s l;
         distinct = λ m o es id s t a b. holds-one (getD (runs W Config U (begun m) es .ends .rows) p noRow .slots) (historyOf W Config U p (begun m) es) (stand-from m o es) id s t a b;
         came = λ m o es s j l. came-at W Config U p c es (takenSince W Config U p (begun m) es s) (reached W Config U p p< c promise m o es .inv .came s) j l;

@@ -8,8 +8,8 @@ use lib.ListN.{take}
 use mathlib.Core.List.{List}
 use Rattle.wire.specs.Checks.{Check, Passed}
 use Rattle.wire.specs.Laws.Checks.{deciding}
-use Rattle.endpoint.specs.Config.{configOf, findBinding, isSome, isNetwork, addBindingChecks, withBinding}
-use Rattle.endpoint.specs.Laws.ConfigExits.{behind, bindingsOf, list-binding-exit, isFound, binding-found, network-kind}
+use Rattle.endpoint.specs.Config.{configOf, findBinding, isSome, isNetwork, addBindingChecks, withBinding, bindingsOf}
+use Rattle.endpoint.specs.Laws.ConfigExits.{behind, list-binding-exit, isFound, binding-found, network-kind}
 use Rattle.endpoint.specs.declared.answer.ConfigRefusal.{ConfigRefusal}
 use Rattle.endpoint.specs.declared.config.Endpoint.{Endpoint}
 use Rattle.endpoint.proofs.config.list_binding.Statement.{statement}
@@ -112,7 +112,11 @@ unfolding addBindingChecks
 returns-5 c =
     let start = c .before .before .before .before .before .before .before .before .before .before .before .before .before .before in
     list-binding-exit _ _ _ _ _ _ _ _ _ _ 4
-    (behind (checks start) 3 1 (ranges (c .before .before .before .before .before .before .before .before .before)) (unlisted (c .before), omega (arith, deciding)))
+    (behind (checks start) 3 1 (ranges (c .before .before .before .before .before .before .before .before .before)) (
+      unlisted (c .before),
+      omega
+          (arith, deciding),
+    ))
 
 mul-networks : tie.Need-mul-networks
 mul-networks c = search needs
@@ -146,7 +150,14 @@ unfolding addBindingChecks withBinding
 returns-6 c =
     let start = c .before .before .before .before .before .before .before .before .before .before .before .before .before .before in
     list-binding-exit _ _ _ _ _ _ _ _ _ _ 5
-    (behind (checks start) 3 2 (ranges (c .before .before .before .before .before .before .before .before .before)) (unlisted (c .before), (omega (arith, deciding), tt)))
+    (behind (checks start) 3 2 (ranges (c .before .before .before .before .before .before .before .before .before)) (
+      unlisted (c .before),
+      (
+        omega
+            (arith, deciding),
+        tt,
+      ),
+    ))
 
 pub list-binding-spec : {M : Type 1} → statement M
 list-binding-spec =

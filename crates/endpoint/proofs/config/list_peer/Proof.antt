@@ -7,8 +7,8 @@ use borrow.Author.Needs.{needs}
 use lib.ListN.{take}
 use Rattle.wire.specs.Checks.{Passed}
 use Rattle.wire.specs.Laws.Checks.{deciding}
-use Rattle.endpoint.specs.Config.{configOf, findPeer, isSome, addPeerChecks, withAddress}
-use Rattle.endpoint.specs.Laws.ConfigExits.{behind, peersOf, list-peer-exit, isFound, peer-found}
+use Rattle.endpoint.specs.Config.{configOf, findPeer, isSome, addPeerChecks, withAddress, peersOf}
+use Rattle.endpoint.specs.Laws.ConfigExits.{behind, list-peer-exit, isFound, peer-found}
 use Rattle.endpoint.specs.declared.config.Endpoint.{Endpoint}
 use Rattle.endpoint.proofs.config.list_peer.Statement.{statement}
 use Rattle.endpoint.proofs.config.list_peer.Tie as tie

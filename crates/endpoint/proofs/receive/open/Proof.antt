@@ -4,6 +4,7 @@ use Prim.Native.Nat.{min}
 use mathlib.Core.Path.{_≡_, _∙_, sym, ap}
 use Rattle.wire.specs.Laws.Ipv4.{ipv4-bounds}
 use Rattle.endpoint.specs.Config.{hasAddress}
+use Rattle.endpoint.specs.declared.answer.Drop.the-variants as D
 use Rattle.endpoint.specs.Search.{lowest, foundOf}
 use Rattle.endpoint.specs.Stages.{ipDrop}
 use Rattle.endpoint.specs.Laws.Receive.{found-none, found-some, found-among, open-memory, open-ip, open-destination, open-stranger, open-peer}
@@ -60,8 +61,8 @@ enum-told-2 c = search needs
 -- the lookup, as check 7 has it
 found : (c : tie.After-find-peer) →
     let a = c .before .before .before .before .before .before .before .before .before .before .args in
-    c .find-peer .result ≡ foundOf (lowest (hasAddress (a .addresses .now) (c .before .before .before .before .before .ip .given .0 .0 .source)) (min (a .peer-count) 8))
-found c = found-among _ _ _ _ (c .find-peer .ensures) (c .before .least .ensures)
+    c .find-peer .result ≡ foundOf D.Peer (lowest (hasAddress (a .addresses .now) (c .before .before .before .before .before .ip .given .0 .0 .source)) (min (a .peer-count) 8))
+found c = found-among _ _ _ _ _ (c .find-peer .ensures) (c .before .least .ensures)
 
 stranger-requires-4 : tie.Need-stranger-requires-4
 stranger-requires-4 c κs = search needs
@@ -69,14 +70,14 @@ stranger-requires-4 c κs = search needs
 returns-4 : tie.Need-returns-4
 returns-4 c =
     c .stranger4 .ensures
-    ∙ open-stranger _ _ _ _ _ _ (c .before .before .before .before .before .before .before .before .before .before .before .if1 .left) _ (sym (c .before .before .before .before .before .before .before .before .before .before .read .ensures) ∙ c .before .before .before .before .before .before .before .before .ip .given .1) (c .before .before .before .before .before .if2 .left) (found-none _ (sym (found (c .before .before .before)) ∙ c .before .enum-told2 .given .1))
+    ∙ open-stranger _ _ _ _ _ _ (c .before .before .before .before .before .before .before .before .before .before .before .if1 .left) _ (sym (c .before .before .before .before .before .before .before .before .before .before .read .ensures) ∙ c .before .before .before .before .before .before .before .before .ip .given .1) (c .before .before .before .before .before .if2 .left) (found-none _ _ _ (sym (found (c .before .before .before)) ∙ c .before .enum-told2 .given .1))
 
 unpack-requires : tie.Need-unpack-requires
 unpack-requires c κs = ipv4-bounds _ _ (sym (c .before .before .before .before .before .before .before .before .before .before .read .ensures) ∙ c .before .before .before .before .before .before .before .before .ip .given .1)
 
 returns-5 : tie.Need-returns-5
 returns-5 c =
-    open-peer _ _ _ _ _ _ (c .before .before .before .before .before .before .before .before .before .before .before .before .if1 .left) _ (sym (c .before .before .before .before .before .before .before .before .before .before .before .read .ensures) ∙ c .before .before .before .before .before .before .before .before .before .ip .given .1) (c .before .before .before .before .before .before .if2 .left) _ _ (found-some _ _ (sym (found (c .before .before .before .before)) ∙ c .before .before .sender .given .1)) (c .unpack .ensures)
+    open-peer _ _ _ _ _ _ (c .before .before .before .before .before .before .before .before .before .before .before .before .if1 .left) _ (sym (c .before .before .before .before .before .before .before .before .before .before .before .read .ensures) ∙ c .before .before .before .before .before .before .before .before .before .ip .given .1) (c .before .before .before .before .before .before .if2 .left) _ _ (found-some _ _ _ (sym (found (c .before .before .before .before)) ∙ c .before .before .sender .given .1)) (c .unpack .ensures)
 
 pub open-spec : {M : Type 1} → statement M
 open-spec =

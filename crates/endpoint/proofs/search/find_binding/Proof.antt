@@ -12,13 +12,13 @@ use Rattle.endpoint.proofs.search.find_binding.Statement.{statement}
 use Rattle.endpoint.proofs.search.find_binding.Tie as tie
 
 abbrev Inv-loop : tie.InvT-loop
-Inv-loop networks kinds owners n peer kind network i₀ i = (i ≤ 64) × ((j : ℕ) → j < i → binds networks kinds owners peer kind network j ≡ false)
+Inv-loop networks kinds owners n peer kind network i₀ i = ((i ≤ n) × (n ≤ 64)) × ((j : ℕ) → j < i → binds networks kinds owners peer kind network j ≡ false)
 
 abbrev μ-loop : tie.MeasureT-loop
-μ-loop networks kinds owners n peer kind network i₀ i = 64 - i
+μ-loop networks kinds owners n peer kind network i₀ i = n - i
 
 loop-holds : tie.Need-loop-holds Inv-loop μ-loop
-loop-holds c = (omega arith, λ j h. absurd (omega arith))
+loop-holds c = ((omega arith, c .pre), λ j h. absurd (omega arith))
 
 mul-if2 : tie.Need-mul-if2 Inv-loop μ-loop
 mul-if2 c = omega arith
@@ -44,25 +44,21 @@ loop-less c = omega arith
 loop-again : tie.Need-loop-again Inv-loop μ-loop
 loop-again c =
     let at = c .before .before .before .loop in (
-      omega arith,
+      (omega arith, at .inv .0 .1),
       more-not _ (at .i) (at .inv .1)
           (⊎-elim (λ v. other-peer _ _ _ _ _ _ (at .i) (v .0 .taken) (v .2 .taken) (λ e. v .5 .left (v .4 .ensures ∙ e)))
           (⊎-elim (λ v. other-kind _ _ _ _ _ _ (at .i) (v .0 .taken) (v .2 .left)) (λ v. other-network _ _ _ _ _ _ (at .i) (v .left))) (c .if2 .came)),
     )
 
 returns : tie.Need-returns Inv-loop μ-loop
-returns c = found-nothing _ _ (c .before .loop .i) (omega arith) (c .before .loop .inv .1)
+returns c = found-nothing _ _ _ (c .before .loop .i) (omega arith) (c .before .loop .inv .1)
 
 returns-2 : tie.Need-returns-2 Inv-loop μ-loop
 returns-2 c =
-    let at = c .before .before .before .before .before .before .before .before .before .loop in
-    found-at _ _ (at .i) (c .if5 .taken) (at .inv .1)
-    (binds-hit _ _ _ _ _ _ (at .i) (c .before .before .before .before .before .before .if2 .taken) (c .before .before .before .before .if3 .taken) (sym (c .before .before .wide .ensures) ∙ c .before .if4 .taken))
-
-returns-3 : tie.Need-returns-3 Inv-loop μ-loop
-returns-3 c =
-    let at = c .before .before .before .before .before .before .before .before .before .loop in
-    found-nothing _ _ (at .i) (omega arith) (at .inv .1)
+    let at = c .before .before .before .before .before .before .before .before .loop in
+    found-at _ _ _ (at .i) (omega arith) (at .inv .1)
+    (binds-hit _ _ _ _ _ _ (at .i) (c .before .before .before .before .before .if2 .taken) (c .before .before .before .if3 .taken) (sym
+    (c .before .wide .ensures) ∙ c .if4 .taken))
 
 pub find-binding-spec : {M : Type 1} → statement M
 find-binding-spec =
@@ -80,5 +76,4 @@ find-binding-spec =
     loop-less
     loop-again
     returns
-    returns-2
-    returns-3)
+    returns-2)

@@ -37,17 +37,18 @@ loop-again c =
     (omega arith, more-not _ (at .i) (at .inv .1) (other-address (c .before .before .before .before .args .addresses .now) _ (at .i) (c .if2 .left)))
 
 returns : tie.Need-returns Inv-loop μ-loop
-returns c = found-nothing _ _ (c .before .loop .i) (omega arith) (c .before .loop .inv .1)
+returns c = found-nothing _ _ _ (c .before .loop .i) (omega arith) (c .before .loop .inv .1)
 
 returns-2 : tie.Need-returns-2 Inv-loop μ-loop
 returns-2 c =
     let at = c .before .before .before .before .loop in
-    found-at _ _ (at .i) (c .if3 .taken) (at .inv .1) (has-address (c .before .before .before .before .before .args .addresses .now) _ (at .i) (c .before .if2 .taken))
+    found-at _ _ _ (at .i) (c .if3 .taken) (at .inv .1) (has-address (c .before .before .before .before .before .args .addresses .now) _ (at .i)
+    (c .before .if2 .taken))
 
 returns-3 : tie.Need-returns-3 Inv-loop μ-loop
 returns-3 c =
     let at = c .before .before .before .before .loop in
-    found-nothing _ _ (at .i) (omega arith) (at .inv .1)
+    found-nothing _ _ _ (at .i) (omega arith) (at .inv .1)
 
 pub find-peer-spec : {M : Type 1} → statement M
 find-peer-spec =

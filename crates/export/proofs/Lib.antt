@@ -1,3 +1,0 @@
--- What the walks of this crate use.
-mod Columns
-mod RowAt

@@ -1,6 +1,0 @@
-// The endpoint for C and Rust: what host/include/niulassenc.h declares. An enum cannot cross that boundary: its numbers do.
-pub mod answer;
-pub mod config;
-pub mod receive;
-pub mod tick;
-pub mod wrap;

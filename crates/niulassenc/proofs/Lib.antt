@@ -1,0 +1,4 @@
+-- What the walks of this crate use.
+mod Columns
+mod RowAt
+mod Fields

@@ -1,0 +1,31 @@
+-- `niulassenc::answer::flat_added` meets its contract.
+-- Assumes nothing.
+use mathlib.Core.Path.{_∙_, sym, ap}
+use Prim.Native.Nat.{ℕ}
+use Rattle.niulassenc.specs.Answer.{additionOf}
+use borrow.Author.Needs.{needs}
+use Rattle.niulassenc.proofs.answer.flat_added.Statement.{statement}
+use Rattle.niulassenc.proofs.answer.flat_added.Tie as tie
+use Rattle.niulassenc.proofs.answer.flat_added.Reads as reads
+use Rattle.niulassenc.proofs.answer.flat_added.Lts as lts
+use Rattle.endpoint.proofs.code.config_code.Reads as config-code-reads
+
+enum-known-answer : tie.Need-enum-known-answer
+enum-known-answer c = search needs
+
+enum-known-answer-2 : tie.Need-enum-known-answer-2
+enum-known-answer-2 c = search needs
+
+config-code-requires : tie.Need-config-code-requires
+config-code-requires c κs = search needs
+
+returns : tie.Need-returns
+returns c = sym (ap additionOf (c .before .answer .given .1))
+
+returns-2 : tie.Need-returns-2
+returns-2 c = ap (λ (n : ℕ). record { number = 65535; code = n }) (c .config-code .ensures) ∙ sym (ap additionOf (c .before .before .answer2 .given .1))
+
+pub flat-added-spec : {M : Type 1} → statement M
+flat-added-spec =
+    tie.close
+    (tie.spec enum-known-answer enum-known-answer-2 config-code-requires returns returns-2)

@@ -1,0 +1,10 @@
+-- The version, and the size of an endpoint in memory.
+-- Assumes nothing.
+use Prim.Native.Nat.{ℕ, _+_, _*_}
+
+abbrev pub versionOf : (major minor patch : ℕ) → ℕ
+versionOf major minor patch = major * 65536 + minor * 256 + patch
+
+-- what the caller sets aside for an endpoint. `proofs/about/niulassenc_endpoint_bytes` holds it to the layout that the code is compiled for
+abbrev pub endpointBytes : ℕ
+endpointBytes = 1072

@@ -1,0 +1,19 @@
+// What a header that is compiled against this library is held to: the version, and how large an endpoint is.
+ghost use mathlib.Core.Path.{_≡_};
+ghost use Rattle.niulassenc.specs.About.{versionOf, endpointBytes};
+
+// 0.2.0: the major number times 65,536, the minor number times 256, and the patch.
+#[no_mangle]
+pub extern "C" fn niulassenc_version() -> u32
+    ensures { λ r. ⌜ r ≡ versionOf 0 2 0 ⌝ }
+{
+    512
+}
+
+// How many bytes a caller's endpoint takes.
+#[no_mangle]
+pub extern "C" fn niulassenc_endpoint_bytes() -> u32
+    ensures { λ r. ⌜ r ≡ endpointBytes ⌝ }
+{
+    1072
+}

@@ -1,0 +1,99 @@
+// The answers as C has them: flat structs of numbers. specs/Answer.antt gives each from the endpoint's own answer.
+ghost use mathlib.Core.Path.{_≡_};
+ghost use Prim.Native.Nat.{_≤_};
+ghost use Rattle.endpoint.specs.Answer.{valuesOf, wrapValuesOf};
+ghost use Rattle.niulassenc.specs.Answer.{flatOf, emptyOf, additionOf, writingOf};
+use endpoint::answer::Added;
+use endpoint::answer::Received;
+use endpoint::answer::Wrapped;
+use endpoint::code;
+
+// A receive's answer. `code` is document 01's number. Where it is not 0 there is no tenant and no binding (both are 0xFFFF), and the place is empty.
+#[repr(C)]
+pub struct Receipt {
+    pub start: usize,
+    pub length: usize,
+    pub tenant: u16,
+    pub binding: u16,
+    pub code: u8,
+    pub in_memory: bool,
+}
+
+// An adding call's answer: the new peer's or binding's number, 0xFFFF where `code` is not 0.
+#[repr(C)]
+pub struct Addition {
+    pub number: u16,
+    pub code: u8,
+}
+
+// A wrap's answer: the length of the packet that was written, and how many segments its frame has. Both are 0 where `code` is not 0.
+#[repr(C)]
+pub struct Writing {
+    pub length: usize,
+    pub segments: u32,
+    pub code: u8,
+}
+
+// A refusal and answer 1 carry the same empties.
+fn empty(code: u8) -> Receipt
+    ensures { λ r. ⌜ r ≡ emptyOf code ⌝ }
+{
+    Receipt {
+        start: 0,
+        length: 0,
+        tenant: 65535,
+        binding: 65535,
+        code: code,
+        in_memory: false,
+    }
+}
+
+// Document 01's number and values of a receive's answer.
+pub(crate) fn flat_received(answer: Received) -> Receipt
+    ensures { λ r. ⌜ r ≡ flatOf (valuesOf answer) ⌝ }
+{
+    match answer {
+        Received::Delivered(t, p) => Receipt {
+            start: p.start,
+            length: p.length,
+            tenant: t.tenant,
+            binding: t.binding,
+            code: 0,
+            in_memory: p.in_memory,
+        },
+        Received::Pending => empty(1),
+        Received::Dropped(d) => empty(code::drop_code(d)),
+    }
+}
+
+// Document 01's number of an adding call's answer, and the number that was given.
+pub(crate) fn flat_added(answer: Added) -> Addition
+    ensures { λ r. ⌜ r ≡ additionOf answer ⌝ }
+{
+    match answer {
+        Added::Number(n) => Addition { number: n, code: 0 },
+        Added::Refused(r) => Addition {
+            number: 65535,
+            code: code::config_code(r),
+        },
+    }
+}
+
+// Document 01's number and values of a wrap's answer. No frame has more segments than bytes.
+pub(crate) fn flat_wrapped(answer: Wrapped) -> Writing
+    requires { ⌜ wrapValuesOf answer .segments ≤ 1532 ⌝ }
+    ensures { λ r. ⌜ r ≡ writingOf (wrapValuesOf answer) ⌝ }
+{
+    match answer {
+        Wrapped::Written(p) => Writing {
+            length: p.length,
+            segments: p.segments as u32,
+            code: 0,
+        },
+        Wrapped::Refused(r) => Writing {
+            length: 0,
+            segments: 0,
+            code: code::wrap_code(r),
+        },
+    }
+}

@@ -1,0 +1,8 @@
+// The endpoint for C and Rust: what host/include/niulassenc.h declares. An enum cannot cross that boundary: its numbers do.
+pub mod about;
+pub mod answer;
+pub mod config;
+pub mod cut;
+pub mod receive;
+pub mod tick;
+pub mod wrap;
