@@ -8,5 +8,5 @@ use Rattle.endpoint.specs.declared.config.Endpoint.{Endpoint}
 use Rattle.endpoint.proofs.config.Endpoint as E
 use Rattle.endpoint.proofs.config.Endpoint.Laws as E′
 
-pub eight-rows : (e : Endpoint) → Is E.the-row e (LL.vals E.the-type E′.the-laws e) → length (e .rows) ≡ 8
-eight-rows e is = sym (length-map (e .rows) _) ∙ LL.owed E.the-type E′.the-laws e (LL.vals E.the-type E′.the-laws e) is .1 .0 .1 .0 .1
+pub eight-rows : (e : Endpoint) → Is E.the-row e (LL.vals E.the-type E′.the-laws e) → length (e .peers) ≡ 8
+eight-rows e is = sym (length-map (e .peers) _) ∙ LL.owed E.the-type E′.the-laws e (LL.vals E.the-type E′.the-laws e) is .1 .0 .1 .0 .1

@@ -1,13 +1,11 @@
 -- Document 01's number and values for each answer ("The numbered answers").
 -- Assumes nothing.
 use Prim.Native.Nat.{ℕ}
-use mathlib.Core.Bool.{Bool, true, false}
 use mathlib.Core.Option.{Option, none, some}
 use Rattle.wire.specs.Refusal as W
 use Rattle.reassembly.specs.Take.{rejectionCode}
 use Rattle.reassembly.specs.Receive as P
 use Rattle.endpoint.specs.declared.answer.Place.{Place}
-use Rattle.endpoint.specs.declared.answer.Target.{Target}
 use Rattle.endpoint.specs.declared.answer.Drop.{Drop}
 use Rattle.endpoint.specs.declared.answer.Drop.the-variants as D
 use Rattle.endpoint.specs.declared.answer.Received.{Received}
@@ -22,7 +20,6 @@ use Rattle.endpoint.specs.declared.answer.Tick.{Tick}
 use Rattle.endpoint.specs.declared.answer.Tick.the-variants as T
 use Rattle.endpoint.specs.declared.answer.WrapRefusal.{WrapRefusal}
 use Rattle.endpoint.specs.declared.answer.WrapRefusal.the-variants as X
-use Rattle.endpoint.specs.declared.answer.Packet.{Packet}
 use Rattle.endpoint.specs.declared.answer.Wrapped.{Wrapped}
 use Rattle.endpoint.specs.declared.answer.Wrapped.the-variants as Y
 
@@ -43,7 +40,8 @@ configCode C.Full = 20
 abbrev pub placeOf : Place → P.Place
 placeOf p = record { inMemory = p .«in_memory»; start = p .start; len = p .length }
 
--- what a receive gives back: its number, and the tenant, binding and place of answer 0. A refusal and answer 1 carry no tenant and no binding, and the empty place
+-- what a receive gives back: its number, and the tenant, binding and place of answer 0. A refusal and answer 1 carry no tenant and no binding, and the empty
+-- place
 pub record Values : Type 0 where
   pub number : ℕ
   pub tenant : Option ℕ

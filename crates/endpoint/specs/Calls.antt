@@ -1,4 +1,5 @@
--- The calls, as their contracts give them, are the steps of the theory of runs: a receive is `receives`, a tick is `next .. tick`, a set-up has every slot free.
+-- The calls, as their contracts give them, are the steps of the theory of runs: a receive is `receives`, a tick is `next .. tick`, a set-up has every slot
+-- free.
 -- So what is proved of `runs` is proved of every list of these calls, each given the endpoint and the memory that the last one left.
 -- Assumes nothing.
 use Prim.Native.Nat.{ℕ}
@@ -9,9 +10,9 @@ use lib.Seq.{set-getD}
 use lib.Dec.{ltb}
 use Rattle.reassembly.specs.Laws.Base.{caseB}
 use Rattle.reassembly.specs.Slots.{noRow}
-use Rattle.reassembly.specs.Receive.{Seen, stranger, plain, segment, Event, receive, tick}
-use Rattle.reassembly.specs.SetUp.{World, Said, receives, saidOf, next, runs, Promised}
-use Rattle.reassembly.specs.declared.slot.Row.{Row}
+use Rattle.reassembly.specs.Receive.{Reading, otherSender, direct, segment, Event, receive, tick}
+use Rattle.reassembly.specs.SetUp.{World, Replied, receives, receiveBy, next, runs, Promised}
+use Rattle.reassembly.specs.declared.slot.Peer.{Peer}
 use Rattle.endpoint.specs.Config.{Config, configOf, tickOf}
 use Rattle.endpoint.specs.Laws.Config.{rows-tick, config-tick}
 use Rattle.endpoint.specs.Receive.{answers, layers, headerOf, Step, rowAt, stepped, stepOf, withRow, worldOf}
@@ -23,29 +24,29 @@ pub use Rattle.endpoint.specs.Run.{Left, called, calls}
 
 -- ---- a row put back
 
-pub config-row : (e : Endpoint) (p : ℕ) (row : Row) → configOf (withRow e p row) ≡ configOf e
+pub config-row : (e : Endpoint) (p : ℕ) (row : Peer) → configOf (withRow e p row) ≡ configOf e
 unfolding configOf
 config-row e p row = refl
 
-pub rows-row : (e : Endpoint) (p : ℕ) (row : Row) → withRow e p row .rows ≡ set (e .rows) p row
+pub rows-row : (e : Endpoint) (p : ℕ) (row : Peer) → withRow e p row .peers ≡ set (e .peers) p row
 rows-row e p row = refl
 
-pub world-row : (e : Endpoint) (p : ℕ) (row : Row) (m : List ℕ)
-    → worldOf (withRow e p row) m ≡ record { ends = record { config = configOf e; rows = set (e .rows) p row }; mem = m }
+pub world-row : (e : Endpoint) (p : ℕ) (row : Peer) (m : List ℕ)
+    → worldOf (withRow e p row) m ≡ record { ends = record { config = configOf e; peers = set (e .peers) p row }; mem = m }
 world-row e p row m = rw (config-row e p row, rows-row e p row)
 
 same-world : (e : Endpoint) (p : ℕ) (m : List ℕ) → worldOf (withRow e p (rowAt e p)) m ≡ worldOf e m
-same-world e p m = world-row e p (getD (e .rows) p noRow) m ∙ rw (set-getD (e .rows) p noRow)
+same-world e p m = world-row e p (getD (e .peers) p noRow) m ∙ rw (set-getD (e .peers) p noRow)
 
 -- ---- a receive
 
 -- what the call answers, and the endpoint and memory that it leaves
-abbrev pub afterStep : Endpoint → Step → Said answers Config layers
+abbrev pub afterStep : Endpoint → Step → Replied answers Config layers
 afterStep e s = record { reply = s .answer; world = worldOf (withRow e (s .peer) (s .row)) (s .mem) }
 
-stepped-is : (e : Endpoint) (m : List ℕ) (x : Seen answers) → afterStep e (stepped e m x) ≡ saidOf answers Config layers (worldOf e m) x
-stepped-is e m (stranger a) = ap (λ (w : World Config). record { reply = a; world = w }) (same-world e 0 m)
-stepped-is e m (plain p a) = ap (λ (w : World Config). record { reply = a; world = w }) (same-world e p m)
+stepped-is : (e : Endpoint) (m : List ℕ) (x : Reading answers) → afterStep e (stepped e m x) ≡ receiveBy answers Config layers (worldOf e m) x
+stepped-is e m (otherSender a) = ap (λ (w : World Config). record { reply = a; world = w }) (same-world e 0 m)
+stepped-is e m (direct p a) = ap (λ (w : World Config). record { reply = a; world = w }) (same-world e p m)
 stepped-is e m (segment p g) =
     ap (λ (w : World Config). record { reply = stepped e m (segment p g) .answer; world = w })
     (world-row e p (stepped e m (segment p g) .row) (stepped e m (segment p g) .mem))
@@ -66,7 +67,7 @@ tick-is e m = rw (config-tick e, rows-tick e)
 
 called-is : (w : Left) (e : Event) → worldOf (called w e .endpoint) (called w e .mem) ≡ next answers Config layers (worldOf (w .endpoint) (w .mem)) e
 called-is w tick = tick-is (w .endpoint) (w .mem)
-called-is w (receive k) = ap (λ (s : Said answers Config layers). s .world) (receive-is (w .endpoint) (w .mem) k)
+called-is w (receive k) = ap (λ (s : Replied answers Config layers). s .world) (receive-is (w .endpoint) (w .mem) k)
 
 pub calls-are : (w : Left) (es : List Event) → worldOf (calls w es .endpoint) (calls w es .mem) ≡ runs answers Config layers (worldOf (w .endpoint) (w .mem)) es
 calls-are w [] = refl

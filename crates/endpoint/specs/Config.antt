@@ -8,7 +8,7 @@ use lib.ListN.{getD, set, replicate}
 use lib.Dec.{ltb, leb, eqb}
 use Rattle.wire.specs.Checks.{Check, _⇒_, first}
 use Rattle.reassembly.specs.Slots.{free, olderRow}
-use Rattle.reassembly.specs.declared.slot.Row.{Row}
+use Rattle.reassembly.specs.declared.slot.Peer.{Peer}
 use Rattle.endpoint.specs.Search.{lowest}
 use Rattle.endpoint.specs.declared.answer.ConfigRefusal.{ConfigRefusal}
 use Rattle.endpoint.specs.declared.answer.ConfigRefusal.the-variants as C
@@ -16,9 +16,9 @@ use Rattle.endpoint.specs.declared.answer.Added.the-variants as A
 use Rattle.endpoint.specs.declared.answer.Start.the-variants as S
 use Rattle.endpoint.specs.declared.answer.Tick.the-variants as T
 use Rattle.endpoint.specs.declared.config.Endpoint.{Endpoint}
-use Rattle.endpoint.specs.declared.config.Configured.{Configured}
-use Rattle.endpoint.specs.declared.config.Started.{Started}
-use Rattle.endpoint.specs.declared.tick.Ticked.{Ticked}
+use Rattle.endpoint.specs.declared.config.AddResult.{AddResult}
+use Rattle.endpoint.specs.declared.config.StartResult.{StartResult}
+use Rattle.endpoint.specs.declared.tick.TickResult.{TickResult}
 
 -- ---- the configuration that an endpoint holds: all of it but the rows of slots
 
@@ -49,10 +49,10 @@ configOf e = record {
 }
 
 -- the endpoint with these rows, and all else as it is
-abbrev pub withRows : Endpoint → List Row → Endpoint
+abbrev pub withRows : Endpoint → List Peer → Endpoint
 withRows e l = record {
   networks = e .networks;
-  rows = l;
+  peers = l;
   addresses = e .addresses;
   own = e .own;
   tenants = e .tenants;
@@ -68,7 +68,7 @@ withRows e l = record {
 abbrev pub lent : (networks kinds owners tenants addresses : List ℕ) (own port mtu peers bindings : ℕ) → Endpoint
 lent networks kinds owners tenants addresses own port mtu peers bindings = record {
   networks = networks;
-  rows = [];
+  peers = [];
   addresses = addresses;
   own = own;
   tenants = tenants;
@@ -109,14 +109,14 @@ isSome (some i) = true
 
 -- ---- start
 
-abbrev pub freeRow : Row
+abbrev pub freeRow : Peer
 freeRow = record { slots = replicate 4 free }
 
 -- an endpoint with these settings, no listing, and every slot free
 unfoldable pub fresh : (own port mtu : ℕ) → Endpoint
 fresh own port mtu = record {
   networks = replicate 64 0;
-  rows = replicate 8 freeRow;
+  peers = replicate 8 freeRow;
   addresses = replicate 8 0;
   own = own;
   tenants = replicate 64 0;
@@ -145,15 +145,15 @@ startChecks own port mtu =
     ∷ [])
 
 -- a refused start gives every number 0
-abbrev pub refusedStart : ConfigRefusal → Started
+abbrev pub refusedStart : ConfigRefusal → StartResult
 refusedStart r = record { endpoint = fresh 0 0 0; answer = S.Refused r }
 
-unfoldable pub startOf : (own port mtu : ℕ) → Started
+unfoldable pub startOf : (own port mtu : ℕ) → StartResult
 startOf own port mtu = first refusedStart (startChecks own port mtu) (record { endpoint = fresh own port mtu; answer = S.Done })
 
 -- ---- adding: 18, 19, 20 in this order; a refusal changes nothing
 
-abbrev pub refusedAdd : Endpoint → ConfigRefusal → Configured
+abbrev pub refusedAdd : Endpoint → ConfigRefusal → AddResult
 refusedAdd e r = record { endpoint = e; answer = A.Refused r }
 
 unfoldable pub addPeerChecks : Endpoint → (address : ℕ) → List (Check ConfigRefusal)
@@ -169,7 +169,7 @@ addPeerChecks e address =
 unfoldable pub withAddress : Endpoint → ℕ → ℕ → Endpoint
 withAddress e n address = record {
   networks = e .networks;
-  rows = e .rows;
+  peers = e .peers;
   addresses = set (e .addresses) n address;
   own = e .own;
   tenants = e .tenants;
@@ -181,7 +181,7 @@ withAddress e n address = record {
   owners = e .owners;
 }
 
-unfoldable pub addPeerOf : Endpoint → (address : ℕ) → Configured
+unfoldable pub addPeerOf : Endpoint → (address : ℕ) → AddResult
 addPeerOf e address =
     first (refusedAdd e) (addPeerChecks e address)
     (record { endpoint = withAddress e (e .«peer_count») address; answer = A.Number (e .«peer_count») })
@@ -205,7 +205,7 @@ addBindingChecks e peer kind network tenant =
 unfoldable pub withBinding : Endpoint → (n peer kind network tenant : ℕ) → Endpoint
 withBinding e n peer kind network tenant = record {
   networks = set (e .networks) n network;
-  rows = e .rows;
+  peers = e .peers;
   addresses = e .addresses;
   own = e .own;
   tenants = set (e .tenants) n tenant;
@@ -217,15 +217,16 @@ withBinding e n peer kind network tenant = record {
   owners = set (e .owners) n peer;
 }
 
-unfoldable pub addBindingOf : Endpoint → (peer kind network tenant : ℕ) → Configured
+unfoldable pub addBindingOf : Endpoint → (peer kind network tenant : ℕ) → AddResult
 addBindingOf e peer kind network tenant =
     first (refusedAdd e) (addBindingChecks e peer kind network tenant)
     (record { endpoint = withBinding e (e .«binding_count») peer kind network tenant; answer = A.Number (e .«binding_count») })
 
--- ---- a tick (document 01, "Reassembly memory"): every pending frame grows older by 1, and those that reach 4 are freed. It changes nothing else, and always succeeds
+-- ---- a tick (document 01, "Reassembly memory"): every pending frame grows older by 1, and those that reach 4 are freed. It changes nothing else, and always
+-- succeeds
 
-unfoldable pub tickOf : Endpoint → Ticked
-tickOf e = record { endpoint = withRows e (map olderRow (e .rows)); answer = T.Done }
+unfoldable pub tickOf : Endpoint → TickResult
+tickOf e = record { endpoint = withRows e (map olderRow (e .peers)); answer = T.Done }
 
 -- ---- a set-up is what a start and any adding calls leave, refused ones too (document 01, "Whose packet it is")
 

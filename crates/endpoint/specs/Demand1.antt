@@ -25,8 +25,8 @@ use Rattle.endpoint.specs.Wrap.{wrapOf}
 use Rattle.endpoint.specs.Formats.{CarriesSegment}
 use Rattle.endpoint.specs.declared.answer.Place.{Place}
 use Rattle.endpoint.specs.declared.config.Endpoint.{Endpoint}
-use Rattle.endpoint.specs.declared.config.Configured.{Configured}
-use Rattle.endpoint.specs.declared.config.Started.{Started}
+use Rattle.endpoint.specs.declared.config.AddResult.{AddResult}
+use Rattle.endpoint.specs.declared.config.StartResult.{StartResult}
 
 -- ---- words
 
@@ -38,7 +38,7 @@ n among (x ∷ xs) = eqb n x || n among xs
 
 -- slot s of peer p
 abbrev pub slotAt : Endpoint → (p s : ℕ) → Slot
-slotAt e p s = getD (getD (e .rows) p noRow .slots) s free
+slotAt e p s = getD (getD (e .peers) p noRow .slots) s free
 
 -- entry n of the list becomes x, and every other entry stays
 pub record Entered (n x : ℕ) (l l′ : List ℕ) : Type 0 where
@@ -82,9 +82,9 @@ pub record Blank (own port mtu : ℕ) (e : Endpoint) : Type 0 where
   pub kinds : e .kinds ≡ replicate 64 0
   pub networks : e .networks ≡ replicate 64 0
   pub tenants : e .tenants ≡ replicate 64 0
-  pub slots : e .rows ≡ replicate 8 (record { slots = replicate 4 (record { identifier = 0; «frame_length» = 0; age = 0; pending = false }) })
+  pub slots : e .peers ≡ replicate 8 (record { slots = replicate 4 (record { identifier = 0; «frame_length» = 0; age = 0; pending = false }) })
 
-pub record StartRule (own port mtu : ℕ) (r : Started) : Type 0 where
+pub record StartRule (own port mtu : ℕ) (r : StartResult) : Type 0 where
   pub number : startCode (r .answer) among (0 ∷ 18 ∷ []) ≡ true
   pub done : startCode (r .answer) ≡ 0 → Blank own port mtu (r .endpoint)
   -- every number is 0
@@ -99,7 +99,7 @@ pub record PeerAdded (e : Endpoint) (address : ℕ) (v : AddedValues) (e′ : En
   pub addresses : Entered (e .«peer_count») address (e .addresses) (e′ .addresses)
   pub settings : SameSettings e e′
   pub bindings : SameBindings e e′
-  pub slots : e′ .rows ≡ e .rows
+  pub slots : e′ .peers ≡ e .peers
 
 pub record BindingAdded (e : Endpoint) (peer kind network tenant : ℕ) (v : AddedValues) (e′ : Endpoint) : Type 0 where
   pub entry : v .entry ≡ some (e .«binding_count»)
@@ -110,10 +110,10 @@ pub record BindingAdded (e : Endpoint) (peer kind network tenant : ℕ) (v : Add
   pub tenants : Entered (e .«binding_count») tenant (e .tenants) (e′ .tenants)
   pub settings : SameSettings e e′
   pub peers : SamePeers e e′
-  pub slots : e′ .rows ≡ e .rows
+  pub slots : e′ .peers ≡ e .peers
 
 -- `Added`: what a good call leaves
-pub record AddRule (e : Endpoint) (Added : AddedValues → Endpoint → Type 0) (r : Configured) : Type 0 where
+pub record AddRule (e : Endpoint) (Added : AddedValues → Endpoint → Type 0) (r : AddResult) : Type 0 where
   pub number : addedValuesOf (r .answer) .number among (0 ∷ 18 ∷ 19 ∷ 20 ∷ []) ≡ true
   pub done : addedValuesOf (r .answer) .number ≡ 0 → Added (addedValuesOf (r .answer)) (r .endpoint)
   pub refused : addedValuesOf (r .answer) .number ≢ 0 → (r .endpoint ≡ e) × (addedValuesOf (r .answer) .entry ≡ none)

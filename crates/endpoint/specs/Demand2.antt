@@ -4,14 +4,12 @@
 -- How to read it: what a packet carries and what a good frame is are the formats' own words (Formats.antt); `Gathers` and `MakesUp` are told from the run
 -- alone (crate reassembly, specs/History.antt); which segments are taken, rejected or given up is `EveryRun`, a field of Demand3. Only definitions; proved
 -- in Laws/Demand2.
-use Prim.Native.Nat.{ℕ, _<_, _≤_, _-_}
+use Prim.Native.Nat.{ℕ, _<_, _≤_}
 use mathlib.Core.Path.{_≡_}
 use mathlib.Core.Logic.{_⊎_}
 use mathlib.Core.List.{List, [], _∷_}
-use lib.ListN.{length, take}
+use lib.ListN.{length}
 use Rattle.wire.specs.Bytes.{Bytes}
-use Rattle.wire.specs.declared.ipv4.Ipv4Read.{Ipv4Read}
-use Rattle.wire.specs.declared.carriage.Carried.{Carried}
 use Rattle.reassembly.specs.Take.{Seg}
 use Rattle.reassembly.specs.Receive.{Event, receive, tick, viewOf}
 use Rattle.reassembly.specs.History.{Gathers, MakesUp}
@@ -21,11 +19,8 @@ use Rattle.endpoint.specs.Receive.{answers, layers, stepOf}
 use Rattle.endpoint.specs.Formats.{CarriesFrame, CarriesSegment, GoodFrame}
 use Rattle.endpoint.specs.declared.answer.Target.{Target}
 use Rattle.endpoint.specs.declared.config.Endpoint.{Endpoint}
-use Rattle.reassembly.specs.declared.take.Outcome.{Outcome}
 use Rattle.endpoint.specs.Answer.{placeOf}
 use Rattle.endpoint.specs.declared.answer.Place.{Place}
-use Rattle.endpoint.specs.declared.answer.Drop.{Drop}
-use Rattle.endpoint.specs.declared.answer.Received.{Received}
 use Rattle.endpoint.specs.declared.answer.Received.the-variants as R
 use Rattle.endpoint.specs.Run.{left, endsOf}
 

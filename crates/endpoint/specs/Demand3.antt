@@ -13,17 +13,15 @@ use mathlib.Core.Option.{some}
 use lib.ListN.{drop}
 use Rattle.wire.specs.Bytes.{Bytes}
 use Rattle.wire.specs.Ipv4.{IsIpv4}
-use Rattle.wire.specs.declared.ipv4.Ipv4.{Ipv4}
-use Rattle.wire.specs.declared.ipv4.Ipv4Read.{Ipv4Read}
 use Rattle.reassembly.specs.Slots.{Note}
 use Rattle.reassembly.specs.Take.{Seg}
 use Rattle.reassembly.specs.Receive.{Event, segment, good}
 use Rattle.reassembly.specs.SetUp.{receives, runs}
 use Rattle.reassembly.specs.Claim.{Claim}
 use Rattle.reassembly.specs.EveryRun.{EveryRun}
-use Rattle.endpoint.specs.Config.{Config, configOf, findPeer}
+use Rattle.endpoint.specs.Config.{Config, configOf}
 use Rattle.endpoint.specs.Receive.{answers, layers, headerOf, sourceOf, judgeOf, stepOf, worldOf}
-use Rattle.endpoint.specs.Calls.{Left, calls}
+use Rattle.endpoint.specs.Calls.{Left}
 use Rattle.endpoint.specs.Formats.{ListedPeer, CarriesSegment, GoodFrame}
 use Rattle.endpoint.specs.declared.answer.Target.{Target}
 use Rattle.endpoint.specs.declared.config.Endpoint.{Endpoint}

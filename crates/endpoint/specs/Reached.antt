@@ -1,5 +1,6 @@
--- An endpoint that came from the calls (document 01, "Listing and numbers": a promise may assume only that): a start, and then adding calls, receives and ticks in any order, refused ones too,
--- each receive with any memory lent. What it holds is the configuration of a set-up: receives and ticks leave that, and adding looks at nothing else.
+-- An endpoint that came from the calls (document 01, "Listing and numbers": a promise may assume only that): a start, and then adding calls, receives and
+-- ticks in any order, refused ones too, each receive with any memory lent. What it holds is the configuration of a set-up: receives and ticks leave that, and
+-- adding looks at nothing else.
 -- Assumes nothing.
 use Prim.Native.Nat.{ℕ, zero, suc, _+_, _^_, _<_, min}
 use mathlib.Core.Path.{_≡_, refl, sym, ap, ap₂, subst, _∙_}
@@ -8,7 +9,8 @@ use mathlib.Core.List.{List, [], _∷_, _++_}
 use native.Mathlib.Omega.{arith}
 use lib.ListN.{getD, set, replicate}
 use Rattle.wire.specs.Checks.{Check, _⇒_, first}
-use Rattle.endpoint.specs.Config.{Config, configOf, findPeer, isSome, fresh, startOf, refusedAdd, addPeerChecks, withAddress, addPeerOf, addBindingChecks, withBinding, addBindingOf, tickOf, Adding, addPeer, addBinding, added, addedAll, setUp}
+use Rattle.endpoint.specs.Config.{Config, configOf, findPeer, isSome, fresh, startOf, refusedAdd, addPeerChecks, withAddress, addPeerOf, addBindingChecks}
+use Rattle.endpoint.specs.Config.{withBinding, addBindingOf, tickOf, Adding, addPeer, addBinding, added, addedAll, setUp}
 use Rattle.endpoint.specs.Laws.Config.{start-cases, add-peer-cases, add-binding-cases, Valid, set-up-valid, config-tick}
 use Rattle.endpoint.specs.Laws.ConfigExits.{peerAdded, bindingAdded}
 use Rattle.endpoint.specs.Receive.{stepOf, withRow}
@@ -16,7 +18,7 @@ use Rattle.endpoint.specs.Calls.{config-row}
 use Rattle.endpoint.specs.Laws.Wrap.{Alike, Ready}
 use Rattle.endpoint.specs.declared.answer.ConfigRefusal.{ConfigRefusal}
 use Rattle.endpoint.specs.declared.config.Endpoint.{Endpoint}
-use Rattle.endpoint.specs.declared.config.Configured.{Configured}
+use Rattle.endpoint.specs.declared.config.AddResult.{AddResult}
 
 -- ---- the calls
 
@@ -57,7 +59,8 @@ pub record Reached (e : Endpoint) : Type 0 where
 
 -- ---- ordered checks of two endpoints
 
-relates : {R A : Type 0} (P : A → A → Type 0) (f g : R → A) (checks : List (Check R)) (x y : A) → ((r : R) → P (f r) (g r)) → P x y → P (first f checks x) (first g checks y)
+relates : {R A : Type 0} (P : A → A → Type 0) (f g : R → A) (checks : List (Check R)) (x y : A) → ((r : R) → P (f r) (g r)) → P x y
+    → P (first f checks x) (first g checks y)
 relates P f g [] x y h k = k
 relates P f g ((true ⇒ r) ∷ checks) x y h k = h r
 relates P f g ((false ⇒ r) ∷ checks) x y h k = relates P f g checks x y h k
@@ -75,10 +78,12 @@ own-of e s q = ap (λ (c : Config). c .own) q
 peer-checks : (e s : Endpoint) (address : ℕ) → Alike e s → addPeerChecks e address ≡ addPeerChecks s address
 unfolding addPeerChecks
 peer-checks e s address a =
-    let found : isSome (findPeer (configOf e) address) ≡ isSome (findPeer (configOf s) address) = ap (λ (c : Config). isSome (findPeer c address)) (a .config) in
+    let found : isSome (findPeer (configOf e) address) ≡ isSome (findPeer (configOf s) address) =
+    ap (λ (c : Config). isSome (findPeer c address)) (a .config) in
     cc (port-of e s (a .config), own-of e s (a .config), a .peers)
 
-binding-checks : (e s : Endpoint) (peer kind network tenant : ℕ) → Alike e s → addBindingChecks e peer kind network tenant ≡ addBindingChecks s peer kind network tenant
+binding-checks : (e s : Endpoint) (peer kind network tenant : ℕ) → Alike e s → addBindingChecks e peer kind network tenant
+    ≡ addBindingChecks s peer kind network tenant
 unfolding addBindingChecks
 binding-checks e s peer kind network tenant a = rw (a .config, a .bindings)
 
@@ -115,7 +120,8 @@ config-peer : (e : Endpoint) (n address : ℕ) → configOf (withAddress e n add
 unfolding configOf withAddress
 config-peer e n address = refl
 
-config-binding : (e : Endpoint) (n peer kind network tenant : ℕ) → configOf (withBinding e n peer kind network tenant) ≡ withBindingIn (configOf e) n peer kind network tenant
+config-binding : (e : Endpoint) (n peer kind network tenant : ℕ) → configOf (withBinding e n peer kind network tenant)
+    ≡ withBindingIn (configOf e) n peer kind network tenant
 unfolding configOf withBinding
 config-binding e n peer kind network tenant = refl
 
@@ -123,7 +129,8 @@ peer-alike : (e s : Endpoint) (address : ℕ) → Alike e s → Alike (withAddre
 unfolding withAddress
 peer-alike e s address a = record {
   config =
-      config-peer e (e .«peer_count») address ∙ ap₂ (λ (c : Config) (n : ℕ). withPeerIn c n address) (a .config) (a .peers) ∙ sym (config-peer s (s .«peer_count») address);
+      config-peer e (e .«peer_count») address ∙ ap₂ (λ (c : Config) (n : ℕ). withPeerIn c n address) (a .config) (a .peers)
+      ∙ sym (config-peer s (s .«peer_count») address);
   peers = ap (λ (n : ℕ). n + 1) (a .peers);
   bindings = a .bindings;
 }
@@ -140,18 +147,21 @@ binding-alike e s peer kind network tenant a = record {
   bindings = ap (λ (n : ℕ). n + 1) (a .bindings);
 }
 
-abbrev BothAlike : Configured → Configured → Type 0
+abbrev BothAlike : AddResult → AddResult → Type 0
 BothAlike x y = Alike (x .endpoint) (y .endpoint)
 
 added-alike : (e s : Endpoint) (a : Adding) → Alike e s → Alike (added e a) (added s a)
 unfolding added addPeerOf addBindingOf
 added-alike e s (addPeer address) h =
-    subst (λ (cs : List (Check ConfigRefusal)). Alike (addPeerOf e address .endpoint) (first (refusedAdd s) cs (peerAdded s address) .endpoint)) (peer-checks e s address h)
+    subst (λ (cs : List (Check ConfigRefusal)). Alike (addPeerOf e address .endpoint) (first (refusedAdd s) cs (peerAdded s address) .endpoint))
+    (peer-checks e s address h)
     (relates BothAlike (refusedAdd e) (refusedAdd s) (addPeerChecks e address) (peerAdded e address) (peerAdded s address) (λ r. h) (peer-alike e s address h))
 added-alike e s (addBinding peer kind network tenant) h =
-    subst (λ (cs : List (Check ConfigRefusal)). Alike (addBindingOf e peer kind network tenant .endpoint) (first (refusedAdd s) cs (bindingAdded s peer kind network tenant) .endpoint))
+    subst (λ (cs : List (Check ConfigRefusal)). Alike (addBindingOf e peer kind network tenant .endpoint)
+    (first (refusedAdd s) cs (bindingAdded s peer kind network tenant) .endpoint))
     (binding-checks e s peer kind network tenant h)
-    (relates BothAlike (refusedAdd e) (refusedAdd s) (addBindingChecks e peer kind network tenant) (bindingAdded e peer kind network tenant) (bindingAdded s peer kind network tenant) (λ r. h)
+    (relates BothAlike (refusedAdd e) (refusedAdd s) (addBindingChecks e peer kind network tenant) (bindingAdded e peer kind network tenant)
+    (bindingAdded s peer kind network tenant) (λ r. h)
     (binding-alike e s peer kind network tenant h))
 
 -- ---- the numbers stay of their types
@@ -248,5 +258,6 @@ pub reached-ready : (e : Endpoint) → Reached e → Ready e
 reached-ready e r =
     let s : Endpoint = startOf (r .own) (r .port) (r .mtu) .endpoint in
     subst Ready (r .is)
-    (left-ready (r .own) (r .port) (r .mtu) s s (r .calls) (started (r .own) (r .port) (r .mtu)) (record { config = refl; peers = refl; bindings = refl }) (r .typed)
+    (left-ready (r .own) (r .port) (r .mtu) s s (r .calls) (started (r .own) (r .port) (r .mtu)) (record { config = refl; peers = refl; bindings = refl })
+    (r .typed)
     (start-fit (r .own) (r .port) (r .mtu) (r .port-typed)))

@@ -15,7 +15,6 @@ use Rattle.wire.specs.Frame.{frameOf}
 use Rattle.wire.specs.declared.ipv4.Ipv4.{Ipv4}
 use Rattle.wire.specs.declared.ipv4.Ipv4Read.{Ipv4Read}
 use Rattle.wire.specs.declared.ipv4.Ipv4Read.the-variants as I
-use Rattle.wire.specs.declared.carriage.Tunnel.{Tunnel}
 use Rattle.wire.specs.declared.carriage.Carried.{Carried}
 use Rattle.wire.specs.declared.carriage.Carried.the-variants as C
 use Rattle.wire.specs.declared.stt.SttRead.{SttRead}
@@ -25,9 +24,9 @@ use Rattle.wire.specs.declared.frame.FrameRead.the-variants as F
 use Rattle.reassembly.specs.Slots.{Note, noRow}
 use Rattle.reassembly.specs.Take.{segOf, Effect}
 use Rattle.reassembly.specs.Store.{bytesOf, takeIn}
-use Rattle.reassembly.specs.Receive.{Answers, Seen, stranger, plain, segment, Verdict, bad, good, told}
+use Rattle.reassembly.specs.Receive.{Answers, Reading, otherSender, direct, segment, Verdict, bad, good, takeAnswer}
 use Rattle.reassembly.specs.SetUp.{Layers, World}
-use Rattle.reassembly.specs.declared.slot.Row.{Row}
+use Rattle.reassembly.specs.declared.slot.Peer.{Peer}
 use Rattle.endpoint.specs.Answer.{valuesOf}
 use Rattle.endpoint.specs.Search.{lowest}
 use Rattle.endpoint.specs.Config.{Config, configOf, withRows, findPeer, binds}
@@ -38,7 +37,7 @@ use Rattle.endpoint.specs.declared.answer.Drop.the-variants as D
 use Rattle.endpoint.specs.declared.answer.Received.{Received}
 use Rattle.endpoint.specs.declared.answer.Received.the-variants as R
 use Rattle.endpoint.specs.declared.config.Endpoint.{Endpoint}
-use Rattle.endpoint.specs.declared.receive.Receipt.{Receipt}
+use Rattle.endpoint.specs.declared.receive.ReceiveResult.{ReceiveResult}
 
 -- ---- what an answer is to the theory of runs
 
@@ -76,18 +75,18 @@ answers = record {
 
 -- ---- the inner frame: 12, then 13. `networks`, `kinds`, `owners` and `tenants` are the bindings' columns, of which n are listed
 
-abbrev pub frame? : FrameRead → Target → Verdict answers
-frame? F.Good t = good t
-frame? (F.Refused r) t = bad (D.Format r)
+abbrev pub byFrame : FrameRead → Target → Verdict answers
+byFrame F.Good t = good t
+byFrame (F.Refused r) t = bad (D.Format r)
 
-abbrev pub bound? : (tenants : List ℕ) → Option ℕ → FrameRead → Verdict answers
-bound? tenants none frame = bad D.Binding
-bound? tenants (some b) frame = frame? frame (record { tenant = getD tenants b 0; binding = b })
+abbrev pub byBinding : (tenants : List ℕ) → Option ℕ → FrameRead → Verdict answers
+byBinding tenants none frame = bad D.Binding
+byBinding tenants (some b) frame = byFrame frame (record { tenant = getD tenants b 0; binding = b })
 
 -- a frame from this peer on this network
 unfoldable pub innerFrom : (networks kinds owners tenants : List ℕ) (n peer kind network : ℕ) → List ℕ → Verdict answers
 innerFrom networks kinds owners tenants n peer kind network frame =
-    bound? tenants (lowest (binds networks kinds owners peer kind network) n) (frameOf frame)
+    byBinding tenants (lowest (binds networks kinds owners peer kind network) n) (frameOf frame)
 
 -- ---- what is made of a packet: checks 3 to 10, and for VXLAN and NVGRE 11 to 13
 
@@ -103,43 +102,43 @@ tunnelFrom networks kinds owners tenants n peer kind network at frame =
 abbrev pub tunnelOf : Config → (peer kind network at : ℕ) → List ℕ → Received
 tunnelOf c peer kind network at frame = tunnelFrom (c .networks) (c .kinds) (c .owners) (c .tenants) (c .bindings) peer kind network at frame
 
-abbrev pub carried? : Config → (peer start end : ℕ) → List ℕ → Carried → Seen answers
-carried? c p start end k (C.Refused r) = plain p (R.Dropped (D.Format r))
-carried? c p start end k (C.Tunnel t) = plain p (tunnelOf c p (t .kind) (t .network) (start + t .start) (part k (start + t .start) end))
-carried? c p start end k (C.Segment g) = segment p (segOf g (part k (start + g .start) end))
+abbrev pub byPayload : Config → (peer start end : ℕ) → List ℕ → Carried → Reading answers
+byPayload c p start end k (C.Refused r) = direct p (R.Dropped (D.Format r))
+byPayload c p start end k (C.Tunnel t) = direct p (tunnelOf c p (t .kind) (t .network) (start + t .start) (part k (start + t .start) end))
+byPayload c p start end k (C.Segment g) = segment p (segOf g (part k (start + g .start) end))
 
-abbrev pub peer? : Config → Ipv4 → List ℕ → Option ℕ → Seen answers
-peer? c h k none = stranger (R.Dropped D.Peer)
-peer? c h k (some p) = carried? c p (h .start) (h .end) k (carriageOf (h .protocol) (h .source) (h .destination) (c .port) (part k (h .start) (h .end)))
+abbrev pub byPeer : Config → Ipv4 → List ℕ → Option ℕ → Reading answers
+byPeer c h k none = otherSender (R.Dropped D.Peer)
+byPeer c h k (some p) = byPayload c p (h .start) (h .end) k (carriageOf (h .protocol) (h .source) (h .destination) (c .port) (part k (h .start) (h .end)))
 
-abbrev pub ours? : Config → Ipv4 → List ℕ → Bool → Seen answers
-ours? c h k true = peer? c h k (findPeer c (h .source))
-ours? c h k false = stranger (R.Dropped D.Destination)
+abbrev pub byDestination : Config → Ipv4 → List ℕ → Bool → Reading answers
+byDestination c h k true = byPeer c h k (findPeer c (h .source))
+byDestination c h k false = otherSender (R.Dropped D.Destination)
 
-abbrev pub ip? : Config → List ℕ → Ipv4Read → Seen answers
-ip? c k (I.Refused r) = stranger (R.Dropped (D.Format r))
-ip? c k (I.Packet h) = ours? c h k (eqb (h .destination) (c .own))
+abbrev pub byIpv4 : Config → List ℕ → Ipv4Read → Reading answers
+byIpv4 c k (I.Refused r) = otherSender (R.Dropped (D.Format r))
+byIpv4 c k (I.Packet h) = byDestination c h k (eqb (h .destination) (c .own))
 
-unfoldable pub headerOf : Config → List ℕ → Seen answers
-headerOf c k = ip? c k (ipv4Of k)
+unfoldable pub headerOf : Config → List ℕ → Reading answers
+headerOf c k = byIpv4 c k (ipv4Of k)
 
 -- whose packet it is: it passes 3 to 6, and its source is that peer
-abbrev pub sender? : Config → Ipv4Read → Option ℕ
-sender? c (I.Refused r) = none
-sender? c (I.Packet h) = cond (eqb (h .destination) (c .own)) (findPeer c (h .source)) none
+abbrev pub bySender : Config → Ipv4Read → Option ℕ
+bySender c (I.Refused r) = none
+bySender c (I.Packet h) = cond (eqb (h .destination) (c .own)) (findPeer c (h .source)) none
 
 unfoldable pub sourceOf : Config → List ℕ → Option ℕ
-sourceOf c k = sender? c (ipv4Of k)
+sourceOf c k = bySender c (ipv4Of k)
 
 -- ---- what a complete STT frame from peer p is worth: checks 11, 12, 13
 
-abbrev pub stt? : SttRead → (ℕ → Verdict answers) → Verdict answers
-stt? (T.Refused r) next = bad (D.Format r)
-stt? (T.Header context) next = next context
+abbrev pub byStt : SttRead → (ℕ → Verdict answers) → Verdict answers
+byStt (T.Refused r) next = bad (D.Format r)
+byStt (T.Header context) next = next context
 
 unfoldable pub sttFrom : (networks kinds owners tenants : List ℕ) (n peer : ℕ) → List ℕ → Verdict answers
 sttFrom networks kinds owners tenants n peer frame =
-    stt? (sttOf frame) (λ context. innerFrom networks kinds owners tenants n peer 3 context (drop 18 frame))
+    byStt (sttOf frame) (λ context. innerFrom networks kinds owners tenants n peer 3 context (drop 18 frame))
 
 unfoldable pub judgeOf : Config → (peer : ℕ) → Note → List ℕ → Verdict answers
 judgeOf c p note frame = sttFrom (c .networks) (c .kinds) (c .owners) (c .tenants) (c .bindings) p frame
@@ -152,35 +151,35 @@ layers = record { header = headerOf; judge = judgeOf; source = sourceOf }
 -- the row of one peer that it leaves, its answer, and the memory that it leaves
 pub record Step : Type 0 where
   pub peer : ℕ
-  pub row : Row
+  pub row : Peer
   pub answer : Received
   pub mem : List ℕ
 
-abbrev pub rowAt : Endpoint → ℕ → Row
-rowAt e p = getD (e .rows) p noRow
+abbrev pub rowAt : Endpoint → ℕ → Peer
+rowAt e p = getD (e .peers) p noRow
 
 -- nothing changes: peer p keeps its row
 abbrev pub unchanged : Endpoint → ℕ → List ℕ → Received → Step
 unchanged e p m a = record { peer = p; row = rowAt e p; answer = a; mem = m }
 
-abbrev pub stepped : Endpoint → List ℕ → Seen answers → Step
-stepped e m (stranger a) = unchanged e 0 m a
-stepped e m (plain p a) = unchanged e p m a
+abbrev pub stepped : Endpoint → List ℕ → Reading answers → Step
+stepped e m (otherSender a) = unchanged e 0 m a
+stepped e m (direct p a) = unchanged e p m a
 stepped e m (segment p g) =
     let o : Effect bytesOf = takeIn p (rowAt e p) m g in
-    record { peer = p; row = o .row; answer = told answers (judgeOf (configOf e)) bytesOf p g o (o .outcome) .reply; mem = o .mem }
+    record { peer = p; row = o .row; answer = takeAnswer answers (judgeOf (configOf e)) bytesOf p g o (o .outcome) .reply; mem = o .mem }
 
 unfoldable pub stepOf : Endpoint → (memory packet : List ℕ) → Step
 stepOf e m k = cond (ltb (length m) 55296) (unchanged e 0 m (R.Dropped D.Memory)) (stepped e m (headerOf (configOf e) k))
 
 -- peer p's row is this one
-abbrev pub withRow : Endpoint → ℕ → Row → Endpoint
-withRow e p row = withRows e (set (e .rows) p row)
+abbrev pub withRow : Endpoint → ℕ → Peer → Endpoint
+withRow e p row = withRows e (set (e .peers) p row)
 
 -- what the call gives back; the memory is the step's
-abbrev pub receiptOf : Endpoint → Step → Receipt
+abbrev pub receiptOf : Endpoint → Step → ReceiveResult
 receiptOf e s = record { endpoint = withRow e (s .peer) (s .row); answer = s .answer }
 
 -- an endpoint and its memory, as the theory of runs has them
 abbrev pub worldOf : Endpoint → List ℕ → World Config
-worldOf e m = record { ends = record { config = configOf e; rows = e .rows }; mem = m }
+worldOf e m = record { ends = record { config = configOf e; peers = e .peers }; mem = m }

@@ -1,5 +1,6 @@
--- DEMAND 2, the round trip (document 01, "Wrapping"), its statement: one for all kinds. A matching endpoint, freshly set up, is given each segment of a wrapped frame once, under one
--- identifier, in any order, with no tick between: at the last it delivers exactly the frame, to the binding and the tenant that it has for it, and at the others it answers 1.
+-- DEMAND 2, the round trip (document 01, "Wrapping"), its statement: one for all kinds. A matching endpoint, freshly set up, is given each segment of a
+-- wrapped frame once, under one identifier, in any order, with no tick between: at the last it delivers exactly the frame, to the binding and the tenant that
+-- it has for it, and at the others it answers 1.
 -- How to read it: `round-trip` (RoundTripProof) says that `Wraps` and `Matches` give `RoundTrip`. Only definitions.
 -- Assumes nothing.
 use Prim.Native.Nat.{ℕ, _+_, _<_, _≤_}
@@ -32,8 +33,8 @@ pub record Wraps (e : Endpoint) (b : ℕ) (frame : List ℕ) (identifier : ℕ) 
   pub written : (k : ℕ) → k < segmentsFor e b frame → wrapOf e b frame k identifier (output k) .answer ≡ Y.Written (answer k)
   pub is : (k : ℕ) → k < segmentsFor e b frame → packets k ≡ take (answer k .length) (wrapOf e b frame k identifier (output k) .output)
 
--- e′ is freshly set up; its own address is that of the peer of e's binding b, it lists e's address as its peer number `peer`, its STT port is e's, and its binding b′ binds that peer to the
--- same kind and network
+-- e′ is freshly set up; its own address is that of the peer of e's binding b, it lists e's address as its peer number `peer`, its STT port is e's, and its
+-- binding b′ binds that peer to the same kind and network
 pub record Matches (e : Endpoint) (b : ℕ) (e′ : Endpoint) (b′ : ℕ) : Type 0 where
   pub own : ℕ
   pub stt-port : ℕ
@@ -73,5 +74,7 @@ pub record RoundTrip (frame : List ℕ) (count : ℕ) (packets : ℕ → List �
   -- there is a last packet
   pub some-segment : 0 < count
   -- any memory that is large enough, any order of the segments: the answer to each, after those before it
-  pub answered : (m : List ℕ) → 55296 ≤ length m → (order : List ℕ) → Order count order → (before : List ℕ) (k : ℕ) (after : List ℕ) → order ≡ before ++ (k ∷ after)
-      → Answered (calls (record { endpoint = e′; mem = m }) (arrivals packets before)) (packets k) (record { tenant = getD (e′ .tenants) b′ 0; binding = b′ }) frame (length after)
+  pub answered : (m : List ℕ) → 55296 ≤ length m → (order : List ℕ) → Order count order → (before : List ℕ) (k : ℕ) (after : List ℕ) → order ≡ before
+      ++ (k ∷ after)
+      → Answered (calls (record { endpoint = e′; mem = m }) (arrivals packets before)) (packets k)
+      (record { tenant = getD (e′ .tenants) b′ 0; binding = b′ }) frame (length after)

@@ -29,4 +29,4 @@ left e m es = calls (record { endpoint = e; mem = m }) es
 
 -- an endpoint as the theory of runs has it
 abbrev pub endsOf : Endpoint → U.Endpoint Config
-endsOf e = record { config = configOf e; rows = e .rows }
+endsOf e = record { config = configOf e; peers = e .peers }

@@ -3,12 +3,12 @@
 use mathlib.Core.Option.{Option, none, some}
 use Prim.Native.Nat.{ℕ}
 use Rattle.endpoint.specs.declared.answer.Drop.{Drop}
-use Rattle.endpoint.specs.declared.search.Found.{Found}
-use Rattle.endpoint.specs.declared.search.Found.the-variants as F
+use Rattle.endpoint.specs.declared.search.Lookup.{Lookup}
+use Rattle.endpoint.specs.declared.search.Lookup.the-variants as F
 unfoldable pub use Rattle.reassembly.specs.Search.{from, lowest}
 pub use Rattle.reassembly.specs.Search.{Lowest}
 
 -- as the code answers it: the number, or the refusal where the listing ends
-abbrev pub foundOf : Drop → Option ℕ → Found
+abbrev pub foundOf : Drop → Option ℕ → Lookup
 foundOf d none = F.Refused d
 foundOf d (some i) = F.At i

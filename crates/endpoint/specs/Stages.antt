@@ -1,4 +1,5 @@
--- A receive in three stages, as the code makes it: a packet is opened, a segment is taken, a frame is delivered. `ReceiveLaws.stages-step` says that they add up to `Receive.stepOf`.
+-- A receive in three stages, as the code makes it: a packet is opened, a segment is taken, a frame is delivered. `ReceiveLaws.stages-step` says that they add
+-- up to `Receive.stepOf`.
 -- Assumes nothing.
 use Prim.Native.Nat.{ℕ, _+_, _-_, _*_, _<_, _≤_, min}
 use mathlib.Core.Bool.{true, false, cond}
@@ -20,7 +21,7 @@ use Rattle.wire.specs.declared.stt.SttRead.the-variants as T
 use Rattle.reassembly.specs.Take.{segOf, Effect}
 use Rattle.reassembly.specs.Store.{bytesOf, takeIn}
 use Rattle.reassembly.specs.Receive.{partOfSlice, viewOf}
-use Rattle.reassembly.specs.declared.slot.Row.{Row}
+use Rattle.reassembly.specs.declared.slot.Peer.{Peer}
 use Rattle.reassembly.specs.declared.take.Outcome.{Outcome}
 use Rattle.reassembly.specs.declared.take.Outcome.the-variants as O
 use Rattle.endpoint.specs.Answer.{placeOf}
@@ -62,23 +63,23 @@ unfoldable pub contentFrom : (port : ℕ) → Ipv4 → List ℕ → Content
 contentFrom port h k = carriedFrom (h .start) (h .end) (carriageOf (h .protocol) (h .source) (h .destination) port (part k (h .start) (h .end)))
 
 -- a packet of no listed peer
-abbrev pub strangerWith : Drop → Arrival
-strangerWith d = record { peer = 0; content = A.Refused d }
+abbrev pub fromOther : Drop → Arrival
+fromOther d = record { peer = 0; content = A.Refused d }
 
 abbrev pub openPeer : Option ℕ → Content → Arrival
-openPeer none content = strangerWith D.Peer
+openPeer none content = fromOther D.Peer
 openPeer (some p) content = record { peer = p; content = content }
 
 abbrev pub openHeader : (addresses : List ℕ) (own port peers : ℕ) → List ℕ → Ipv4 → Arrival
 openHeader addresses own port peers k h =
-    cond (eqb (h .destination) own) (openPeer (lowest (hasAddress addresses (h .source)) peers) (contentFrom port h k)) (strangerWith D.Destination)
+    cond (eqb (h .destination) own) (openPeer (lowest (hasAddress addresses (h .source)) peers) (contentFrom port h k)) (fromOther D.Destination)
 
 abbrev pub openIp : Ipv4Read → (Ipv4 → Arrival) → Arrival
-openIp (I.Refused r) next = strangerWith (D.Format r)
+openIp (I.Refused r) next = fromOther (D.Format r)
 openIp (I.Packet h) next = next h
 
 unfoldable pub openOf : (addresses : List ℕ) (own port peers : ℕ) → (packet : List ℕ) → (room : ℕ) → Arrival
-openOf addresses own port peers k room = cond (ltb room 55296) (strangerWith D.Memory) (openIp (ipv4Of k) (openHeader addresses own port peers k))
+openOf addresses own port peers k room = cond (ltb room 55296) (fromOther D.Memory) (openIp (ipv4Of k) (openHeader addresses own port peers k))
 
 -- ---- a segment is taken: 14 to 17, then 11 where the frame is complete
 
@@ -106,24 +107,24 @@ Lies peer (O.Complete s) size m = (peer < 8) × ((s < 4) × ((size ≤ 1532) × 
 
 -- the row and the memory that taking leaves, and what there is to deliver
 pub record Change : Type 0 where
-  pub row : Row
+  pub row : Peer
   pub offer : Offer
   pub mem : List ℕ
 
 abbrev pub changedOf : Change → Changed
 changedOf c = record { row = c .row; offer = c .offer }
 
-abbrev pub takenFrom : (peer : ℕ) → Row → (packet memory : List ℕ) → Due → Change
+abbrev pub takenFrom : (peer : ℕ) → Peer → (packet memory : List ℕ) → Due → Change
 takenFrom peer row k m d =
     let o : Effect bytesOf = takeIn peer row m (segOf (d .header) (partOfSlice k (d .start) (d .length))) in
     record { row = o .row; offer = offerOf peer (o .outcome) (d .header .«frame_length») (o .mem); mem = o .mem }
 
-abbrev pub takeContent : (peer : ℕ) → Row → (packet memory : List ℕ) → Content → Change
+abbrev pub takeContent : (peer : ℕ) → Peer → (packet memory : List ℕ) → Content → Change
 takeContent peer row k m (A.Refused d) = record { row = row; offer = B.Refused d; mem = m }
 takeContent peer row k m (A.Frame f) = record { row = row; offer = B.Frame f; mem = m }
 takeContent peer row k m (A.Segment d) = takenFrom peer row k m d
 
-unfoldable pub takeOf : Row → Arrival → (packet memory : List ℕ) → Change
+unfoldable pub takeOf : Peer → Arrival → (packet memory : List ℕ) → Change
 takeOf row a k m = takeContent (a .peer) row k m (a .content)
 
 -- ---- a frame is delivered: 12, then 13. `networks`, `kinds`, `owners` and `tenants` are the bindings' columns, of which n are listed
@@ -136,7 +137,7 @@ deliverOf networks kinds owners tenants n peer (B.Frame f) k m =
 
 -- ---- the last two in turn, with the sender's row
 
-unfoldable pub settleOf : (networks kinds owners tenants : List ℕ) (n : ℕ) → Arrival → Row → (packet memory : List ℕ) → Step
+unfoldable pub settleOf : (networks kinds owners tenants : List ℕ) (n : ℕ) → Arrival → Peer → (packet memory : List ℕ) → Step
 settleOf networks kinds owners tenants n x row k m =
     let c : Change = takeOf row x k m in
     record { peer = x .peer; row = c .row; answer = deliverOf networks kinds owners tenants n (x .peer) (c .offer) k (c .mem); mem = c .mem }
@@ -146,5 +147,5 @@ settleOf networks kinds owners tenants n x row k m =
 abbrev pub openedBy : Endpoint → (packet : List ℕ) → (room : ℕ) → Arrival
 openedBy e k room = openOf (e .addresses) (e .own) (e .port) (min (e .«peer_count») 8) k room
 
-abbrev pub settledBy : Endpoint → Arrival → Row → (packet memory : List ℕ) → Step
+abbrev pub settledBy : Endpoint → Arrival → Peer → (packet memory : List ℕ) → Step
 settledBy e x row k m = settleOf (e .networks) (e .kinds) (e .owners) (e .tenants) (min (e .«binding_count») 64) x row k m

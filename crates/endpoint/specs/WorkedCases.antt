@@ -15,7 +15,8 @@ use Rattle.wire.specs.Nvgre.{gre, nvgreChecks, nvgreAt, nvgreOf}
 use Rattle.wire.specs.Refusal.{codeOf}
 use Rattle.wire.specs.Stt.{stt}
 use Rattle.wire.specs.Segment as S
-use Rattle.wire.specs.Write.{ipv4With, outer, ipv4Head, packet, sourcePort, vxlanBody, nvgreBody, sttFrame, flagsOf, tcpWith, segmentHeader, segmentBytes, segmentBody, vxlanPacket, nvgrePacket, segmentPacket}
+use Rattle.wire.specs.Write.{ipv4With, outer, ipv4Head, packet, sourcePort, vxlanBody, nvgreBody, sttFrame, flagsOf, tcpWith, segmentHeader, segmentBytes}
+use Rattle.wire.specs.Write.{segmentBody, vxlanPacket, nvgrePacket, segmentPacket}
 use Rattle.wire.specs.declared.carriage.Carried.{Carried}
 use Rattle.wire.specs.declared.carriage.Carried.the-variants as C
 use Rattle.reassembly.specs.Base.{allBelow}
@@ -94,7 +95,8 @@ cases =
     ∷ (packetOf 3 own peer 7471 0x0102030405060708 576 (U ++ replicate 505 0x07) 0 0xdeadbeef
     is (0x45 ∷ 0x00 ∷ 0x02 ∷ 0x40 ∷ 0x00 ∷ 0x00 ∷ 0x40 ∷ 0x00 ∷ 0x40 ∷ 0x06 ∷ 0x24 ∷ 0xb6 ∷ 0x0a ∷ 0x00 ∷ 0x00 ∷ 0x01 ∷ 0x0a ∷ 0x00 ∷ 0x00 ∷ 0x02
     ∷ 0xe8 ∷ 0x0e ∷ 0x1d ∷ 0x2f ∷ 0x02 ∷ 0x19 ∷ 0x00 ∷ 0x00 ∷ 0xde ∷ 0xad ∷ 0xbe ∷ 0xef ∷ 0x50 ∷ 0x10 ∷ 0x00 ∷ 0x00 ∷ 0x91 ∷ 0xb5 ∷ 0x00 ∷ 0x00
-    ∷ 0x00 ∷ 0x00 ∷ 0x00 ∷ 0x00 ∷ 0x00 ∷ 0x00 ∷ 0x00 ∷ 0x00 ∷ 0x01 ∷ 0x02 ∷ 0x03 ∷ 0x04 ∷ 0x05 ∷ 0x06 ∷ 0x07 ∷ 0x08 ∷ 0x00 ∷ 0x00 ∷ []) ++ U ++ replicate 504 0x07)
+    ∷ 0x00 ∷ 0x00 ∷ 0x00 ∷ 0x00 ∷ 0x00 ∷ 0x00 ∷ 0x00 ∷ 0x00 ∷ 0x01 ∷ 0x02 ∷ 0x03 ∷ 0x04 ∷ 0x05 ∷ 0x06 ∷ 0x07 ∷ 0x08 ∷ 0x00 ∷ 0x00 ∷ []) ++ U
+    ++ replicate 504 0x07)
     ∷ (packetOf 3 own peer 7471 0x0102030405060708 576 (U ++ replicate 505 0x07) 1 0xdeadbeef
     is 0x45 ∷ 0x00 ∷ 0x00 ∷ 0x29 ∷ 0x00 ∷ 0x00 ∷ 0x40 ∷ 0x00 ∷ 0x40 ∷ 0x06 ∷ 0x26 ∷ 0xcd ∷ 0x0a ∷ 0x00 ∷ 0x00 ∷ 0x01 ∷ 0x0a ∷ 0x00 ∷ 0x00 ∷ 0x02
     ∷ 0xe8 ∷ 0x0e ∷ 0x1d ∷ 0x2f ∷ 0x02 ∷ 0x19 ∷ 0x02 ∷ 0x18 ∷ 0xde ∷ 0xad ∷ 0xbe ∷ 0xef ∷ 0x50 ∷ 0x18 ∷ 0x00 ∷ 0x00 ∷ 0xed ∷ 0xbc ∷ 0x00 ∷ 0x00
@@ -113,5 +115,7 @@ cases =
 
 -- THE STATEMENT
 pub worked : map given cases ≡ map paper cases
-unfolding cases total ones be beAt I.header complement udp vxlan gre nvgreChecks nvgreAt nvgreOf ipv4With outer ipv4Head packet sourcePort vxlanBody nvgreBody vxlanPacket nvgrePacket stt sttFrame flagsOf tcpWith S.header pseudo part segmentHeader segmentBytes segmentBody segmentPacket allBelow first bears isFree chosen isOn bitAt setBit setBits segmentsOf packetOf
+unfolding cases total ones be beAt I.header complement udp vxlan gre nvgreChecks nvgreAt nvgreOf ipv4With outer ipv4Head packet sourcePort vxlanBody nvgreBody
+    vxlanPacket nvgrePacket stt sttFrame flagsOf tcpWith S.header pseudo part segmentHeader segmentBytes segmentBody segmentPacket allBelow first bears isFree
+    chosen isOn bitAt setBit setBits segmentsOf packetOf
 worked = refl

@@ -1,9 +1,9 @@
--- Wrapping (document 01, "Wrapping"): which packet carries a frame out on a binding, its segments, and one call, whole. Packets are those of crate wire (specs/Write.antt).
+-- Wrapping (document 01, "Wrapping"): which packet carries a frame out on a binding, its segments, and one call, whole. Packets are those of crate wire
+-- (specs/Write.antt).
 -- Assumes nothing.
-use Prim.Native.Nat.{ℕ, zero, suc, _+_, _-_, _*_, _/_, _%_, _<_, _≤_, min}
-use mathlib.Core.Path.{_≡_}
-use mathlib.Core.Bool.{Bool, true, false, not}
-use mathlib.Core.List.{List, [], _∷_, _++_}
+use Prim.Native.Nat.{ℕ, _+_, _-_, _*_, _/_, _%_, min}
+use mathlib.Core.Bool.{Bool, true, false}
+use mathlib.Core.List.{List, [], _∷_}
 use lib.ListN.{length, getD}
 use lib.Dec.{ltb, leb, eqb}
 use Rattle.wire.specs.Bytes.{wrote}
@@ -12,15 +12,15 @@ use Rattle.wire.specs.Frame.{frameOf}
 use Rattle.wire.specs.Write.{vxlanPacket, nvgrePacket, segmentPacket}
 use Rattle.wire.specs.declared.frame.FrameRead.{FrameRead}
 use Rattle.wire.specs.declared.frame.FrameRead.the-variants as F
-use Rattle.endpoint.specs.Config.{Config, configOf}
+use Rattle.endpoint.specs.Config.{configOf}
 use Rattle.endpoint.specs.declared.answer.WrapRefusal.{WrapRefusal}
 use Rattle.endpoint.specs.declared.answer.WrapRefusal.the-variants as X
-use Rattle.endpoint.specs.declared.answer.Packet.{Packet}
 use Rattle.endpoint.specs.declared.answer.Wrapped.{Wrapped}
 use Rattle.endpoint.specs.declared.answer.Wrapped.the-variants as Y
 use Rattle.endpoint.specs.declared.config.Endpoint.{Endpoint}
 
--- ---- the segments of an STT frame: with F = 18 plus the frame's length and C = MTU − 40, (F + C − 1) div C of them; segment k carries bytes kC up to the smaller of F and kC + C
+-- ---- the segments of an STT frame: with F = 18 plus the frame's length and C = MTU − 40, (F + C − 1) div C of them; segment k carries bytes kC up to the
+-- smaller of F and kC + C
 
 abbrev pub capacity : (mtu : ℕ) → ℕ
 capacity mtu = mtu - 40

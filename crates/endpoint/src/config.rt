@@ -1,26 +1,25 @@
 // The configuration (document 01: listing): settings, peers and bindings.
 ghost use mathlib.Core.Path.{_≡_};
-ghost use mathlib.Core.List.{[]};
 ghost use Rattle.endpoint.specs.Answer.{startCode, addedValuesOf};
 ghost use Rattle.wire.specs.Table.{numbered};
 ghost use Rattle.endpoint.specs.Table.{startRows, addPeerRows, addBindingRows};
 ghost use Rattle.endpoint.specs.Demand1.{StartRule, AddRule, PeerAdded, BindingAdded};
-ghost use Rattle.endpoint.specs.Config.{isNetwork, startOf, refusedStart, addPeerOf, addBindingOf, freeRow, fresh, lent, peersOf, bindingsOf};
+ghost use Rattle.endpoint.specs.Config.{isNetwork, startOf, refusedStart, addPeerOf, addBindingOf, freeRow, fresh, peersOf, bindingsOf};
 use crate::answer::Added;
 use crate::answer::ConfigRefusal;
 use crate::answer::Start;
-use crate::search::Found;
+use crate::search::Lookup;
 use crate::search::find_binding;
 use crate::search::find_peer;
 use crate::search::least;
-use reassembly::slot::Row;
+use reassembly::slot::Peer;
 use reassembly::slot::Slot;
 
 // An endpoint. Peers and bindings are parallel arrays, so that a lookup touches only what it compares.
 #[repr(C)]
 pub struct Endpoint {
     pub networks: [u64; 64],
-    pub rows: [Row; 8],
+    pub peers: [Peer; 8],
     pub addresses: [u32; 8],
     pub own: u32,
     pub tenants: [u16; 64],
@@ -33,18 +32,18 @@ pub struct Endpoint {
 }
 
 // What a start gives.
-pub struct Started {
+pub struct StartResult {
     pub endpoint: Endpoint,
     pub answer: Start,
 }
 
 // What an adding call gives.
-pub struct Configured {
+pub struct AddResult {
     pub endpoint: Endpoint,
     pub answer: Added,
 }
 
-fn free_row() -> Row
+fn free_row() -> Peer
     ensures { λ r. ⌜ r ≡ freeRow ⌝ }
 {
     let slot = Slot {
@@ -53,7 +52,7 @@ fn free_row() -> Row
         age: 0,
         pending: false,
     };
-    Row { slots: [slot; 4] }
+    Peer { slots: [slot; 4] }
 }
 
 // An endpoint with these settings, no listing, and every slot free.
@@ -63,7 +62,7 @@ fn blank(own: u32, port: u16, mtu: u16) -> Endpoint
     let row = free_row();
     Endpoint {
         networks: [0; 64],
-        rows: [row; 8],
+        peers: [row; 8],
         addresses: [0; 8],
         own: own,
         tenants: [0; 64],
@@ -76,17 +75,17 @@ fn blank(own: u32, port: u16, mtu: u16) -> Endpoint
     }
 }
 
-fn refused_start() -> Started
+fn refused_start() -> StartResult
     ensures { λ r. ⌜ r ≡ refusedStart ConfigRefusal.OutOfRange ⌝ }
 {
-    Started {
+    StartResult {
         endpoint: blank(0, 0, 0),
         answer: Start::Refused(ConfigRefusal::OutOfRange),
     }
 }
 
 // Starts an endpoint: our own address, the port on which STT is expected, and the largest outer packet that is written.
-pub fn start(own: u32, port: u32, mtu: u32) -> Started
+pub fn start(own: u32, port: u32, mtu: u32) -> StartResult
     ensures { λ r. ⌜ r ≡ startOf own port mtu ⌝ }
     ensures { λ r. ⌜ startCode (r .answer) ≡ numbered (startRows own port mtu) ⌝ }
     ensures { λ r. ⌜ StartRule own port mtu r ⌝ }
@@ -110,7 +109,7 @@ pub fn start(own: u32, port: u32, mtu: u32) -> Started
     if 1600 < mtu {
         return refused_start();
     }
-    Started {
+    StartResult {
         endpoint: blank(own, port as u16, mtu as u16),
         answer: Start::Done,
     }
@@ -144,7 +143,7 @@ pub fn list_peer(
     let number = *count;
     let n = number as usize;
     let listed = find_peer(addresses, least(n, 8), address);
-    if let Found::At(_) = listed {
+    if let Lookup::At(_) = listed {
         return Added::Refused(ConfigRefusal::AlreadyListed);
     }
     if 8 <= n {
@@ -156,7 +155,7 @@ pub fn list_peer(
 }
 
 // Lists a peer.
-pub fn add_peer(e: Endpoint, address: u32) -> Configured
+pub fn add_peer(e: Endpoint, address: u32) -> AddResult
     ensures { λ r. ⌜ r ≡ addPeerOf e address ⌝ }
     ensures { λ r. ⌜ addedValuesOf (r .answer) .number ≡ numbered (addPeerRows e address) ⌝ }
     ensures { λ r. ⌜ AddRule e (PeerAdded e address) r ⌝ }
@@ -167,7 +166,7 @@ pub fn add_peer(e: Endpoint, address: u32) -> Configured
     let mut next = e;
     next.addresses = addresses;
     next.peer_count = count;
-    Configured {
+    AddResult {
         endpoint: next,
         answer: answer,
     }
@@ -243,7 +242,7 @@ pub fn list_binding(
         narrow,
         network,
     );
-    if let Found::At(_) = listed {
+    if let Lookup::At(_) = listed {
         return Added::Refused(ConfigRefusal::AlreadyListed);
     }
     if 64 <= n {
@@ -258,7 +257,7 @@ pub fn list_binding(
 }
 
 // Binds a network of a listed peer to a tenant.
-pub fn add_binding(e: Endpoint, peer: u32, kind: u32, network: u64, tenant: u32) -> Configured
+pub fn add_binding(e: Endpoint, peer: u32, kind: u32, network: u64, tenant: u32) -> AddResult
     ensures { λ r. ⌜ r ≡ addBindingOf e peer kind network tenant ⌝ }
     ensures { λ r. ⌜ addedValuesOf (r .answer) .number ≡ numbered (addBindingRows e peer kind network tenant) ⌝ }
     ensures { λ r. ⌜ AddRule e (BindingAdded e peer kind network tenant) r ⌝ }
@@ -286,7 +285,7 @@ pub fn add_binding(e: Endpoint, peer: u32, kind: u32, network: u64, tenant: u32)
     next.owners = owners;
     next.tenants = tenants;
     next.binding_count = count;
-    Configured {
+    AddResult {
         endpoint: next,
         answer: answer,
     }

@@ -8,19 +8,19 @@ ghost use Rattle.wire.specs.Table.{numbered};
 ghost use Rattle.endpoint.specs.Table.{receiveRows};
 ghost use Rattle.endpoint.specs.Demand1.{ReceiveRule};
 ghost use Rattle.endpoint.specs.Receive.{stepOf, receiptOf};
-ghost use Rattle.endpoint.specs.Stages.{ipDrop, sttDrop, strangerWith, contentFrom, openOf, offerAt, Lies, offerOf, takeOf, changedOf, deliverOf};
+ghost use Rattle.endpoint.specs.Stages.{ipDrop, sttDrop, fromOther, contentFrom, openOf, offerAt, Lies, offerOf, takeOf, changedOf, deliverOf};
 use crate::answer::Drop;
 use crate::answer::Place;
 use crate::answer::Received;
 use crate::answer::Target;
 use crate::config::Endpoint;
-use crate::search::Found;
+use crate::search::Lookup;
 use crate::search::find_binding;
 use crate::search::find_peer;
 use crate::search::least;
 use crate::view::part;
 use crate::view::view_one;
-use reassembly::slot::Row;
+use reassembly::slot::Peer;
 use reassembly::take::Outcome;
 use wire::carriage;
 use wire::carriage::Carried;
@@ -66,12 +66,12 @@ pub enum Offer {
 
 // What taking changes of the endpoint, the sender's row, and what there is to deliver.
 pub struct Changed {
-    pub row: Row,
+    pub row: Peer,
     pub offer: Offer,
 }
 
 // What a receive gives back.
-pub struct Receipt {
+pub struct ReceiveResult {
     pub endpoint: Endpoint,
     pub answer: Received,
 }
@@ -95,8 +95,8 @@ fn stt_drop(read: SttRead) -> Drop
     }
 }
 
-fn stranger(d: Drop) -> Arrival
-    ensures { λ r. ⌜ r ≡ strangerWith d ⌝ }
+fn other_sender(d: Drop) -> Arrival
+    ensures { λ r. ⌜ r ≡ fromOther d ⌝ }
 {
     Arrival {
         peer: 0,
@@ -152,18 +152,18 @@ pub fn open(
     ensures { λ r. ⌜ r ≡ openOf (now (addresses .entry)) own port (min «peer_count» 8) (now (packet .entry)) room ⌝ }
 {
     if room < 55296 {
-        return stranger(Drop::Memory);
+        return other_sender(Drop::Memory);
     }
     let ip = wire::ipv4::read(packet);
     let Ipv4Read::Packet(h) = ip else {
-        return stranger(ip_drop(ip));
+        return other_sender(ip_drop(ip));
     };
     if h.destination != own {
-        return stranger(Drop::Destination);
+        return other_sender(Drop::Destination);
     }
     let sender = find_peer(addresses, least(peer_count as usize, 8), h.source);
-    let Found::At(p) = sender else {
-        return stranger(Drop::Peer);
+    let Lookup::At(p) = sender else {
+        return other_sender(Drop::Peer);
     };
     let content = unpack(port, h, packet);
     Arrival {
@@ -210,7 +210,7 @@ fn settled(peer: usize, outcome: Outcome, size: u16, memory: &[u8]) -> Offer
 }
 
 // Takes the segment that a packet brings, with its sender's row: 14 to 17, then 11 where the frame is complete. All else passes.
-pub fn take(row: Row, arrival: Arrival, packet: &[u8], memory: &mut [u8]) -> Changed
+pub fn take(row: Peer, arrival: Arrival, packet: &[u8], memory: &mut [u8]) -> Changed
     ensures { λ r. ⌜ r ≡ changedOf (takeOf row arrival (now (packet .entry)) (now (memory .entry))) ⌝ }
     ensures { λ _. ⌜ now (memory .exit) ≡ takeOf row arrival (now (packet .entry)) (now (memory .entry)) .mem ⌝ }
 {
@@ -267,7 +267,7 @@ pub fn deliver<'a, 'r>(
         Offer::Frame(f) => {
             let n = least(binding_count as usize, 64);
             let found = find_binding(networks, kinds, owners, n, peer, f.kind, f.network);
-            let Found::At(b) = found else {
+            let Lookup::At(b) = found else {
                 return Received::Dropped(Drop::Binding);
             };
             let place = f.place;
@@ -293,7 +293,7 @@ pub fn deliver<'a, 'r>(
 
 // Receives a packet. The memory is lent; a delivered STT frame lies there until the next receive. Promised: answer, endpoint and memory are the
 // definition's; document 01's number is the table's; and demand 1.
-pub fn receive(e: Endpoint, packet: &[u8], memory: &mut [u8]) -> Receipt
+pub fn receive(e: Endpoint, packet: &[u8], memory: &mut [u8]) -> ReceiveResult
     ensures { λ r. ⌜ r ≡ receiptOf e (stepOf e (now (memory .entry)) (now (packet .entry))) ⌝ }
     ensures { λ _. ⌜ now (memory .exit) ≡ stepOf e (now (memory .entry)) (now (packet .entry)) .mem ⌝ }
     ensures { λ r. ⌜ (Bytes (now (packet .entry)) → valuesOf (r .answer) .number ≡ numbered (receiveRows e (now (memory .entry)) (now (packet .entry)))) ⌝ }
@@ -308,7 +308,7 @@ pub fn receive(e: Endpoint, packet: &[u8], memory: &mut [u8]) -> Receipt
         memory.len(),
     );
     let p = arrival.peer;
-    let old = e.rows[p];
+    let old = e.peers[p];
     let changed = take(old, arrival, packet, memory);
     let offer = changed.offer;
     let row = changed.row;
@@ -324,8 +324,8 @@ pub fn receive(e: Endpoint, packet: &[u8], memory: &mut [u8]) -> Receipt
         memory,
     );
     let mut next = e;
-    next.rows[p] = row;
-    Receipt {
+    next.peers[p] = row;
+    ReceiveResult {
         endpoint: next,
         answer: answer,
     }

@@ -7,7 +7,7 @@ ghost use Rattle.endpoint.specs.Config.{hasAddress, binds};
 use crate::answer::Drop;
 
 // The number that matches, or the refusal where the listing ends.
-pub enum Found {
+pub enum Lookup {
     At(usize),
     Refused(Drop),
 }
@@ -28,20 +28,20 @@ fn wide(x: u8) -> usize
 
 // The lowest of the first n peers that has this address, or 7. The loop goes over all eight, whatever n is: with a fixed number of turns a
 // turn takes three instructions.
-pub(crate) fn find_peer(addresses: &[u32; 8], n: usize, address: u32) -> Found
+pub(crate) fn find_peer(addresses: &[u32; 8], n: usize, address: u32) -> Lookup
     requires { ⌜ n ≤ 8 ⌝ }
     ensures { λ r. ⌜ r ≡ foundOf D.Peer (lowest (hasAddress (now (addresses .entry)) address) n) ⌝ }
 {
     let mut i: usize = 0;
     let found = loop {
         if 8 <= i {
-            break Found::Refused(Drop::Peer);
+            break Lookup::Refused(Drop::Peer);
         }
         if addresses[i] == address {
             if i < n {
-                break Found::At(i);
+                break Lookup::At(i);
             }
-            break Found::Refused(Drop::Peer);
+            break Lookup::Refused(Drop::Peer);
         }
         i += 1;
     };
@@ -57,19 +57,19 @@ pub(crate) fn find_binding<'a>(
     peer: usize,
     kind: u8,
     network: u64,
-) -> Found
+) -> Lookup
     requires { ⌜ n ≤ 64 ⌝ }
     ensures { λ r. ⌜ r ≡ foundOf D.Binding (lowest (binds (now (networks .entry)) (now (kinds .entry)) (now (owners .entry)) peer kind network) n) ⌝ }
 {
     let mut i: usize = 0;
     let found = loop {
         if n <= i {
-            break Found::Refused(Drop::Binding);
+            break Lookup::Refused(Drop::Binding);
         }
         if networks[i] == network {
             if kinds[i] == kind {
                 if wide(owners[i]) == peer {
-                    break Found::At(i);
+                    break Lookup::At(i);
                 }
             }
         }

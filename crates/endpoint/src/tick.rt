@@ -8,23 +8,23 @@ use crate::config::Endpoint;
 use reassembly::tick::tick_row;
 
 // What a tick gives.
-pub struct Ticked {
+pub struct TickResult {
     pub endpoint: Endpoint,
     pub answer: Tick,
 }
 
-pub fn tick(e: Endpoint) -> Ticked
+pub fn tick(e: Endpoint) -> TickResult
     ensures { λ r. ⌜ r ≡ tickOf e ⌝ }
     ensures { λ r. ⌜ TickRule e (tickCode (r .answer)) (r .endpoint) ⌝ }
 {
     let mut next = e;
     let mut p: usize = 0;
     while p < 8 {
-        let row = next.rows[p];
-        next.rows[p] = tick_row(row);
+        let row = next.peers[p];
+        next.peers[p] = tick_row(row);
         p += 1;
     }
-    Ticked {
+    TickResult {
         endpoint: next,
         answer: Tick::Done,
     }

@@ -1,4 +1,5 @@
--- The endpoint's columns, lent on: what a `&` to an endpoint owns, with a token of its lifetime, gives a `&` to one of its arrays at the same lifetime, and stays.
+-- The endpoint's columns, lent on: what a `&` to an endpoint owns, with a token of its lifetime, gives a `&` to one of its arrays at the same lifetime, and
+-- stays.
 --     Whole            the fractured borrow of the endpoint h at (b, o)
 --     Field            what a `&` to a field of value x at (b, o) owns
 --     Lends            Whole and the token  ⊢ ⇛ ∃ γ. the `&` to the field d bytes in, under γ; Whole and the token again
@@ -15,7 +16,8 @@ use base.Logic.{SProp, ent, sep, ex}
 use base.Fml.{Lft, GName, Share, Fml, flft, fres, fshr-bor}
 use prog.Wp.{Heap}
 use ghost.Atoms.{Atoms, sem}
-use types.Kit.{Given, Item, mean, ‵, raw, _⊛_, some, later, _$_, _∵_, !, qed, by, move, keep, use1, use2, split, join, pick, fjoin3, feqI, await, updating, now as at-once, show, done}
+use types.Kit.{Given, Item, mean, ‵, _⊛_, some, later, _$_, _∵_, !, qed, move, keep, use1, use2, split, join, pick, fjoin3, feqI, await, updating}
+use types.Kit.{now as at-once, show, done}
 use types.Tokens.{name-new, shr-bor-dup}
 use denote.RattleType.{RattleType}
 use denote.Memory.{partAt}
@@ -69,15 +71,18 @@ module _ {M : Type 1} (𝓤 : URA M) (H : Heap 𝓤) (A : Atoms 𝓤) (W : Given
   Field F ℓ κ x b o γ = ShrRef ℓ κ F .own (record { ptr = (b, o); name = γ; now = x }) (vptr b o ∷ [])
 
   abbrev Lends : (F : RattleType) → Lifetime → Lft → Share → Endpoint → F .Denot → ℕ → ℕ → ℕ → Type 1
-  Lends F ℓ κ q h x b o d = ent 𝓤 (⟦ Whole κ h b o ⟧ ∗ A .lft κ q) (H .⇛ (ex 𝓤 (λ (γ : GName). ⟦ Field F ℓ κ x b (o + d) γ ⟧ ∗ (⟦ Whole κ h b o ⟧ ∗ A .lft κ q))))
+  Lends F ℓ κ q h x b o d = ent 𝓤 (⟦ Whole κ h b o ⟧ ∗ A .lft κ q)
+      (H .⇛ (ex 𝓤 (λ (γ : GName). ⟦ Field F ℓ κ x b (o + d) γ ⟧ ∗ (⟦ Whole κ h b o ⟧ ∗ A .lft κ q))))
 
   -- the bindings' networks, kinds and owners, and a fourth column, as one item of a walk
   abbrev pub columns : Lifetime → Lft → Endpoint → ℕ → ℕ → (F : RattleType) → F .Denot → ℕ → Names → Item 𝓤
   columns ℓ κ h b o F x d g =
       ‵ (Field (Array u64 64) ℓ κ (h .networks) b (o + 0) (g .0))
-      ⊛ (‵ (Field (Array u8 64) ℓ κ (h .kinds) b (o + 940) (g .1 .0)) ⊛ (‵ (Field (Array u8 64) ℓ κ (h .owners) b (o + 1004) (g .1 .1 .0)) ⊛ ‵ (Field F ℓ κ x b (o + d) (g .1 .1 .1))))
+      ⊛ (‵ (Field (Array u8 64) ℓ κ (h .kinds) b (o + 940) (g .1 .0)) ⊛
+      (‵ (Field (Array u8 64) ℓ κ (h .owners) b (o + 1004) (g .1 .1 .0)) ⊛ ‵ (Field F ℓ κ x b (o + d) (g .1 .1 .1))))
 
-  lends-field : (F : RattleType) (d : ℕ) (get : Endpoint → F .Denot) → Parts 𝓤 H A T.the-row F (λ o. o + d) get → (ℓ : Lifetime) (κ : Lft) (q : Share) (h : Endpoint) (b o : ℕ) → Lends F ℓ κ q h (get h) b o d
+  lends-field : (F : RattleType) (d : ℕ) (get : Endpoint → F .Denot) → Parts 𝓤 H A T.the-row F (λ o. o + d) get
+      → (ℓ : Lifetime) (κ : Lft) (q : Share) (h : Endpoint) (b o : ℕ) → Lends F ℓ κ q h (get h) b o d
   lends-field F d get parts ℓ κ q h b o =
       qed W (‵ (Whole κ h b o) ∷ ‵ (flft κ q) ∷ []) ∵ updating ! $ shr-bor-dup ! $ move ! (0 ∷ 2 ∷ []) $
       use2 W (later (‵ (fshr-bor κ (λ s. partAt F s (get h) b (o + d))) ⊛ ‵ (flft κ q))) (parts κ q h b o) $ await ! tt $ split ! $
@@ -87,23 +92,28 @@ module _ {M : Type 1} (𝓤 : URA M) (H : Heap 𝓤) (A : Atoms 𝓤) (W : Given
 
   module _ (ℓ : Lifetime) (κ : Lft) (q : Share) (h : Endpoint) (b o : ℕ) where
     -- an array of numbers, which lies in memory as itself
-    column : (E : RattleType) (n d : ℕ) (get : Endpoint → List (E .Denot)) → Parts 𝓤 H A T.the-row (Array E n) (λ o. o + d) (λ e. map (λ (v : E .Denot). v) (get e)) → Lends (Array E n) ℓ κ q h (get h) b o d
-    column E n d get parts = subst (λ (l : List (E .Denot)). Lends (Array E n) ℓ κ q h l b o d) (map-id (get h)) (lends-field (Array E n) d (λ e. map (λ (v : E .Denot). v) (get e)) parts ℓ κ q h b o)
+    column : (E : RattleType) (n d : ℕ) (get : Endpoint → List (E .Denot))
+        → Parts 𝓤 H A T.the-row (Array E n) (λ o. o + d) (λ e. map (λ (v : E .Denot). v) (get e)) → Lends (Array E n) ℓ κ q h (get h) b o d
+    column E n d get parts = subst (λ (l : List (E .Denot)). Lends (Array E n) ℓ κ q h l b o d) (map-id (get h))
+        (lends-field (Array E n) d (λ e. map (λ (v : E .Denot). v) (get e)) parts ℓ κ q h b o)
 
     lends-networks : Lends (Array u64 64) ℓ κ q h (h .networks) b o 0
     lends-networks = column u64 64 0 (λ e. e .networks) (part-field 𝓤 H A W T.the-type T′.the-laws T′.the-copy 0 0 refl refl (T.struct .as-values) (λ e. refl))
 
     pub lends-addresses : Lends (Array u32 8) ℓ κ q h (h .addresses) b o 768
-    lends-addresses = column u32 8 768 (λ e. e .addresses) (part-field 𝓤 H A W T.the-type T′.the-laws T′.the-copy 2 768 refl refl (T.struct .as-values) (λ e. refl))
+    lends-addresses = column u32 8 768 (λ e. e .addresses) (part-field 𝓤 H A W T.the-type T′.the-laws T′.the-copy 2 768 refl refl (T.struct .as-values)
+        (λ e. refl))
 
     pub lends-tenants : Lends (Array u16 64) ℓ κ q h (h .tenants) b o 804
-    lends-tenants = column u16 64 804 (λ e. e .tenants) (part-field 𝓤 H A W T.the-type T′.the-laws T′.the-copy 4 804 refl refl (T.struct .as-values) (λ e. refl))
+    lends-tenants = column u16 64 804 (λ e. e .tenants) (part-field 𝓤 H A W T.the-type T′.the-laws T′.the-copy 4 804 refl refl (T.struct .as-values)
+        (λ e. refl))
 
     lends-kinds : Lends (Array u8 64) ℓ κ q h (h .kinds) b o 940
     lends-kinds = column u8 64 940 (λ e. e .kinds) (part-field 𝓤 H A W T.the-type T′.the-laws T′.the-copy 9 940 refl refl (T.struct .as-values) (λ e. refl))
 
     lends-owners : Lends (Array u8 64) ℓ κ q h (h .owners) b o 1004
-    lends-owners = column u8 64 1004 (λ e. e .owners) (part-field 𝓤 H A W T.the-type T′.the-laws T′.the-copy 10 1004 refl refl (T.struct .as-values) (λ e. refl))
+    lends-owners = column u8 64 1004 (λ e. e .owners) (part-field 𝓤 H A W T.the-type T′.the-laws T′.the-copy 10 1004 refl refl (T.struct .as-values)
+        (λ e. refl))
 
     -- the bindings' networks, kinds and owners, and a fourth column at once
     module _ (F : RattleType) (x : F .Denot) (d : ℕ) (fourth : Lends F ℓ κ q h x b o d) where
@@ -113,10 +123,14 @@ module _ {M : Type 1} (𝓤 : URA M) (H : Heap 𝓤) (A : Atoms 𝓤) (W : Given
       pub lends-columns : ent 𝓤 (⟦ Whole κ h b o ⟧ ∗ A .lft κ q) (H .⇛ (ex 𝓤 (λ (g : Names). mean 𝓤 H A (Four g) ∗ (⟦ Whole κ h b o ⟧ ∗ A .lft κ q))))
       lends-columns =
           qed W (‵ (Whole κ h b o) ∷ ‵ (flft κ q) ∷ []) ∵ updating ! $
-          use2 W (later (some (λ (γ : GName). ‵ (Field (Array u64 64) ℓ κ (h .networks) b (o + 0) γ) ⊛ (‵ (Whole κ h b o) ⊛ ‵ (flft κ q))))) lends-networks $ await ! tt $ pick ! (λ γ₁. split ! $ move ! (1 ∷ []) $ split ! $
-          use2 W (later (some (λ (γ : GName). ‵ (Field (Array u8 64) ℓ κ (h .kinds) b (o + 940) γ) ⊛ (‵ (Whole κ h b o) ⊛ ‵ (flft κ q))))) lends-kinds $ await ! tt $ pick ! (λ γ₂. split ! $ move ! (1 ∷ []) $ split ! $
-          use2 W (later (some (λ (γ : GName). ‵ (Field (Array u8 64) ℓ κ (h .owners) b (o + 1004) γ) ⊛ (‵ (Whole κ h b o) ⊛ ‵ (flft κ q))))) lends-owners $ await ! tt $ pick ! (λ γ₃. split ! $ move ! (1 ∷ []) $ split ! $
-          use2 W (later (some (λ (γ : GName). ‵ (Field F ℓ κ x b (o + d) γ) ⊛ (‵ (Whole κ h b o) ⊛ ‵ (flft κ q))))) fourth $ await ! tt $ pick ! (λ γ₄. split ! $ move ! (1 ∷ []) $ split ! $
+          use2 W (later (some (λ (γ : GName). ‵ (Field (Array u64 64) ℓ κ (h .networks) b (o + 0) γ) ⊛ (‵ (Whole κ h b o) ⊛ ‵ (flft κ q))))) lends-networks $
+          await ! tt $ pick ! (λ γ₁. split ! $ move ! (1 ∷ []) $ split ! $
+          use2 W (later (some (λ (γ : GName). ‵ (Field (Array u8 64) ℓ κ (h .kinds) b (o + 940) γ) ⊛ (‵ (Whole κ h b o) ⊛ ‵ (flft κ q))))) lends-kinds $ await
+          ! tt $ pick ! (λ γ₂. split ! $ move ! (1 ∷ []) $ split ! $
+          use2 W (later (some (λ (γ : GName). ‵ (Field (Array u8 64) ℓ κ (h .owners) b (o + 1004) γ) ⊛ (‵ (Whole κ h b o) ⊛ ‵ (flft κ q))))) lends-owners $
+          await ! tt $ pick ! (λ γ₃. split ! $ move ! (1 ∷ []) $ split ! $
+          use2 W (later (some (λ (γ : GName). ‵ (Field F ℓ κ x b (o + d) γ) ⊛ (‵ (Whole κ h b o) ⊛ ‵ (flft κ q))))) fourth $ await ! tt $ pick !
+          (λ γ₄. split ! $ move ! (1 ∷ []) $ split ! $
           -- [the borrow; the token; the fourth; owners; kinds; networks]
           at-once ! $ show ! (λ (g : Names). mean 𝓤 H A (Four g) ∗ (⟦ Whole κ h b o ⟧ ∗ A .lft κ q)) (γ₁, (γ₂, (γ₃, γ₄))) $
           move ! (3 ∷ 2 ∷ []) $ join ! $ move ! (3 ∷ 0 ∷ []) $ join ! $ move ! (3 ∷ 0 ∷ []) $ join ! $ done !))))

@@ -17,7 +17,8 @@ use base.Logic.{SProp, ent, sep, ex, via, comm∗, wand, wandE, allE}
 use base.Fml.{Fml, GName, ftrue, fdead, fres, flent}
 use prog.Wp.{Heap}
 use ghost.Atoms.{Atoms, sem}
-use types.Kit.{Given, Item, mean, ‵, raw, _⊛_, ⋆, some, later, _$_, _∵_, !, qed, by, move, use1, use3, split, join, pick, fsplit, fjoin, rewrite, await, updating, now as at-once, show, done}
+use types.Kit.{Given, Item, mean, ‵, raw, _⊛_, ⋆, some, later, _$_, _∵_, !, qed, by, move, use1, use3, split, join, pick, fsplit, fjoin, rewrite, await}
+use types.Kit.{updating, now as at-once, show, done}
 use types.SemTy.{Body}
 use denote.RattleType.{RattleType, Denots}
 use denote.Builtin.{u8, u16, u32, u64}

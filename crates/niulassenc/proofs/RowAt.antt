@@ -24,7 +24,7 @@ use denote.Memory.{cellAt, partAt, partOf, mem, shares}
 use denote.Array.{Array}
 use denote.ArrayMemory.{array-apart, array-whole}
 use denote.Index.{place, place-is, others, takes, puts}
-use denote.Struct.Declared.{fields, field}
+use denote.Struct.Declared.{field}
 use denote.Struct.Laws.{lawfuls}
 use denote.Struct.Members.{Member}
 use denote.Struct.Parts.{PartsBack}
@@ -32,10 +32,10 @@ use denote.Struct.Pick.{restAt, record-field-out, record-field-back}
 use Rattle.reassembly.specs.Slots.{noRow}
 use Rattle.reassembly.specs.Laws.Base.{map-set}
 use Rattle.endpoint.specs.Receive.{rowAt, withRow}
-use Rattle.reassembly.specs.declared.slot.Row.{Row}
+use Rattle.reassembly.specs.declared.slot.Peer.{Peer}
 use Rattle.endpoint.specs.declared.config.Endpoint.{Endpoint}
-use Rattle.reassembly.proofs.slot.Row as R
-use Rattle.reassembly.proofs.slot.Row.Laws as R′
+use Rattle.reassembly.proofs.slot.Peer as R
+use Rattle.reassembly.proofs.slot.Peer.Laws as R′
 use Rattle.endpoint.proofs.config.Endpoint as T
 use Rattle.endpoint.proofs.config.Endpoint.Laws as T′
 
@@ -51,7 +51,7 @@ offset-fits p l = omega arith
 abbrev pub RowS : RattleType
 RowS = field R.the-type .row
 
-abbrev pub into-row : Row → RowS .Denot
+abbrev pub into-row : Peer → RowS .Denot
 into-row r = field R.the-type .into r
 
 -- the endpoint's fields, each with its MIR type
@@ -71,7 +71,7 @@ members =
     ∷ []
 
 abbrev elems : Endpoint → List (RowS .Denot)
-elems h = map into-row (h .rows)
+elems h = map into-row (h .peers)
 
 abbrev d₀ : RowS .Denot
 d₀ = into-row noRow
@@ -80,7 +80,8 @@ d₀ = into-row noRow
 module _ {M : Type 1} (𝓤 : URA M) (H : Heap 𝓤) (A : Atoms 𝓤) (W : Given 𝓤 H A) (q : Share) (R : RattleType) (x : R .Denot) (b o : ℕ) where
   pub lies-in : (vs : List Val) → ent 𝓤 (sep 𝓤 (sem 𝓤 H A (cellAt q (R .mir) vs b o)) (sem 𝓤 H A (R .own x vs))) (sem 𝓤 H A (partAt R q x b o))
   unfolding partOf
-  lies-in vs = qed W (‵ (cellAt q (R .mir) vs b o) ∷ ‵ (R .own x vs) ∷ []) ∵ fjoin ! $ fpack ! (List Val) (λ us. fsep (cellAt q (R .mir) us b o) (R .own x us)) vs $ done !
+  lies-in vs = qed W (‵ (cellAt q (R .mir) vs b o) ∷ ‵ (R .own x vs) ∷ []) ∵ fjoin ! $ fpack ! (List Val)
+      (λ us. fsep (cellAt q (R .mir) us b o) (R .own x us)) vs $ done !
 
   pub lies-out : ent 𝓤 (sem 𝓤 H A (partAt R q x b o)) (ex 𝓤 (λ (vs : List Val). sep 𝓤 (sem 𝓤 H A (cellAt q (R .mir) vs b o)) (sem 𝓤 H A (R .own x vs))))
   unfolding partOf
@@ -128,10 +129,10 @@ module _ {M : Type 1} (𝓤 : URA M) (H : Heap 𝓤) (A : Atoms 𝓤) (W : Given
 
   -- at n, where the row lies
   module _ (n : ℕ) where
-    abbrev pub TheRow : Row → Fml
+    abbrev pub TheRow : Peer → Fml
     TheRow r = partAt RowS q (into-row r) b n
 
-    abbrev pub Reached : Row → Pr
+    abbrev pub Reached : Peer → Pr
     Reached r = (⟦ Eight ⟧ ∗ (⟦ TheRow r ⟧ ∗ ⟦ Others ⟧)) ∗ kept
 
   abbrev at-row : ℕ
@@ -142,23 +143,24 @@ module _ {M : Type 1} (𝓤 : URA M) (H : Heap 𝓤) (A : Atoms 𝓤) (W : Given
 
   reaches′ : p < 8 → ⟦ partAt T.the-row q h b o ⟧ ⊢ Reached at-row (rowAt h p)
   reaches′ l =
-      via 𝓤 (the-array (elems h) ∗ kept) (record-field-out 𝓤 H A W q (T.struct .name) members Endpoint (T.the-type .to) (T.the-type .to-one) (lawfuls 𝓤 H A W (T.struct .parts) T′.the-laws) h b o 1)
+      via 𝓤 (the-array (elems h) ∗ kept) (record-field-out 𝓤 H A W q (T.struct .name) members Endpoint (T.the-type .to) (T.the-type .to-one)
+      (lawfuls 𝓤 H A W (T.struct .parts) T′.the-laws) h b o 1)
       (monoL 𝓤 kept
       (via 𝓤 (⟦ Eight ⟧ ∗ the-elements (elems h)) (array-apart 𝓤 H A W RowS q tt 8 (elems h) b at-rows)
       (ex∗ 𝓤 (λ (_ : length (elems h) ≡ 8). emp 𝓤) (the-elements (elems h)) (λ e.
       via 𝓤 (⟦ Eight ⟧ ∗ the-elements (elems h)) (monoL 𝓤 (the-elements (elems h)) (guardI 𝓤 (length (elems h) ≡ 8) (emp 𝓤) e))
       (monoR 𝓤 ⟦ Eight ⟧
-      (subst (λ (x : RowS .Denot). the-elements (elems h) ⊢ ⟦ partAt RowS q x b at-row ⟧ ∗ ⟦ Others ⟧) (List·getD-map into-row (h .rows) p noRow)
+      (subst (λ (x : RowS .Denot). the-elements (elems h) ⊢ ⟦ partAt RowS q x b at-row ⟧ ∗ ⟦ Others ⟧) (List·getD-map into-row (h .peers) p noRow)
       (takes (shares RowS) q 𝓤 H A W (elems h) p d₀ b at-rows (has l e))))))))
 
-  comes-back′ : p < 8 → (r : Row) → Reached at-row r ⊢ ⟦ partAt T.the-row q (withRow h p r) b o ⟧
+  comes-back′ : p < 8 → (r : Peer) → Reached at-row r ⊢ ⟦ partAt T.the-row q (withRow h p r) b o ⟧
   comes-back′ l r =
       let x : RowS .Denot = into-row r in
       let xs : List (RowS .Denot) = set (elems h) p x in
       let inner : Pr = ⟦ TheRow at-row r ⟧ ∗ ⟦ Others ⟧ in
       via 𝓤 (the-array (elems (withRow h p r)) ∗ kept)
       (monoL 𝓤 kept
-      (subst (λ (ys : List (RowS .Denot)). ⟦ Eight ⟧ ∗ inner ⊢ the-array ys) (sym (map-set into-row (h .rows) p r))
+      (subst (λ (ys : List (RowS .Denot)). ⟦ Eight ⟧ ∗ inner ⊢ the-array ys) (sym (map-set into-row (h .peers) p r))
       (ex∗ 𝓤 (λ (_ : length (elems h) ≡ 8). emp 𝓤) inner (λ e.
       via 𝓤 (⟦ feq ℕ (length xs) 8 ⟧ ∗ inner) (monoL 𝓤 inner (guardI 𝓤 (length xs ≡ 8) (emp 𝓤) (length-set (elems h) p x ∙ e)))
       (via 𝓤 (⟦ feq ℕ (length xs) 8 ⟧ ∗ the-elements xs)
@@ -170,9 +172,9 @@ module _ {M : Type 1} (𝓤 : URA M) (H : Heap 𝓤) (A : Atoms 𝓤) (W : Given
   pub reaches : p < 8 → ⟦ partAt T.the-row q h b o ⟧ ⊢ Reached (rowPlace o p) (rowAt h p)
   reaches l = subst (λ (n : ℕ). ⟦ partAt T.the-row q h b o ⟧ ⊢ Reached n (rowAt h p)) (place-is 32 at-rows p) (reaches′ l)
 
-  pub comes-back : p < 8 → (r : Row) → Reached (rowPlace o p) r ⊢ ⟦ partAt T.the-row q (withRow h p r) b o ⟧
+  pub comes-back : p < 8 → (r : Peer) → Reached (rowPlace o p) r ⊢ ⟦ partAt T.the-row q (withRow h p r) b o ⟧
   comes-back l r = subst (λ (n : ℕ). Reached n r ⊢ ⟦ partAt T.the-row q (withRow h p r) b o ⟧) (place-is 32 at-rows p) (comes-back′ l r)
 
   -- `Reached`, part by part, as a walk holds it
-  abbrev pub AtRow : Row → Item 𝓤
+  abbrev pub AtRow : Peer → Item 𝓤
   AtRow r = (‵ Eight ⊛ (‵ (TheRow (rowPlace o p) r) ⊛ ‵ Others)) ⊛ (‵ EndpointRest ⊛ raw EndpointBack)

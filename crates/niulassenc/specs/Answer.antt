@@ -39,7 +39,7 @@ numberOf (A.Refused r) = none
 abbrev pub additionOf : Added → Addition
 additionOf a = record { number = orNone (numberOf a); code = addedCode a }
 
-abbrev pub startedOf : E.Started.Started → Started
+abbrev pub startedOf : E.StartResult.StartResult → Started
 startedOf s = record { endpoint = s .endpoint; code = startCode (s .answer) }
 
 -- a wrap's values, flat

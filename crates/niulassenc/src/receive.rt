@@ -11,11 +11,11 @@ use crate::answer::flat_received;
 use endpoint::config::Endpoint;
 use endpoint::receive;
 use endpoint::receive::Arrival;
-use reassembly::slot::Row;
+use reassembly::slot::Peer;
 
 // What a receive leaves of one peer, which is all of the endpoint that it may change, and its answer.
-pub struct Outcome {
-    pub row: Row,
+pub struct PeerUpdate {
+    pub row: Peer,
     pub peer: usize,
     pub answer: Receipt,
 }
@@ -28,10 +28,10 @@ pub(crate) fn flat_settled<'a>(
     tenants: &'a [u16; 64],
     binding_count: u16,
     arrival: Arrival,
-    row: Row,
+    row: Peer,
     packet: &[u8],
     memory: &mut [u8],
-) -> Outcome
+) -> PeerUpdate
     ensures { λ r. ⌜ (r ≡ outcomeOf (settleOf (now (networks .entry)) (now (kinds .entry)) (now (owners .entry)) (now (tenants .entry)) (min «binding_count» 64) arrival row (now (packet .entry)) (now (memory .entry))))
         × (now (memory .exit) ≡ settleOf (now (networks .entry)) (now (kinds .entry)) (now (owners .entry)) (now (tenants .entry)) (min «binding_count» 64) arrival row (now (packet .entry)) (now (memory .entry)) .mem) ⌝ }
 {
@@ -51,7 +51,7 @@ pub(crate) fn flat_settled<'a>(
         memory,
     );
     let given = flat_received(answer);
-    Outcome {
+    PeerUpdate {
         row: left,
         peer: peer,
         answer: given,
@@ -76,10 +76,10 @@ pub(crate) fn opened(endpoint: &Endpoint, packet: &[u8], room: usize) -> Arrival
 pub(crate) fn settled(
     endpoint: &Endpoint,
     arrival: Arrival,
-    row: Row,
+    row: Peer,
     packet: &[u8],
     memory: &mut [u8],
-) -> Outcome
+) -> PeerUpdate
     ensures { λ r. ⌜ (r ≡ outcomeOf (settledBy (now (endpoint .entry)) arrival row (now (packet .entry)) (now (memory .entry))))
         × (now (memory .exit) ≡ settledBy (now (endpoint .entry)) arrival row (now (packet .entry)) (now (memory .entry)) .mem) ⌝ }
 {
@@ -97,12 +97,12 @@ pub(crate) fn settled(
 }
 
 // The receive as far as it only reads the endpoint: it gives the row that is to be put back.
-pub(crate) fn received(endpoint: &Endpoint, packet: &[u8], memory: &mut [u8]) -> Outcome
+pub(crate) fn received(endpoint: &Endpoint, packet: &[u8], memory: &mut [u8]) -> PeerUpdate
     ensures { λ r. ⌜ (r ≡ outcomeOf (stepOf (now (endpoint .entry)) (now (memory .entry)) (now (packet .entry)))) × (now (memory .exit) ≡ stepOf (now (endpoint .entry)) (now (memory .entry)) (now (packet .entry)) .mem) ⌝ }
 {
     let arrival = opened(endpoint, packet, memory.len());
     let p = arrival.peer;
-    let row = endpoint.rows[p];
+    let row = endpoint.peers[p];
     settled(endpoint, arrival, row, packet, memory)
 }
 
@@ -119,6 +119,6 @@ pub extern "C" fn niulassenc_receive(
 {
     let out = received(&*endpoint, packet, memory);
     let p = out.peer;
-    endpoint.rows[p] = out.row;
+    endpoint.peers[p] = out.row;
     out.answer
 }

@@ -12,8 +12,8 @@ pub extern "C" fn niulassenc_tick(endpoint: &mut Endpoint) -> u8
 {
     let mut p: usize = 0;
     while p < 8 {
-        let row = endpoint.rows[p];
-        endpoint.rows[p] = tick_row(row);
+        let row = endpoint.peers[p];
+        endpoint.peers[p] = tick_row(row);
         p += 1;
     }
     0

@@ -5,7 +5,7 @@ use mathlib.Core.Path.{_≡_, sym, ap, _∙_}
 use mathlib.Core.List.{List, _++_, append-nil, append-assoc}
 use native.Mathlib.Nat.{zero-add}
 use native.Mathlib.Omega.{arith}
-use lib.ListN.{length, take, drop, getD, set, replicate, length-drop, length-replicate, take-append-drop}
+use lib.ListN.{length, take, drop, getD, replicate, length-drop, length-replicate, take-append-drop}
 use lib.Seq.{take-all, take-length, drop-length, drop-drop, sets, sets-eq, length-sets, length-take-le, getD-drop}
 use borrow.Rule.Slice.PartMut.{midOf, putMid, post-is}
 use Rattle.reassembly.specs.Base.{someBelow, allBelow}
@@ -53,7 +53,8 @@ landed m x y s k at lk f o ex m₁ e₁ ey =
     let p : ℕ = k * 1728 + at in
     let b : ℕ = k * 1728 + 1536 in
     let z : m₁ ≡ sets m p s =
-    e₁ ∙ ap (λ (t : List ℕ). putMid p (length m - p) m t) (ex ∙ ap (λ (t : List ℕ). t ++ drop (length s) (midOf p (length m - p) m)) (take-length s)) ∙ written p m s (omega arith) in
+    e₁ ∙ ap (λ (t : List ℕ). putMid p (length m - p) m t) (ex ∙ ap (λ (t : List ℕ). t ++ drop (length s) (midOf p (length m - p) m)) (take-length s))
+    ∙ written p m s (omega arith) in
     ap (λ (t : List ℕ). putMid b (length m₁ - b) m₁ t) ey
     ∙ flagged b at (length s) m₁ (omega (arith, ap length z, length-sets m p s))
     ∙ ap (λ (t : List ℕ). setBits t b at (length s)) z

@@ -6,11 +6,11 @@ use native.Mathlib.Omega.{arith}
 use lib.ListN.{length, getD, length-map}
 use denote.Laws.{Is}
 use denote.Struct.Laws as LL
-use Rattle.reassembly.specs.Slots.{Row}
-use Rattle.reassembly.proofs.slot.Row as R
-use Rattle.reassembly.proofs.slot.Row.Laws as R′
+use Rattle.reassembly.specs.Slots.{Peer}
+use Rattle.reassembly.proofs.slot.Peer as R
+use Rattle.reassembly.proofs.slot.Peer.Laws as R′
 
-pub four-slots : (r : Row) → Is R.the-row r (LL.vals R.the-type R′.the-laws r) → length (r .slots) ≡ 4
+pub four-slots : (r : Peer) → Is R.the-row r (LL.vals R.the-type R′.the-laws r) → length (r .slots) ≡ 4
 four-slots r is = sym (length-map (r .slots) _) ∙ LL.owed R.the-type R′.the-laws r (LL.vals R.the-type R′.the-laws r) is .0 .1 .0 .1
 
 -- a list of four is its four elements

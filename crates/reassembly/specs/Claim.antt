@@ -10,7 +10,7 @@ use Prim.Native.Nat.{ℕ, _+_, _≤_, _<_}
 use lib.ListN.{length}
 use lib.Dec.{eqb}
 use Rattle.reassembly.specs.Receive.{Answers, Answer, Event, receive}
-use Rattle.reassembly.specs.SetUp.{Layers, Endpoint, World, strike, next, runs, handedBack, heard, from, answersOf}
+use Rattle.reassembly.specs.SetUp.{Layers, Endpoint, World, strike, next, runs, handedBack, answerOf, from, answersOf}
 use Rattle.reassembly.specs.Mix.{Frame, partOf, frameOf, Cut, Item, given, other, event, segmentsOf, Mixing, Right, InTurn}
 
 -- two deliveries of one frame: both are answer 0 with the same verdict and length, and the same bytes; the places may differ
@@ -26,10 +26,10 @@ pub record SameFrame (W : Answers) (a b : Answer W) : Type 0 where
 module _ (W : Answers) (Config : Type 0) (U : Layers W Config) where
   -- the answer to segment j of frame f, after the items `before`; how often a segment of frame f is answered 0
   abbrev pub answerIn : World Config → List Frame → List Item → ℕ → ℕ → Answer W
-  answerIn w frames before f j = heard W Config U (runs W Config U w (map (event frames) before)) (partOf (frameOf frames f) j .packet)
+  answerIn w frames before f j = answerOf W Config U (runs W Config U w (map (event frames) before)) (partOf (frameOf frames f) j .packet)
 
   abbrev pub delivery : List Frame → ℕ → World Config → Item → ℕ
-  delivery frames f w (given g j) = cond (eqb g f && W .delivered (heard W Config U w (partOf (frameOf frames g) j .packet) .reply)) 1 0
+  delivery frames f w (given g j) = cond (eqb g f && W .delivered (answerOf W Config U w (partOf (frameOf frames g) j .packet) .reply)) 1 0
   delivery frames f w (other e) = 0
 
   abbrev pub deliveries : List Frame → ℕ → World Config → List Item → ℕ
@@ -49,7 +49,8 @@ module _ (W : Answers) (Config : Type 0) (U : Layers W Config) where
         → answersOf W Config U p (record { ends = e; mem = m }) es ≡ answersOf W Config U p (record { ends = e; mem = m′ }) es′
     -- an answer's bytes are those that the second call hands back at any time before the next receive: any number of ticks may come between
     pub whenever : (m : List ℕ) (es : List Event) (k : List ℕ) (n : ℕ)
-        → handedBack W Config U n (runs W Config U (record { ends = e; mem = m }) es) k ≡ heard W Config U (runs W Config U (record { ends = e; mem = m }) es) k .bytes
+        → handedBack W Config U n (runs W Config U (record { ends = e; mem = m }) es) k
+        ≡ answerOf W Config U (runs W Config U (record { ends = e; mem = m }) es) k .bytes
     -- in a mixing of cuts of good frames, a segment that is not its frame's last in the run is answered 1; the last is answered 0, with the frame's verdict
     -- (tenant and binding) and inner frame
     pub delivers : (frames : List Frame) (cuts : Cuts (e .config) p frames) (items : List Item) → Mixing W (U .header (e .config)) p frames items
@@ -62,7 +63,7 @@ module _ (W : Answers) (Config : Type 0) (U : Layers W Config) where
     pub nothing-else : (frames : List Frame) (items : List Item) → Mixing W (U .header (e .config)) p frames items
         → (m : List ℕ) → 55296 ≤ length m → (before after′ : List Item) (k : List ℕ) → items ≡ before ++ (other (receive k) ∷ after′)
         → from W Config U (e .config) p k ≡ true
-        → W .place (heard W Config U (runs W Config U (record { ends = e; mem = m }) (map (event frames) before)) k .reply) .inMemory ≡ false
+        → W .place (answerOf W Config U (runs W Config U (record { ends = e; mem = m }) (map (event frames) before)) k .reply) .inMemory ≡ false
     -- and a run of the same segment packets alone, frame by frame, delivers the same
     pub one-after-another : (frames : List Frame) → Cuts (e .config) p frames → (items items′ : List Item)
         → Mixing W (U .header (e .config)) p frames items → InTurn frames items′ → (m m′ : List ℕ) → 55296 ≤ length m → length m ≡ length m′

@@ -16,9 +16,10 @@ use lib.Dec.{eqb}
 use Rattle.reassembly.specs.Slots.{Slot, noRow, free}
 use Rattle.reassembly.specs.Take.{Seg, Fits, Rejection, rejectionCode, Outcome, Rejected, Pending, Complete, OtherLength, AlreadyReceived, NoSlot}
 use Rattle.reassembly.specs.Store.{bytesOf}
-use Rattle.reassembly.specs.Receive.{Answers, segment, Event, receive, tick, told}
+use Rattle.reassembly.specs.Receive.{Answers, segment, Event, receive, tick, takeAnswer}
 use Rattle.reassembly.specs.SetUp.{Layers, Endpoint, World, receives, runs}
-use Rattle.reassembly.specs.History.{carries, noSeg, identifierOf, lengthOf, frameComplete, framePending, OneOf, OfFrame, History, Bears, Fifteen, Sixteen, Seventeen, Further, Opens, taking, historyOf, onceMore, CameIn}
+use Rattle.reassembly.specs.History.{carries, noSeg, identifierOf, lengthOf, frameComplete, framePending, OneOf, OfFrame, History, Bears, Fifteen}
+use Rattle.reassembly.specs.History.{Sixteen, Seventeen, Further, Opens, taking, historyOf, onceMore, CameIn}
 
 -- slot s of peer p starts here, and its map here
 abbrev pub frameAt : ℕ → ℕ → ℕ
@@ -111,7 +112,7 @@ module _ (W : Answers) (Config : Type 0) (U : Layers W Config) (p : ℕ) (e : En
     pub begins : (m : List ℕ) (s : ℕ) → history m [] .taken s ≡ []
     -- a frame is pending exactly while the run says so: three ticks at most since it opened, and at the fourth it is not
     pub stands : (m : List ℕ) → 55296 ≤ length m → (es : List Event) (s : ℕ) → s < 4
-        → Stands (getD (getD (after m es .ends .rows) p noRow .slots) s free) (history m es .taken s) (history m es .ticks s)
+        → Stands (getD (getD (after m es .ends .peers) p noRow .slots) s free) (history m es .taken s) (history m es .ticks s)
     -- frames pending together bear different identifiers
     pub distinct : (m : List ℕ) → 55296 ≤ length m → (es : List Event) (id s t : ℕ) → Bears (history m es) id s → Bears (history m es) id t → s ≡ t
     -- each segment that was taken came in a sound packet of the peer's in this run
@@ -128,7 +129,7 @@ module _ (W : Answers) (Config : Type 0) (U : Layers W Config) (p : ℕ) (e : En
     -- what taking tells is what the receive answers: 14 to 17, 1, or the judgement of the complete frame
     pub answered : (m : List ℕ) → 55296 ≤ length m → (es : List Event) (k : List ℕ) (g : Seg) → U .header (e .config) k ≡ segment p g
         → receives W Config U (after m es) k .reply
-        ≡ told W (U .judge (e .config)) bytesOf p g (taking W Config U p (after m es) g) (taking W Config U p (after m es) g .outcome) .reply
+        ≡ takeAnswer W (U .judge (e .config)) bytesOf p g (taking W Config U p (after m es) g) (taking W Config U p (after m es) g .outcome) .reply
     -- a packet that is no sound STT packet of any peer's changes nothing; another peer's, nothing that the run tells of this peer's slots
     pub no-segment : (m : List ℕ) → 55296 ≤ length m → (es : List Event) (k : List ℕ) → ((q : ℕ) (g : Seg) → U .header (e .config) k ≡ segment q g → ⊥)
         → Unchanged (history m es) (history m (es ++ (receive k ∷ []))) (after m es .mem) (after m (es ++ (receive k ∷ [])) .mem)

@@ -13,7 +13,7 @@ use Rattle.reassembly.specs.Base.{allBelow, within}
 use Rattle.reassembly.specs.Slots.{Slot, noMark, noRow}
 use Rattle.reassembly.specs.Take.{Seg, Fits, Outcome, Rejected, Pending, Complete, NoMemory, Choice, reject, old, fresh, chosen, Effect}
 use Rattle.reassembly.specs.Store.{bytesOf, takeIn}
-use Rattle.reassembly.specs.Receive.{Answers, Seen, stranger, plain, segment, Event, receive, tick}
+use Rattle.reassembly.specs.Receive.{Answers, Reading, otherSender, direct, segment, Event, receive, tick}
 use Rattle.reassembly.specs.SetUp.{Layers, World, next}
 
 -- ---- a frame and its segments
@@ -178,12 +178,12 @@ onceMore c t = c t + 1
 module _ (W : Answers) (Config : Type 0) (U : Layers W Config) (p : ℕ) where
   -- what taking peer p's segment g gives in this world
   abbrev pub taking : World Config → Seg → Effect bytesOf
-  taking w g = takeIn p (getD (w .ends .rows) p noRow) (w .mem) g
+  taking w g = takeIn p (getD (w .ends .peers) p noRow) (w .mem) g
 
-  abbrev pub logSeen : World Config → Log → Seen W → Log
-  logSeen w L (stranger a) = L
-  logSeen w L (plain q a) = L
-  logSeen w L (segment q g) = cond (eqb q p) (logged L (getD (w .ends .rows) p noRow .slots) g (taking w g .outcome)) L
+  abbrev pub logSeen : World Config → Log → Reading W → Log
+  logSeen w L (otherSender a) = L
+  logSeen w L (direct q a) = L
+  logSeen w L (segment q g) = cond (eqb q p) (logged L (getD (w .ends .peers) p noRow .slots) g (taking w g .outcome)) L
 
   abbrev pub logNext : World Config → Log → Event → Log
   logNext w L tick = L
@@ -193,10 +193,10 @@ module _ (W : Answers) (Config : Type 0) (U : Layers W Config) (p : ℕ) where
   logRun w L [] = L
   logRun w L (e ∷ es) = logRun (next W Config U w e) (logNext w L e) es
 
-  abbrev pub clockSeen : World Config → (ℕ → ℕ) → Seen W → ℕ → ℕ
-  clockSeen w c (stranger a) = c
-  clockSeen w c (plain q a) = c
-  clockSeen w c (segment q g) = cond (eqb q p) (restarted c (chosen (getD (w .ends .rows) p noRow .slots) g) (taking w g .outcome)) c
+  abbrev pub clockSeen : World Config → (ℕ → ℕ) → Reading W → ℕ → ℕ
+  clockSeen w c (otherSender a) = c
+  clockSeen w c (direct q a) = c
+  clockSeen w c (segment q g) = cond (eqb q p) (restarted c (chosen (getD (w .ends .peers) p noRow .slots) g) (taking w g .outcome)) c
 
   abbrev pub clockNext : World Config → (ℕ → ℕ) → Event → ℕ → ℕ
   clockNext w c tick = onceMore c

@@ -7,7 +7,7 @@ use lib.ListN.{length, getD, take, drop}
 use lib.Dec.{ltb, eqb}
 use Rattle.reassembly.specs.Slots.{Note, Mark, noNote, noMark}
 use Rattle.reassembly.specs.Take.{Seg, noteAfter, slotNo}
-use Rattle.reassembly.specs.Receive.{Answers, Verdict, good, Seen, stranger, plain, segment, Event, receive, tick, Answer, bare}
+use Rattle.reassembly.specs.Receive.{Answers, Verdict, good, Reading, otherSender, direct, segment, Event, receive, tick, Answer, bare}
 use Rattle.reassembly.specs.Store.{slotStart}
 
 -- one segment of a cut: the packet that carries it, its bytes of the frame, and its mark
@@ -60,7 +60,7 @@ frameNote f = noteTo f (length (f .parts))
 
 -- the frame is good for the peer (its verdict names what a delivery carries); its parts are a cut of it: each byte once, unchanged, none empty;
 -- and each part's packet is the peer's, sound, and states the frame's length, its own offset and the one identifier
-pub record Cut (W : Answers) (header : List ℕ → Seen W) (judge : ℕ → Note → List ℕ → Verdict W) (p : ℕ) (f : Frame) : Type 0 where
+pub record Cut (W : Answers) (header : List ℕ → Reading W) (judge : ℕ → Note → List ℕ → Verdict W) (p : ℕ) (f : Frame) : Type 0 where
   pub verdict : W .Good
   pub is-good : judge p (frameNote f) (f .content) ≡ good verdict
   pub least : 32 ≤ length (f .content)
@@ -120,21 +120,21 @@ howMany zero t = 0
 howMany (suc n) t = cond (t n) 1 0 + howMany n t
 
 -- the item is none of the peer's segments
-abbrev pub notSegment : (W : Answers) → ℕ → Seen W → Type 0
-notSegment W p (stranger a) = Unit {0}
-notSegment W p (plain q a) = Unit {0}
+abbrev pub notSegment : (W : Answers) → ℕ → Reading W → Type 0
+notSegment W p (otherSender a) = Unit {0}
+notSegment W p (direct q a) = Unit {0}
 notSegment W p (segment q g) = q ≡ p → ⊥
 
-abbrev pub Free : (W : Answers) → (List ℕ → Seen W) → ℕ → Item → Type 0
+abbrev pub Free : (W : Answers) → (List ℕ → Reading W) → ℕ → Item → Type 0
 Free W header p (given f j) = Unit {0}
 Free W header p (other tick) = Unit {0}
 Free W header p (other (receive k)) = notSegment W p (header k)
 
-abbrev pub AllFree : (W : Answers) → (List ℕ → Seen W) → ℕ → List Item → Type 0
+abbrev pub AllFree : (W : Answers) → (List ℕ → Reading W) → ℕ → List Item → Type 0
 AllFree W header p [] = Unit {0}
 AllFree W header p (x ∷ xs) = Free W header p x × AllFree W header p xs
 
-pub record Mixing (W : Answers) (header : List ℕ → Seen W) (p : ℕ) (frames : List Frame) (items : List Item) : Type 0 where
+pub record Mixing (W : Answers) (header : List ℕ → Reading W) (p : ℕ) (frames : List Frame) (items : List Item) : Type 0 where
   -- each segment is given once, and no other label stands in the run
   pub once : (f j : ℕ) → times f j items ≡ cond (isSegment frames f j) 1 0
   -- the peer's sound STT packets are exactly the segments spoken of

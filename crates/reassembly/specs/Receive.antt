@@ -80,22 +80,22 @@ module _ (W : Answers) where
   -- what the header layer makes of a packet, with the memory large enough:
   -- another sender's, refused by one of the checks 3 to 7; a listed peer's that never comes to reassembly (refused by 8 to 10, or of another kind than
   -- STT), with its answer; or a listed peer's STT packet that passes 3 to 10, with the segment that it carries
-  pub data Seen : Type 0 where
-    stranger : W .A → Seen
-    plain : ℕ → W .A → Seen
-    segment : ℕ → Seg → Seen
+  pub data Reading : Type 0 where
+    otherSender : W .A → Reading
+    direct : ℕ → W .A → Reading
+    segment : ℕ → Seg → Reading
 
   -- the answer on the complete frame of slot k, of length n: its bytes from 18 on, where they lie in the memory
-  abbrev pub spoken : Verdict → ℕ → ℕ → List ℕ → Answer
-  spoken (bad b) k n frame = bare (W .refused b)
-  spoken (good v) k n frame = record { reply = W .gives v (slotStart k + 18) (n - 18); bytes = drop 18 frame }
+  abbrev pub frameAnswer : Verdict → ℕ → ℕ → List ℕ → Answer
+  frameAnswer (bad b) k n frame = bare (W .refused b)
+  frameAnswer (good v) k n frame = record { reply = W .gives v (slotStart k + 18) (n - 18); bytes = drop 18 frame }
 
   module _ (judge : ℕ → Note → List ℕ → Verdict) (O : Ops) where
     -- the answer to peer p's segment g, of which taking had this effect
-    abbrev pub told : ℕ → Seg → Effect O → Outcome → Answer
-    told p g o (Rejected r) = bare (W .rejected r)
-    told p g o Pending = bare (W .pending)
-    told p g o (Complete s) =
+    abbrev pub takeAnswer : ℕ → Seg → Effect O → Outcome → Answer
+    takeAnswer p g o (Rejected r) = bare (W .rejected r)
+    takeAnswer p g o Pending = bare (W .pending)
+    takeAnswer p g o (Complete s) =
         let frame : List ℕ = frameIn O (o .mem) (slotNo p s) (g .frame-length) in
-        spoken (judge p (o .note) frame) (slotNo p s) (g .frame-length) frame
-    told p g o NoMemory = bare (W .tooSmall)
+        frameAnswer (judge p (o .note) frame) (slotNo p s) (g .frame-length) frame
+    takeAnswer p g o NoMemory = bare (W .tooSmall)

@@ -5,18 +5,19 @@ use mathlib.Core.Path.{_≡_}
 use mathlib.Core.Bool.{Bool, true, false, cond}
 use mathlib.Core.List.{List, [], _∷_, _++_, map}
 use mathlib.Core.Option.{Option, none, some}
-use Prim.Native.Nat.{ℕ, _+_, _<_}
+use Prim.Native.Nat.{ℕ, _<_}
 use lib.ListN.{length, getD, set, replicate}
 use lib.Dec.{ltb, eqb}
-use Rattle.reassembly.specs.Slots.{Row, Note, noRow, olderRow, emptyRows}
+use Rattle.reassembly.specs.Slots.{Peer, Note, noRow, olderRow, emptyRows}
 use Rattle.reassembly.specs.Take.{Effect}
 use Rattle.reassembly.specs.Store.{bytesOf, takeIn}
-use Rattle.reassembly.specs.Receive.{nowhere, rowOf, viewOf, Answers, Answer, Verdict, Seen, stranger, plain, segment, Event, receive, tick, told}
+use Rattle.reassembly.specs.Receive.{nowhere, rowOf, viewOf, Answers, Answer, Verdict, Reading, otherSender, direct, segment, Event, receive, tick}
+use Rattle.reassembly.specs.Receive.{takeAnswer}
 
 -- what reads a configuration: what a packet is taken for; what checks 11 to 13 say of a complete frame from this peer, of whose segments this was noted;
 -- and the peer whose packet it is: it passes checks 3 to 6 and its source is that peer
 pub record Layers (W : Answers) (Config : Type 0) : Type 0 where
-  pub header : Config → List ℕ → Seen W
+  pub header : Config → List ℕ → Reading W
   pub judge : Config → ℕ → Note → List ℕ → Verdict W
   pub source : Config → List ℕ → Option ℕ
 
@@ -24,16 +25,16 @@ abbrev pub isPeer : ℕ → Option ℕ → Bool
 isPeer p none = false
 isPeer p (some q) = eqb q p
 
-abbrev pub peerOf : (W : Answers) → Seen W → Option ℕ
-peerOf W (stranger a) = none
-peerOf W (plain q a) = some q
+abbrev pub peerOf : (W : Answers) → Reading W → Option ℕ
+peerOf W (otherSender a) = none
+peerOf W (direct q a) = some q
 peerOf W (segment q g) = some q
 
 -- what a configuration's layers promise: a listed peer's number is below 8; an answer that needs no reassembly does not name the memory; and the header
 -- layer's peer is the packet's source
-abbrev pub Kept : (W : Answers) → Seen W → Type 0
-Kept W (stranger a) = W .place a ≡ nowhere
-Kept W (plain q a) = (q < 8) × (W .place a .inMemory ≡ false)
+abbrev pub Kept : (W : Answers) → Reading W → Type 0
+Kept W (otherSender a) = W .place a ≡ nowhere
+Kept W (direct q a) = (q < 8) × (W .place a .inMemory ≡ false)
 Kept W (segment q g) = q < 8
 
 pub record Promised (W : Answers) (Config : Type 0) (U : Layers W Config) (c : Config) : Type 0 where
@@ -52,7 +53,7 @@ strike own (e ∷ es) = cond (keeps own e) (e ∷ strike own es) (strike own es)
 -- the endpoint: its configuration, and its eight rows
 pub record Endpoint (Config : Type 0) : Type 0 where
   pub config : Config
-  pub rows : List Row
+  pub peers : List Peer
 
 -- the endpoint with the memory that it is lent
 pub record World (Config : Type 0) : Type 0 where
@@ -63,34 +64,34 @@ module _ (Config Adding : Type 0) (adds : Config → Adding → Config) where
   -- adding calls, of which only the configuration's part matters here: they leave the rows. A refused one gives the configuration back
   abbrev pub added : Endpoint Config → List Adding → Endpoint Config
   added e [] = e
-  added e (a ∷ as′) = added (record { config = adds (e .config) a; rows = e .rows }) as′
+  added e (a ∷ as′) = added (record { config = adds (e .config) a; peers = e .peers }) as′
 
   -- a set-up: what a start leaves (every slot free), and any adding calls
   abbrev pub setUp : Config → List Adding → Endpoint Config
-  setUp c as′ = added (record { config = c; rows = emptyRows }) as′
+  setUp c as′ = added (record { config = c; peers = emptyRows }) as′
 
 module _ (W : Answers) (Config : Type 0) (U : Layers W Config) where
-  pub record Said : Type 0 where
+  pub record Replied : Type 0 where
     pub reply : W .A
     pub world : World Config
 
   -- one receive: what it answers, the endpoint and the memory that it leaves. Check 2 is first
-  abbrev pub saidOf : World Config → Seen W → Said
-  saidOf w (stranger a) = record { reply = a; world = w }
-  saidOf w (plain p a) = record { reply = a; world = w }
-  saidOf w (segment p g) =
-      let o : Effect bytesOf = takeIn p (getD (w .ends .rows) (rowOf p) noRow) (w .mem) g in
+  abbrev pub receiveBy : World Config → Reading W → Replied
+  receiveBy w (otherSender a) = record { reply = a; world = w }
+  receiveBy w (direct p a) = record { reply = a; world = w }
+  receiveBy w (segment p g) =
+      let o : Effect bytesOf = takeIn p (getD (w .ends .peers) (rowOf p) noRow) (w .mem) g in
       record {
-        reply = told W (U .judge (w .ends .config)) bytesOf p g o (o .outcome) .reply;
-        world = record { ends = record { config = w .ends .config; rows = set (w .ends .rows) (rowOf p) (o .row) }; mem = o .mem };
+        reply = takeAnswer W (U .judge (w .ends .config)) bytesOf p g o (o .outcome) .reply;
+        world = record { ends = record { config = w .ends .config; peers = set (w .ends .peers) (rowOf p) (o .row) }; mem = o .mem };
       }
 
-  abbrev pub receives : World Config → List ℕ → Said
-  receives w k = cond (ltb (length (w .mem)) 55296) (record { reply = W .tooSmall; world = w }) (saidOf w (U .header (w .ends .config) k))
+  abbrev pub receives : World Config → List ℕ → Replied
+  receives w k = cond (ltb (length (w .mem)) 55296) (record { reply = W .tooSmall; world = w }) (receiveBy w (U .header (w .ends .config) k))
 
   -- a receive or a tick, and a run of them: each gets the endpoint and the memory that the last one left
   abbrev pub next : World Config → Event → World Config
-  next w tick = record { ends = record { config = w .ends .config; rows = map olderRow (w .ends .rows) }; mem = w .mem }
+  next w tick = record { ends = record { config = w .ends .config; peers = map olderRow (w .ends .peers) }; mem = w .mem }
   next w (receive k) = receives w k .world
 
   abbrev pub runs : World Config → List Event → World Config
@@ -102,17 +103,17 @@ module _ (W : Answers) (Config : Type 0) (U : Layers W Config) where
   abbrev pub handedBack : ℕ → World Config → List ℕ → List ℕ
   handedBack n w k = viewOf k (runs (receives w k .world) (replicate n tick) .mem) (W .place (receives w k .reply))
 
-  abbrev pub heard : World Config → List ℕ → Answer W
-  heard w k = record { reply = receives w k .reply; bytes = handedBack 0 w k }
+  abbrev pub answerOf : World Config → List ℕ → Answer W
+  answerOf w k = record { reply = receives w k .reply; bytes = handedBack 0 w k }
 
   -- whose packet it is; the peer's answers in a run, in order
   abbrev pub from : Config → ℕ → List ℕ → Bool
   from c p k = isPeer p (U .source c k)
 
-  abbrev pub saidTo : ℕ → World Config → Event → List (Answer W)
-  saidTo p w tick = []
-  saidTo p w (receive k) = cond (from (w .ends .config) p k) (heard w k ∷ []) []
+  abbrev pub answersAt : ℕ → World Config → Event → List (Answer W)
+  answersAt p w tick = []
+  answersAt p w (receive k) = cond (from (w .ends .config) p k) (answerOf w k ∷ []) []
 
   abbrev pub answersOf : ℕ → World Config → List Event → List (Answer W)
   answersOf p w [] = []
-  answersOf p w (e ∷ es) = saidTo p w e ++ answersOf p (next w e) es
+  answersOf p w (e ∷ es) = answersAt p w e ++ answersOf p (next w e) es

@@ -7,9 +7,9 @@ use Prim.Native.Nat.{ℕ, _+_}
 use lib.ListN.{getD, replicate}
 use lib.Dec.{ltb, eqb}
 pub use Rattle.reassembly.specs.declared.slot.Slot.{Slot}
-pub use Rattle.reassembly.specs.declared.slot.Row.{Row}
-use Rattle.reassembly.specs.declared.slot.Found.{Found}
-use Rattle.reassembly.specs.declared.slot.Found.the-variants.{At, Nothing}
+pub use Rattle.reassembly.specs.declared.slot.Peer.{Peer}
+use Rattle.reassembly.specs.declared.slot.FoundSlot.{FoundSlot}
+use Rattle.reassembly.specs.declared.slot.FoundSlot.the-variants.{At, Nothing}
 
 -- ---- the note: what a slot keeps of its frame's segments beside their bytes, and the mark that a segment brings for it. Nothing in the base.
 -- A later request that has slots remember something (document 02, §9) changes this section and `pendingSlot`; no proof above looks into it.
@@ -46,14 +46,14 @@ unfoldable pub noteOf : Slot → Note
 noteOf s = noNote
 
 -- no row: what a list of rows has past its end
-abbrev pub noRow : Row
+abbrev pub noRow : Peer
 noRow = record { slots = [] }
 
 -- a row with every slot free; the eight rows that a set-up leaves
 abbrev pub emptyRow : List Slot
 emptyRow = replicate 4 free
 
-abbrev pub emptyRows : List Row
+abbrev pub emptyRows : List Peer
 emptyRows = replicate 8 (record { slots = emptyRow })
 
 -- the age at which a pending frame is given up
@@ -64,7 +64,7 @@ lifetime = 4
 unfoldable pub older : Slot → Slot
 older s = cond (s .pending) (cond (ltb (s .age + 1) lifetime) (pendingSlot (s .identifier) (s .«frame_length») (s .age + 1) (noteOf s)) free) s
 
-unfoldable pub olderRow : Row → Row
+unfoldable pub olderRow : Peer → Peer
 olderRow r = record { slots = map older (r .slots) }
 
 -- ---- the search of a row, by number, lowest first
@@ -84,6 +84,6 @@ unfoldable pub isFree : Slot → Bool
 isFree s = not (s .pending)
 
 -- the code's own words for what a search finds
-unfoldable pub foundOf : Option ℕ → Found
+unfoldable pub foundOf : Option ℕ → FoundSlot
 foundOf none = Nothing
 foundOf (some s) = At s

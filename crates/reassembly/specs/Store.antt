@@ -7,7 +7,7 @@ use lib.ListN.{length, getD, set, replicate}
 use lib.Seq.{sets}
 use lib.Dec.{ltb, leb, eqb}
 use lib.Bits.{bitOr}
-use Rattle.reassembly.specs.Slots.{Row, noNote, free}
+use Rattle.reassembly.specs.Slots.{Peer, noNote, free}
 use Rattle.reassembly.specs.Take.{Ops, Seg, NoMemory, Effect, takeSegment, complete, Complete, Pending}
 use Rattle.reassembly.specs.declared.take.Taken.{Taken}
 
@@ -61,14 +61,14 @@ unfoldable pub hasSlots : ℕ → List ℕ → Bool
 hasSlots p m = ltb p 8 && leb 55296 (length m)
 
 -- what `take` gives for any row, peer, memory and segment. Where the peer's slots do not lie in the memory nothing is touched
-unfoldable pub takeIn : ℕ → Row → List ℕ → Seg → Effect bytesOf
+unfoldable pub takeIn : ℕ → Peer → List ℕ → Seg → Effect bytesOf
 takeIn p row m g = cond (hasSlots p m) (takeSegment bytesOf p row m g) (record { row = row; outcome = NoMemory; note = noNote; mem = m })
 
 -- what the code gives back of it: the row and the outcome
 unfoldable pub takenOf : Effect bytesOf → Taken
 takenOf e = record { row = e .row; outcome = e .outcome }
 
-unfoldable pub finished : ℕ → ℕ → Row → List ℕ → ℕ → Taken
+unfoldable pub finished : ℕ → ℕ → Peer → List ℕ → ℕ → Taken
 finished p s row m n =
     cond (complete bytesOf m (4 * p + s) n)
     (record { row = record { slots = set (row .slots) s free }; outcome = Complete s })

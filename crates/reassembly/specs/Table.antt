@@ -13,11 +13,11 @@ use Rattle.wire.specs.Checks.{_⇒_}
 use Rattle.wire.specs.Table.{Rows, _otherwise_, _is_, _isnt_, _below_, _above_, _atLeast_}
 use Rattle.reassembly.specs.Base.{someBelow, allBelow, table}
 use Rattle.reassembly.specs.Search.{lowest, found}
-use Rattle.reassembly.specs.Slots.{Slot, Row, free}
+use Rattle.reassembly.specs.Slots.{Slot, Peer, free}
 use Rattle.reassembly.specs.Take.{Seg, Outcome, Rejected, Pending, Complete, NoMemory, Effect, rejectionCode, slotNo, frameIn}
 use Rattle.reassembly.specs.Store.{bytesOf, takeIn}
 
-module _ (peer : ℕ) (row : Row) (memory : List ℕ) (g : Seg) where
+module _ (peer : ℕ) (row : Peer) (memory : List ℕ) (g : Seg) where
   -- slot s of the peer; a frame with the segment's identifier is pending in it; in one of the four; in which
   abbrev pub slot : ℕ → Slot
   slot s = getD (row .slots) s free
@@ -68,6 +68,6 @@ takenNumber f peer g o (Complete s) = f (frameIn bytesOf (o .mem) (slotNo peer s
 takenNumber f peer g o NoMemory = 2
 
 pub record Table : Type 0 where
-  pub segment : (f : List ℕ → ℕ) (peer : ℕ) (row : Row) (memory : List ℕ) (g : Seg) → peer < 8 → 55296 ≤ length memory
+  pub segment : (f : List ℕ → ℕ) (peer : ℕ) (row : Peer) (memory : List ℕ) (g : Seg) → peer < 8 → 55296 ≤ length memory
       → let o : Effect bytesOf = takeIn peer row memory g in
       takenNumber f peer g o (o .outcome) ≡ (segmentRows peer row memory g otherwise f (completeFrame peer row memory g))

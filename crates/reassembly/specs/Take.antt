@@ -13,7 +13,7 @@ pub use Rattle.reassembly.specs.declared.take.Rejection.the-variants.{Em
 pub use Rattle.reassembly.specs.declared.take.Outcome.{Outcome}
 pub use Rattle.reassembly.specs.declared.take.Outcome.the-variants.{Rejected, Pending, Complete, NoMemory}
 use Rattle.reassembly.specs.Base.{someBelow, allBelow, table}
-use Rattle.reassembly.specs.Slots.{Slot, Row, Note, Mark, noNote, noMark, noted, noteOf, free, pendingSlot, first, bears, isFree}
+use Rattle.reassembly.specs.Slots.{Slot, Peer, Note, Mark, noNote, noMark, noted, noteOf, free, pendingSlot, first, bears, isFree}
 use Rattle.reassembly.specs.declared.take.Decision.{Decision}
 use Rattle.reassembly.specs.declared.take.Decision.the-variants.{Reject, Further, Open}
 
@@ -125,7 +125,7 @@ furtherSlot v g = pendingSlot (v .identifier) (v .«frame_length») (v .age) (no
 module _ (O : Ops) where
   -- the row, what is told, the note of a frame that is complete, and the memory
   pub record Effect : Type 0 where
-    pub row : Row
+    pub row : Peer
     pub outcome : Outcome
     pub note : Note
     pub mem : O .S
@@ -162,5 +162,5 @@ module _ (O : Ops) where
       (O .put (O .clear m (slotNo p s)) (slotNo p s) (g .offset) (g .bytes)) g (noteAfter noNote g)
 
   -- peer p's segment
-  unfoldable pub takeSegment : ℕ → Row → O .S → Seg → Effect
+  unfoldable pub takeSegment : ℕ → Peer → O .S → Seg → Effect
   takeSegment p row m g = placed p (row .slots) m g (chosen (row .slots) g)

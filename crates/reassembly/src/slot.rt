@@ -13,12 +13,12 @@ pub struct Slot {
 
 // Each peer has a row of four slots.
 #[repr(C)]
-pub struct Row {
+pub struct Peer {
     pub slots: [Slot; 4],
 }
 
 // The number of a slot in its row.
-pub enum Found {
+pub enum FoundSlot {
     At(usize),
     Nothing,
 }
@@ -45,31 +45,31 @@ fn bears_identifier(slot: Slot, identifier: u32) -> bool
 }
 
 // The lowest slot in which a frame with this identifier is pending.
-pub fn find_pending(row: Row, identifier: u32) -> Found
+pub fn find_pending(row: Peer, identifier: u32) -> FoundSlot
     ensures { λ r. ⌜ r ≡ foundOf (first (bears identifier) (row .slots)) ⌝ }
 {
     let mut s: usize = 0;
     while s < 4 {
         let slot = row.slots[s];
         if bears_identifier(slot, identifier) {
-            return Found::At(s);
+            return FoundSlot::At(s);
         }
         s += 1;
     }
-    Found::Nothing
+    FoundSlot::Nothing
 }
 
 // The lowest free slot.
-pub fn find_free(row: Row) -> Found
+pub fn find_free(row: Peer) -> FoundSlot
     ensures { λ r. ⌜ r ≡ foundOf (first isFree (row .slots)) ⌝ }
 {
     let mut s: usize = 0;
     while s < 4 {
         let slot = row.slots[s];
         if !slot.pending {
-            return Found::At(s);
+            return FoundSlot::At(s);
         }
         s += 1;
     }
-    Found::Nothing
+    FoundSlot::Nothing
 }

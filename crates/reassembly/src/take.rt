@@ -7,8 +7,8 @@ ghost use Rattle.reassembly.specs.Take.{segOf, chosen, placed, old, fres
 ghost use Rattle.reassembly.specs.Store.{bytesOf, takeIn, takenOf, finished};
 use crate::memory;
 use crate::slot;
-use crate::slot::Found;
-use crate::slot::Row;
+use crate::slot::FoundSlot;
+use crate::slot::Peer;
 use crate::slot::Slot;
 use wire::segment::Segment;
 
@@ -31,7 +31,7 @@ pub enum Outcome {
 }
 
 pub struct Taken {
-    pub row: Row,
+    pub row: Peer,
     pub outcome: Outcome,
 }
 
@@ -43,7 +43,7 @@ pub(crate) enum Decision {
 }
 
 // Takes a segment of this peer's, whose slots are `row`. A rejection changes neither row nor memory.
-pub fn take(row: Row, peer: usize, segment: Segment, bytes: &[u8], memory: &mut [u8]) -> Taken
+pub fn take(row: Peer, peer: usize, segment: Segment, bytes: &[u8], memory: &mut [u8]) -> Taken
     ensures { λ r. ⌜ r ≡ takenOf (takeIn peer row (now (memory .entry)) (segOf segment (now (bytes .entry)))) ⌝ }
     ensures { λ _. ⌜ now (memory .exit) ≡ takeIn peer row (now (memory .entry)) (segOf segment (now (bytes .entry))) .mem ⌝ }
 {
@@ -84,7 +84,7 @@ fn end_of(offset: u16, bytes: &[u8]) -> usize
 }
 
 // The checks 14, 15 and 17, in this order. The search is in this peer's row alone: a frame is known by peer and identifier.
-pub(crate) fn decide(row: Row, segment: Segment, bytes: &[u8]) -> Decision
+pub(crate) fn decide(row: Peer, segment: Segment, bytes: &[u8]) -> Decision
     ensures { λ r. ⌜ r ≡ decisionOf (chosen (row .slots) (segOf segment (now (bytes .entry)))) ⌝ }
 {
     if bytes.len() == 0 {
@@ -101,7 +101,7 @@ pub(crate) fn decide(row: Row, segment: Segment, bytes: &[u8]) -> Decision
         return Decision::Reject(Rejection::PastEnd);
     }
     let pending = slot::find_pending(row, segment.identifier);
-    if let Found::At(s) = pending {
+    if let FoundSlot::At(s) = pending {
         let frame = row.slots[s];
         if frame.frame_length != segment.frame_length {
             return Decision::Reject(Rejection::OtherLength);
@@ -109,7 +109,7 @@ pub(crate) fn decide(row: Row, segment: Segment, bytes: &[u8]) -> Decision
         return Decision::Further(s);
     }
     let free = slot::find_free(row);
-    let Found::At(lowest) = free else {
+    let FoundSlot::At(lowest) = free else {
         return Decision::Reject(Rejection::NoSlot);
     };
     Decision::Open(lowest)
@@ -117,7 +117,7 @@ pub(crate) fn decide(row: Row, segment: Segment, bytes: &[u8]) -> Decision
 
 // A further segment of the frame that is pending in slot s: 16, or it is stored.
 fn further(
-    row: Row,
+    row: Peer,
     peer: usize,
     s: usize,
     segment: Segment,
@@ -141,7 +141,14 @@ fn further(
 }
 
 // The first segment of a frame, which takes slot s: nothing is received there yet, and its age is 0.
-fn open(row: Row, peer: usize, s: usize, segment: Segment, bytes: &[u8], memory: &mut [u8]) -> Taken
+fn open(
+    row: Peer,
+    peer: usize,
+    s: usize,
+    segment: Segment,
+    bytes: &[u8],
+    memory: &mut [u8],
+) -> Taken
     requires { ⌜ (peer < 8) × (55296 ≤ length (now memory)) × Fresh (row .slots) (segOf segment (now bytes)) s ⌝ }
     ensures { λ r. ⌜ r ≡ takenOf (placed bytesOf peer (row .slots) (now (memory .entry)) (segOf segment (now (bytes .entry))) (fresh s)) ⌝ }
     ensures { λ _. ⌜ now (memory .exit) ≡ placed bytesOf peer (row .slots) (now (memory .entry)) (segOf segment (now (bytes .entry))) (fresh s) .mem ⌝ }
@@ -161,7 +168,7 @@ fn open(row: Row, peer: usize, s: usize, segment: Segment, bytes: &[u8], memory:
 }
 
 // The frame in slot s is complete when every byte below its length is received; then its slot is free.
-fn finish(row: Row, peer: usize, s: usize, size: u16, memory: &[u8]) -> Taken
+fn finish(row: Peer, peer: usize, s: usize, size: u16, memory: &[u8]) -> Taken
     requires { ⌜ (peer < 8) × (s < 4) × (size ≤ 1532) × (55296 ≤ length (now memory)) ⌝ }
     ensures { λ r. ⌜ r ≡ finished peer s row (now (memory .entry)) size ⌝ }
 {

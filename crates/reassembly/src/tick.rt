@@ -2,7 +2,7 @@
 ghost use mathlib.Core.Path.{_≡_};
 ghost use Rattle.reassembly.specs.Slots.{older, olderRow};
 use crate::slot;
-use crate::slot::Row;
+use crate::slot::Peer;
 use crate::slot::Slot;
 
 pub fn older_slot(slot: Slot) -> Slot
@@ -22,7 +22,7 @@ pub fn older_slot(slot: Slot) -> Slot
     }
 }
 
-pub fn tick_row(row: Row) -> Row
+pub fn tick_row(row: Peer) -> Peer
     ensures { λ r. ⌜ r ≡ olderRow row ⌝ }
 {
     let a = row.slots[0];
@@ -30,5 +30,5 @@ pub fn tick_row(row: Row) -> Row
     let c = row.slots[2];
     let d = row.slots[3];
     let slots = [older_slot(a), older_slot(b), older_slot(c), older_slot(d)];
-    Row { slots }
+    Peer { slots }
 }

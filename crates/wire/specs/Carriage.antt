@@ -46,7 +46,7 @@ carriageOf protocol source destination port s =
 -- does not count
 
 -- the reader answers the network, and where the frame lies
-pub record Found (read : Carried) (kind id : ℕ) (frame payload : List ℕ) : Type 0 where
+pub record TunnelRead (read : Carried) (kind id : ℕ) (frame payload : List ℕ) : Type 0 where
   pub start : ℕ
   pub is : read ≡ C.Tunnel (record { start = start; network = id; kind = kind })
   pub frame-is : drop start payload ≡ frame
@@ -54,7 +54,7 @@ pub record Found (read : Carried) (kind id : ℕ) (frame payload : List ℕ) : T
 
 pub record ReadsCarriage : Type 0 where
   pub tunnel-complete : (kind protocol source destination port id : ℕ) (frame payload : List ℕ) → Tunnels kind protocol source destination id frame payload
-      → Found (carriageOf protocol source destination port payload) kind id frame payload
+      → TunnelRead (carriageOf protocol source destination port payload) kind id frame payload
   pub tunnel-sound : (protocol source destination port : ℕ) (s : List ℕ) → Bytes s → (t : Tunnel) → carriageOf protocol source destination port s ≡ C.Tunnel t
       → Tunnels (t .kind) protocol source destination (t .network) (drop (t .start) s) s × (t .start ≤ length s)
   pub segment-complete : (source destination port frameLength offset identifier : ℕ) (bytes payload : List ℕ)
@@ -62,7 +62,8 @@ pub record ReadsCarriage : Type 0 where
       → let n = length (header (w .f)) in
       (carriageOf 6 source destination port payload ≡ C.Segment (record { start = n; identifier = identifier; «frame_length» = frameLength; offset = offset }))
       × (drop n payload ≡ bytes)
-  pub segment-sound : (protocol source destination port : ℕ) (s : List ℕ) → Bytes s → (g : Segment) → carriageOf protocol source destination port s ≡ C.Segment g
+  pub segment-sound : (protocol source destination port : ℕ) (s : List ℕ) → Bytes s → (g : Segment) → carriageOf protocol source destination port s
+      ≡ C.Segment g
       → (protocol ≡ 6) × IsSegment source destination port (g .«frame_length») (g .offset) (g .identifier) (drop (g .start) s) s × (g .start ≤ length s)
   -- VXLAN: the answer depends on the length, the flag I and the VNI alone
   pub vxlan-ignores : (s t : List ℕ) → length s ≡ length t → beAt s 0 1 / 8 % 2 ≡ beAt t 0 1 / 8 % 2 → beAt s 4 3 ≡ beAt t 4 3 → vxlanOf s ≡ vxlanOf t

@@ -106,7 +106,8 @@ segmentBytes context offset count frame = part (sttFrame context frame) offset (
 
 unfoldable pub segmentBody : (source destination port context identifier offset count : ℕ) → Bool → List ℕ → List ℕ
 segmentBody source destination port context identifier offset count last frame =
-    S.header (segmentHeader source destination (sourcePort frame) port (18 + length frame) offset identifier (flagsOf last) (segmentBytes context offset count frame))
+    S.header (segmentHeader source destination (sourcePort frame) port (18 + length frame) offset identifier (flagsOf last)
+    (segmentBytes context offset count frame))
     ++ segmentBytes context offset count frame
 
 -- ---- whole packets

@@ -1,5 +1,5 @@
-// The writers (document 01, "Wrapping"): a packet that carries a frame, at the front of a lent output. A frame or a segment whose numbers do not fit, or an output
-// with no room, is refused: then nothing is written, and the answer is 0.
+// The writers (document 01, "Wrapping"): a packet that carries a frame, at the front of a lent output. A frame or a segment whose numbers do not fit, or an
+// output with no room, is refused: then nothing is written, and the answer is 0.
 ghost use mathlib.Core.Path.{_≡_};
 ghost use Prim.Native.Nat.{_+_, _-_, _≤_};
 ghost use mathlib.Core.List.{_++_};

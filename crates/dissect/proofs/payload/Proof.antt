@@ -92,17 +92,26 @@ decimal-requires-5 c κs = search needs
 
 add-inner : tie.Need-add-inner
 add-inner c =
-    let h : c .before .before .before .before .before .before .before .before .before .carried3 .given .0 .0 .start ≤ length (c .before .before .before .before .before .before .before .before .before .before .before .before .before .args .s .now) = tunnel-within _ _ _ _ _ _ (sym (c .before .before .before .before .before .before .before .before .before .before .before .read .ensures) ∙ c .before .before .before .before .before .before .before .before .before .carried3 .given .1) in
+    let h : c .before .before .before .before .before .before .before .before .before .carried3 .given .0 .0 .start
+    ≤ length (c .before .before .before .before .before .before .before .before .before .before .before .before .before .args .s .now) =
+    tunnel-within _ _ _ _ _ _ (sym (c .before .before .before .before .before .before .before .before .before .before .before .read .ensures)
+    ∙ c .before .before .before .before .before .before .before .before .before .carried3 .given .1) in
     omega arith
 
 sub-inner : tie.Need-sub-inner
 sub-inner c =
-    let h : c .before .before .before .before .before .before .before .before .before .carried3 .given .0 .0 .start ≤ length (c .before .before .before .before .before .before .before .before .before .before .before .before .before .args .s .now) = tunnel-within _ _ _ _ _ _ (sym (c .before .before .before .before .before .before .before .before .before .before .before .read .ensures) ∙ c .before .before .before .before .before .before .before .before .before .carried3 .given .1) in
+    let h : c .before .before .before .before .before .before .before .before .before .carried3 .given .0 .0 .start
+    ≤ length (c .before .before .before .before .before .before .before .before .before .before .before .before .before .args .s .now) =
+    tunnel-within _ _ _ _ _ _ (sym (c .before .before .before .before .before .before .before .before .before .before .before .read .ensures)
+    ∙ c .before .before .before .before .before .before .before .before .before .carried3 .given .1) in
     omega arith
 
 part-inner-start : tie.Need-part-inner-start
 part-inner-start c =
-    let h : c .before .before .before .before .before .before .before .before .before .carried3 .given .0 .0 .start ≤ length (c .before .before .before .before .before .before .before .before .before .before .before .before .before .args .s .now) = tunnel-within _ _ _ _ _ _ (sym (c .before .before .before .before .before .before .before .before .before .before .before .read .ensures) ∙ c .before .before .before .before .before .before .before .before .before .carried3 .given .1) in
+    let h : c .before .before .before .before .before .before .before .before .before .carried3 .given .0 .0 .start
+    ≤ length (c .before .before .before .before .before .before .before .before .before .before .before .before .before .args .s .now) =
+    tunnel-within _ _ _ _ _ _ (sym (c .before .before .before .before .before .before .before .before .before .before .before .read .ensures)
+    ∙ c .before .before .before .before .before .before .before .before .before .carried3 .given .1) in
     omega arith
 
 part-inner-end : tie.Need-part-inner-end

@@ -50,22 +50,42 @@ text-requires-4 c κs = search needs
 
 sub-payload : tie.Need-sub-payload
 sub-payload c =
-    let h : (c .before .before .before .before .before .before .before .read3 .given .0 .0 .start ≤ c .before .before .before .before .before .before .before .read3 .given .0 .0 .end) × (c .before .before .before .before .before .before .before .read3 .given .0 .0 .end ≤ length (c .before .before .before .before .before .before .before .before .before .before .before .before .before .before .before .args .packet .now)) = ipv4-bounds _ _ (sym (c .before .before .before .before .before .before .before .before .before .read .ensures) ∙ c .before .before .before .before .before .before .before .read3 .given .1) in
+    let h : (c .before .before .before .before .before .before .before .read3 .given .0 .0 .start
+    ≤ c .before .before .before .before .before .before .before .read3 .given .0 .0 .end)
+    × (c .before .before .before .before .before .before .before .read3 .given .0 .0 .end
+    ≤ length (c .before .before .before .before .before .before .before .before .before .before .before .before .before .before .before .args .packet .now)) =
+    ipv4-bounds _ _ (sym (c .before .before .before .before .before .before .before .before .before .read .ensures)
+    ∙ c .before .before .before .before .before .before .before .read3 .given .1) in
     omega arith
 
 part-payload-start : tie.Need-part-payload-start
 part-payload-start c =
-    let h : (c .before .before .before .before .before .before .before .read3 .given .0 .0 .start ≤ c .before .before .before .before .before .before .before .read3 .given .0 .0 .end) × (c .before .before .before .before .before .before .before .read3 .given .0 .0 .end ≤ length (c .before .before .before .before .before .before .before .before .before .before .before .before .before .before .before .args .packet .now)) = ipv4-bounds _ _ (sym (c .before .before .before .before .before .before .before .before .before .read .ensures) ∙ c .before .before .before .before .before .before .before .read3 .given .1) in
+    let h : (c .before .before .before .before .before .before .before .read3 .given .0 .0 .start
+    ≤ c .before .before .before .before .before .before .before .read3 .given .0 .0 .end)
+    × (c .before .before .before .before .before .before .before .read3 .given .0 .0 .end
+    ≤ length (c .before .before .before .before .before .before .before .before .before .before .before .before .before .before .before .args .packet .now)) =
+    ipv4-bounds _ _ (sym (c .before .before .before .before .before .before .before .before .before .read .ensures)
+    ∙ c .before .before .before .before .before .before .before .read3 .given .1) in
     omega arith
 
 part-payload-end : tie.Need-part-payload-end
 part-payload-end c =
-    let h : (c .before .before .before .before .before .before .before .read3 .given .0 .0 .start ≤ c .before .before .before .before .before .before .before .read3 .given .0 .0 .end) × (c .before .before .before .before .before .before .before .read3 .given .0 .0 .end ≤ length (c .before .before .before .before .before .before .before .before .before .before .before .before .before .before .before .args .packet .now)) = ipv4-bounds _ _ (sym (c .before .before .before .before .before .before .before .before .before .read .ensures) ∙ c .before .before .before .before .before .before .before .read3 .given .1) in
+    let h : (c .before .before .before .before .before .before .before .read3 .given .0 .0 .start
+    ≤ c .before .before .before .before .before .before .before .read3 .given .0 .0 .end)
+    × (c .before .before .before .before .before .before .before .read3 .given .0 .0 .end
+    ≤ length (c .before .before .before .before .before .before .before .before .before .before .before .before .before .before .before .args .packet .now)) =
+    ipv4-bounds _ _ (sym (c .before .before .before .before .before .before .before .before .before .read .ensures)
+    ∙ c .before .before .before .before .before .before .before .read3 .given .1) in
     omega arith
 
 payload-requires : tie.Need-payload-requires
 payload-requires c κs =
-    let h : (c .before .before .before .before .before .before .before .before .read3 .given .0 .0 .start ≤ c .before .before .before .before .before .before .before .before .read3 .given .0 .0 .end) × (c .before .before .before .before .before .before .before .before .read3 .given .0 .0 .end ≤ length (c .before .before .before .before .before .before .before .before .before .before .before .before .before .before .before .before .args .packet .now)) = ipv4-bounds _ _ (sym (c .before .before .before .before .before .before .before .before .before .before .read .ensures) ∙ c .before .before .before .before .before .before .before .before .read3 .given .1) in
+    let h : (c .before .before .before .before .before .before .before .before .read3 .given .0 .0 .start
+    ≤ c .before .before .before .before .before .before .before .before .read3 .given .0 .0 .end)
+    × (c .before .before .before .before .before .before .before .before .read3 .given .0 .0 .end
+    ≤ length (c .before .before .before .before .before .before .before .before .before .before .before .before .before .before .before .before .args .packet .now)) =
+    ipv4-bounds _ _ (sym (c .before .before .before .before .before .before .before .before .before .before .read .ensures)
+    ∙ c .before .before .before .before .before .before .before .before .read3 .given .1) in
     simp (length-take, length-drop) (omega arith)
 
 returns : tie.Need-returns

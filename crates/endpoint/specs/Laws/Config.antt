@@ -18,10 +18,12 @@ use Rattle.reassembly.specs.Slots.{olderRow}
 use Rattle.endpoint.specs.declared.answer.ConfigRefusal.the-variants as C
 use Rattle.endpoint.specs.declared.answer.Start.the-variants as S
 use Rattle.endpoint.specs.declared.config.Endpoint.{Endpoint}
-use Rattle.endpoint.specs.declared.config.Started.{Started}
-use Rattle.endpoint.specs.declared.config.Configured.{Configured}
+use Rattle.endpoint.specs.declared.config.StartResult.{StartResult}
+use Rattle.endpoint.specs.declared.config.AddResult.{AddResult}
 use Rattle.endpoint.specs.Laws.Search.{lowest-none, lowest-is, binds-hit, binds-all}
-use Rattle.endpoint.specs.Config.{freeRow, tickOf, configOf, hasAddress, findPeer, binds, findBinding, isSome, fresh, startChecks, refusedStart, startOf, addressChecks, refusedAdd, addPeerChecks, withAddress, addPeerOf, isNetwork, addBindingChecks, withBinding, addBindingOf, Adding, addPeer, addBinding, added, addedAll, setUp}
+use Rattle.endpoint.specs.Config.{freeRow, tickOf, configOf, hasAddress, findPeer, binds, findBinding, isSome, fresh, startChecks, refusedStart, startOf}
+use Rattle.endpoint.specs.Config.{addressChecks, refusedAdd, addPeerChecks, withAddress, addPeerOf, isNetwork, addBindingChecks, withBinding}
+use Rattle.endpoint.specs.Config.{addBindingOf, Adding, addPeer, addBinding, added, addedAll, setUp}
 use Rattle.endpoint.specs.Laws.ConfigExits.{peerAdded, bindingAdded, add-binding-exit}
 
 -- ---- what a call leaves: the endpoint as it came, or the one with the addition
@@ -32,20 +34,23 @@ cases P refused [] accepted f g = g tt
 cases P refused ((true ⇒ r) ∷ checks) accepted f g = f r
 cases P refused ((false ⇒ r) ∷ checks) accepted f g = cases P refused checks accepted f (λ p. g (refl, p))
 
-pub start-cases : (P : Endpoint → Type 0) (own port mtu : ℕ) → P (fresh 0 0 0) → (Passed (startChecks own port mtu) → P (fresh own port mtu)) → P (startOf own port mtu .endpoint)
+pub start-cases : (P : Endpoint → Type 0) (own port mtu : ℕ) → P (fresh 0 0 0) → (Passed (startChecks own port mtu) → P (fresh own port mtu))
+    → P (startOf own port mtu .endpoint)
 unfolding startOf
 start-cases P own port mtu f g =
-    cases (λ (x : Started). P (x .endpoint)) refusedStart (startChecks own port mtu) (record { endpoint = fresh own port mtu; answer = S.Done }) (λ r. f) g
+    cases (λ (x : StartResult). P (x .endpoint)) refusedStart (startChecks own port mtu) (record { endpoint = fresh own port mtu; answer = S.Done }) (λ r. f) g
 
-pub add-peer-cases : (P : Endpoint → Type 0) (e : Endpoint) (address : ℕ) → P e → (Passed (addPeerChecks e address) → P (withAddress e (e .«peer_count») address)) → P (addPeerOf e address .endpoint)
+pub add-peer-cases : (P : Endpoint → Type 0) (e : Endpoint) (address : ℕ) → P e
+    → (Passed (addPeerChecks e address) → P (withAddress e (e .«peer_count») address)) → P (addPeerOf e address .endpoint)
 unfolding addPeerOf
-add-peer-cases P e address f g = cases (λ (x : Configured). P (x .endpoint)) (refusedAdd e) (addPeerChecks e address) (peerAdded e address) (λ r. f) g
+add-peer-cases P e address f g = cases (λ (x : AddResult). P (x .endpoint)) (refusedAdd e) (addPeerChecks e address) (peerAdded e address) (λ r. f) g
 
 pub add-binding-cases : (P : Endpoint → Type 0) (e : Endpoint) (peer kind network tenant : ℕ) → P e
-    → (Passed (addBindingChecks e peer kind network tenant) → P (withBinding e (e .«binding_count») peer kind network tenant)) → P (addBindingOf e peer kind network tenant .endpoint)
+    → (Passed (addBindingChecks e peer kind network tenant) → P (withBinding e (e .«binding_count») peer kind network tenant))
+    → P (addBindingOf e peer kind network tenant .endpoint)
 unfolding addBindingOf
 add-binding-cases P e peer kind network tenant f g =
-    cases (λ (x : Configured). P (x .endpoint)) (refusedAdd e) (addBindingChecks e peer kind network tenant) (bindingAdded e peer kind network tenant) (λ r. f) g
+    cases (λ (x : AddResult). P (x .endpoint)) (refusedAdd e) (addBindingChecks e peer kind network tenant) (bindingAdded e peer kind network tenant) (λ r. f) g
 
 -- ---- a refused start (document 01, "Listing and numbers"): adding to it is 18, and leaves it as it is
 
@@ -59,11 +64,11 @@ refused-start-binding peer kind network tenant = add-binding-exit (fresh 0 0 0) 
 
 -- ---- the rows of slots
 
-pub rows-fresh : (own port mtu : ℕ) → fresh own port mtu .rows ≡ replicate 8 freeRow
+pub rows-fresh : (own port mtu : ℕ) → fresh own port mtu .peers ≡ replicate 8 freeRow
 unfolding fresh
 rows-fresh own port mtu = refl
 
-pub rows-tick : (e : Endpoint) → tickOf e .endpoint .rows ≡ map olderRow (e .rows)
+pub rows-tick : (e : Endpoint) → tickOf e .endpoint .peers ≡ map olderRow (e .peers)
 unfolding tickOf
 rows-tick e = refl
 
@@ -81,7 +86,7 @@ addressAt e i = getD (e .addresses) i 0
 pub record Valid (e : Endpoint) : Type 0 where
   -- a refused start lists nothing
   pub settings : Passed (startChecks (e .own) (e .port) (e .mtu)) ⊎ (e ≡ fresh 0 0 0)
-  pub rows : e .rows ≡ replicate 8 freeRow
+  pub peers : e .peers ≡ replicate 8 freeRow
   pub peer-count : e .«peer_count» ≤ 8
   pub binding-count : e .«binding_count» ≤ 64
   pub addresses-length : length (e .addresses) ≡ 8
@@ -103,7 +108,7 @@ fresh-valid : (own port mtu : ℕ) → Passed (startChecks own port mtu) ⊎ (fr
 unfolding fresh
 fresh-valid own port mtu s = record {
   settings = s;
-  rows = rows-fresh own port mtu;
+  peers = rows-fresh own port mtu;
   peer-count = omega arith;
   binding-count = omega arith;
   addresses-length = refl;
@@ -159,7 +164,7 @@ module _ (e : Endpoint) (address : ℕ) where
       let other = unlisted-address v (p .1 .1 .1 .1 .0) in
       record {
         settings = either (v .settings) (λ s. inl s) (λ q. differ (sym (ap (λ (x : Endpoint). eqb (x .port) 0) q) ∙ p .0));
-        rows = v .rows;
+        peers = v .peers;
         peer-count = omega arith;
         binding-count = v .binding-count;
         addresses-length = length-set (e .addresses) n address ∙ size;
@@ -170,7 +175,8 @@ module _ (e : Endpoint) (address : ℕ) where
         address-once = λ i j a b q.
             last i n a
             (λ x. last j n b (λ y. x ∙ sym y) (λ y. absurd (other j y (sym (old-address j y) ∙ sym q ∙ ap (addressAt _) x ∙ here))))
-            (λ x. last j n b (λ y. absurd (other i x (sym (old-address i x) ∙ q ∙ ap (addressAt _) y ∙ here))) (λ y. v .address-once i j x y (sym (old-address i x) ∙ q ∙ old-address j y)));
+            (λ x. last j n b (λ y. absurd (other i x (sym (old-address i x) ∙ q ∙ ap (addressAt _) y ∙ here)))
+            (λ y. v .address-once i j x y (sym (old-address i x) ∙ q ∙ old-address j y)));
         address-other = λ i a q.
             last i n a
             (λ x. eqb-false address (e .own) (p .1 .1 .1 .0) (sym here ∙ ap (addressAt _) (sym x) ∙ q))
@@ -199,7 +205,8 @@ module _ (e : Endpoint) (peer kind network tenant : ℕ) where
   unfolding findBinding configOf
   unlisted-binding v h i l o k m =
       let c : e .«binding_count» ≤ 64 = v .binding-count in
-      let miss = lowest-none (binds (e .networks) (e .kinds) (e .owners) peer kind network) (min (e .«binding_count») 64) (none-of (findBinding (configOf e) peer kind network) h) i (omega arith) in
+      let miss = lowest-none (binds (e .networks) (e .kinds) (e .owners) peer kind network) (min (e .«binding_count») 64)
+      (none-of (findBinding (configOf e) peer kind network) h) i (omega arith) in
       differ (sym (binds-hit (e .networks) (e .kinds) (e .owners) peer kind network i m k o) ∙ miss)
 
   binding-added-valid : Valid e → Passed (addBindingChecks e peer kind network tenant) → Valid (withBinding e (e .«binding_count») peer kind network tenant)
@@ -214,7 +221,7 @@ module _ (e : Endpoint) (peer kind network tenant : ℕ) where
       let other = unlisted-binding v (p .1 .1 .1 .0) in
       record {
         settings = either (v .settings) (λ s. inl s) (λ q. let z : e .«peer_count» ≡ 0 = ap (λ (x : Endpoint). x .«peer_count») q in absurd (omega arith));
-        rows = v .rows;
+        peers = v .peers;
         peer-count = v .peer-count;
         binding-count = omega arith;
         addresses-length = v .addresses-length;
@@ -241,7 +248,8 @@ module _ (e : Endpoint) (peer kind network tenant : ℕ) where
             omega arith);
         network-good = λ i a.
             last i n a
-            (λ x. rw (at-last (e .kinds) n kind i (omega arith) x, at-last (e .networks) n network i (omega arith) x) (not-false (isNetwork kind network) (p .1 .0)))
+            (λ x. rw (at-last (e .kinds) n kind i (omega arith) x, at-last (e .networks) n network i (omega arith) x)
+            (not-false (isNetwork kind network) (p .1 .0)))
             (λ x. rw (at-before (e .kinds) n kind i x, at-before (e .networks) n network i x) (v .network-good i x));
       }
     where

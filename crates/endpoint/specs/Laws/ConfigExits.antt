@@ -18,12 +18,13 @@ use Rattle.endpoint.specs.declared.answer.Added.the-variants as A
 use Rattle.endpoint.specs.declared.answer.Start.the-variants as S
 use Rattle.endpoint.specs.declared.answer.Drop.{Drop}
 use Rattle.endpoint.specs.declared.answer.Drop.the-variants as D
-use Rattle.endpoint.specs.declared.search.Found.{Found}
-use Rattle.endpoint.specs.declared.search.Found.the-variants as F
+use Rattle.endpoint.specs.declared.search.Lookup.{Lookup}
+use Rattle.endpoint.specs.declared.search.Lookup.the-variants as F
 use Rattle.endpoint.specs.declared.config.Endpoint.{Endpoint}
-use Rattle.endpoint.specs.declared.config.Configured.{Configured}
+use Rattle.endpoint.specs.declared.config.AddResult.{AddResult}
 use Rattle.endpoint.specs.Search.{lowest, foundOf}
-use Rattle.endpoint.specs.Config.{configOf, hasAddress, findPeer, binds, findBinding, isSome, fresh, startChecks, refusedStart, startOf, refusedAdd, addPeerChecks, withAddress, addPeerOf, isNetwork, addBindingChecks, withBinding, addBindingOf, peersOf, bindingsOf}
+use Rattle.endpoint.specs.Config.{configOf, hasAddress, findPeer, binds, findBinding, isSome, fresh, startChecks, refusedStart, startOf, refusedAdd}
+use Rattle.endpoint.specs.Config.{addPeerChecks, withAddress, addPeerOf, isNetwork, addBindingChecks, withBinding, addBindingOf, peersOf, bindingsOf}
 
 -- ---- ordered checks: behind k that are passed
 
@@ -41,7 +42,7 @@ start-exit own port mtu n p = decided refusedStart (startChecks own port mtu) (r
 
 module _ (e : Endpoint) (address : ℕ) where
   -- what is given where no check is met
-  abbrev pub peerAdded : Configured
+  abbrev pub peerAdded : AddResult
   peerAdded = record { endpoint = withAddress e (e .«peer_count») address; answer = A.Number (e .«peer_count») }
 
   pub add-peer-exit : (n : ℕ) → At (addPeerChecks e address) n → addPeerOf e address ≡ given (refusedAdd e) (addPeerChecks e address) peerAdded n
@@ -49,7 +50,7 @@ module _ (e : Endpoint) (address : ℕ) where
   add-peer-exit n p = decided (refusedAdd e) (addPeerChecks e address) peerAdded n p
 
 module _ (e : Endpoint) (peer kind network tenant : ℕ) where
-  abbrev pub bindingAdded : Configured
+  abbrev pub bindingAdded : AddResult
   bindingAdded = record { endpoint = withBinding e (e .«binding_count») peer kind network tenant; answer = A.Number (e .«binding_count») }
 
   pub add-binding-exit : (n : ℕ) → At (addBindingChecks e peer kind network tenant) n
@@ -69,7 +70,7 @@ pull g refused ((false ⇒ r) ∷ checks) accepted = pull g refused checks accep
 abbrev pub withPeers : Endpoint → (addresses : List ℕ) (count : ℕ) → Endpoint
 withPeers e addresses count = record {
   networks = e .networks;
-  rows = e .rows;
+  peers = e .peers;
   addresses = addresses;
   own = e .own;
   tenants = e .tenants;
@@ -84,7 +85,7 @@ withPeers e addresses count = record {
 abbrev pub withBindings : Endpoint → (networks kinds owners tenants : List ℕ) (count : ℕ) → Endpoint
 withBindings e networks kinds owners tenants count = record {
   networks = networks;
-  rows = e .rows;
+  peers = e .peers;
   addresses = e .addresses;
   own = e .own;
   tenants = tenants;
@@ -98,7 +99,7 @@ withBindings e networks kinds owners tenants count = record {
 
 -- what `list_peer` says of its answer and of what it leaves, and how that makes up the whole call
 module _ (addresses : List ℕ) (own port count address : ℕ) where
-  abbrev PeersAfter : Configured
+  abbrev PeersAfter : AddResult
   PeersAfter = addPeerOf (peersOf addresses own port count) address
 
   abbrev pub ListedPeer : Added → List ℕ → ℕ → Type 0
@@ -111,7 +112,7 @@ module _ (addresses : List ℕ) (own port count address : ℕ) where
       ListedPeer (c .answer) (c .endpoint .addresses) (c .endpoint .«peer_count»)
   list-peer-exit n p =
       let q = sym (add-peer-exit (peersOf addresses own port count) address n p) in
-      (ap (λ (c : Configured). c .answer) q, (ap (λ (c : Configured). c .endpoint .addresses) q, ap (λ (c : Configured). c .endpoint .«peer_count») q))
+      (ap (λ (c : AddResult). c .answer) q, (ap (λ (c : AddResult). c .endpoint .addresses) q, ap (λ (c : AddResult). c .endpoint .«peer_count») q))
 
 pub add-peer-out : (e : Endpoint) (address : ℕ) (a : Added) (xs : List ℕ) (n : ℕ)
     → ListedPeer (e .addresses) (e .own) (e .port) (e .«peer_count») address a xs n
@@ -120,14 +121,14 @@ unfolding addPeerOf addPeerChecks withAddress findPeer configOf
 add-peer-out e address a xs n w =
     let s : Endpoint = peersOf (e .addresses) (e .own) (e .port) (e .«peer_count») in
     rw (w .0, w .1 .0, w .1 .1)
-    (pull (λ (c : Configured). record { endpoint = withPeers e (c .endpoint .addresses) (c .endpoint .«peer_count»); answer = c .answer }) (refusedAdd s)
+    (pull (λ (c : AddResult). record { endpoint = withPeers e (c .endpoint .addresses) (c .endpoint .«peer_count»); answer = c .answer }) (refusedAdd s)
     (addPeerChecks s address) (peerAdded s address))
 
 module _ (networks kinds owners tenants : List ℕ) (peers count peer kind network tenant : ℕ) where
   abbrev Told : Endpoint
   Told = bindingsOf networks kinds owners tenants peers count
 
-  abbrev BindingsAfter : Configured
+  abbrev BindingsAfter : AddResult
   BindingsAfter = addBindingOf Told peer kind network tenant
 
   abbrev pub ListedBinding : Added → (ns ks os ts : List ℕ) → ℕ → Type 0
@@ -142,17 +143,17 @@ module _ (networks kinds owners tenants : List ℕ) (peers count peer kind netwo
       ListedBinding (c .answer) (c .endpoint .networks) (c .endpoint .kinds) (c .endpoint .owners) (c .endpoint .tenants) (c .endpoint .«binding_count»)
   list-binding-exit n p =
       let q = sym (add-binding-exit Told peer kind network tenant n p) in (
-        ap (λ (c : Configured). c .answer) q,
+        ap (λ (c : AddResult). c .answer) q,
         (
-          ap (λ (c : Configured). c .endpoint .networks) q,
+          ap (λ (c : AddResult). c .endpoint .networks) q,
           (
-            ap (λ (c : Configured). c .endpoint .kinds) q,
+            ap (λ (c : AddResult). c .endpoint .kinds) q,
             (
-              ap (λ (c : Configured). c .endpoint .owners) q,
+              ap (λ (c : AddResult). c .endpoint .owners) q,
               (
-                ap (λ (c : Configured). c .endpoint .tenants) q,
+                ap (λ (c : AddResult). c .endpoint .tenants) q,
                 ap (λ
-                    (c : Configured). c .endpoint .«binding_count») q,
+                    (c : AddResult). c .endpoint .«binding_count») q,
               ),
             ),
           ),
@@ -166,14 +167,14 @@ unfolding addBindingOf addBindingChecks withBinding findBinding configOf
 add-binding-out e peer kind network tenant a ns ks os ts n w =
     let s : Endpoint = bindingsOf (e .networks) (e .kinds) (e .owners) (e .tenants) (e .«peer_count») (e .«binding_count») in
     rw (w .0, w .1 .0, w .1 .1 .0, w .1 .1 .1 .0, w .1 .1 .1 .1 .0, w .1 .1 .1 .1 .1)
-    (pull (λ (c : Configured). record {
+    (pull (λ (c : AddResult). record {
       endpoint = withBindings e (c .endpoint .networks) (c .endpoint .kinds) (c .endpoint .owners) (c .endpoint .tenants) (c .endpoint .«binding_count»);
       answer = c .answer;
     }) (refusedAdd s) (addBindingChecks s peer kind network tenant) (bindingAdded s peer kind network tenant))
 
 -- ---- what a lookup answers, as the test of check 19
 
-abbrev pub isFound : Found → Bool
+abbrev pub isFound : Lookup → Bool
 isFound (F.Refused d) = false
 isFound (F.At i) = true
 
@@ -181,7 +182,7 @@ is-found : (d : Drop) (o : Option ℕ) → isFound (foundOf d o) ≡ isSome o
 is-found d none = refl
 is-found d (some i) = refl
 
-pub peer-found : (e : Endpoint) (address n : ℕ) (f : Found) → n ≡ min (e .«peer_count») 8
+pub peer-found : (e : Endpoint) (address n : ℕ) (f : Lookup) → n ≡ min (e .«peer_count») 8
     → f ≡ foundOf D.Peer (lowest (hasAddress (e .addresses) address) n) → isSome (findPeer (configOf e) address) ≡ isFound f
 unfolding findPeer configOf
 peer-found e address n f k r =
@@ -189,7 +190,7 @@ peer-found e address n f k r =
     ∙ ap (λ (k : ℕ). isFound (foundOf D.Peer (lowest (hasAddress (e .addresses) address) k))) (sym k)
     ∙ ap isFound (sym r)
 
-pub binding-found : (e : Endpoint) (peer kind network n : ℕ) (f : Found) → n ≡ min (e .«binding_count») 64
+pub binding-found : (e : Endpoint) (peer kind network n : ℕ) (f : Lookup) → n ≡ min (e .«binding_count») 64
     → f ≡ foundOf D.Binding (lowest (binds (e .networks) (e .kinds) (e .owners) peer kind network) n)
     → isSome (findBinding (configOf e) peer kind network) ≡ isFound f
 unfolding findBinding configOf

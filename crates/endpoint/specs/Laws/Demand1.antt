@@ -27,15 +27,14 @@ use Rattle.wire.specs.declared.frame.FrameRead.{FrameRead}
 use Rattle.wire.specs.declared.frame.FrameRead.the-variants as I
 use Rattle.reassembly.specs.Laws.Base.{caseB, either, clash}
 use Rattle.reassembly.specs.Slots.{Note, free, noRow, older}
-use Rattle.reassembly.specs.Laws.Slots.{older-stays}
 use Rattle.reassembly.specs.Laws.Runs.{older-at, rows-older}
 use Rattle.reassembly.specs.Take.{Seg, rejectionCode, slotNo, frameIn}
 use Rattle.reassembly.specs.Laws.TakeFacts.{rejection-codes, length-frame}
 use Rattle.reassembly.specs.Store.{bytesOf, takeIn}
 use Rattle.reassembly.specs.Laws.TakeIn.{take-refused, take-no-memory, take-whole}
 use Rattle.reassembly.specs.Laws.TakeTouch.{take-completes, older-free, older-younger, older-gone}
-use Rattle.reassembly.specs.Receive.{Seen, stranger, plain, segment, Verdict, bad, good, spoken, told}
-use Rattle.reassembly.specs.declared.slot.Row.{Row}
+use Rattle.reassembly.specs.Receive.{Reading, otherSender, direct, segment, Verdict, bad, good, frameAnswer, takeAnswer}
+use Rattle.reassembly.specs.declared.slot.Peer.{Peer}
 use Rattle.reassembly.specs.declared.slot.Slot.{Slot}
 use Rattle.reassembly.specs.declared.take.Rejection.{Rejection}
 use Rattle.reassembly.specs.declared.take.Rejection.the-variants as J
@@ -43,11 +42,12 @@ use Rattle.reassembly.specs.declared.take.Outcome.{Outcome}
 use Rattle.reassembly.specs.declared.take.Outcome.the-variants as O
 use Rattle.endpoint.specs.Answer.{dropCode, configCode, valuesOf, AddedValues, tickCode, wrapRefusalCode, wrapValuesOf}
 use Rattle.endpoint.specs.Search.{lowest}
-use Rattle.endpoint.specs.Config.{Config, configOf, binds, fresh, startChecks, refusedStart, startOf, refusedAdd, addPeerChecks, withAddress, addPeerOf, addBindingChecks, withBinding, addBindingOf, tickOf}
+use Rattle.endpoint.specs.Config.{Config, configOf, binds, fresh, startChecks, refusedStart, startOf, refusedAdd, addPeerChecks, withAddress, addPeerOf}
+use Rattle.endpoint.specs.Config.{addBindingChecks, withBinding, addBindingOf, tickOf}
 use Rattle.endpoint.specs.Laws.Config.{cases, rows-tick}
 use Rattle.endpoint.specs.Laws.ConfigExits.{peerAdded, bindingAdded}
 use Rattle.endpoint.specs.Laws.View.{view-rule}
-use Rattle.endpoint.specs.Receive.{answers, bound?, innerFrom, stt?, sttFrom, headerOf, judgeOf, Step, rowAt, stepped, stepOf, withRow}
+use Rattle.endpoint.specs.Receive.{answers, byBinding, innerFrom, byStt, sttFrom, headerOf, judgeOf, Step, rowAt, stepped, stepOf, withRow}
 use Rattle.endpoint.specs.Laws.Formats.{segment-sound, segment-complete}
 use Rattle.endpoint.specs.Wrap.{Wrote, wrapChecks, refusedWrap, wrapOf, packetAt}
 use Rattle.endpoint.specs.declared.answer.ConfigRefusal.{ConfigRefusal}
@@ -60,8 +60,9 @@ use Rattle.endpoint.specs.declared.answer.Received.the-variants as R
 use Rattle.endpoint.specs.declared.answer.WrapRefusal.{WrapRefusal}
 use Rattle.endpoint.specs.declared.answer.WrapRefusal.the-variants as X
 use Rattle.endpoint.specs.declared.config.Endpoint.{Endpoint}
-use Rattle.endpoint.specs.declared.config.Started.{Started}
-use Rattle.endpoint.specs.Demand1.{_among_, slotAt, Entered, SameConfiguration, Blank, StartRule, PeerAdded, BindingAdded, AddRule, Empties, Unchanged, FoundBad, ReceiveRule, TickRule, WrapRule, Demand1}
+use Rattle.endpoint.specs.declared.config.StartResult.{StartResult}
+use Rattle.endpoint.specs.Demand1.{_among_, slotAt, Entered, SameConfiguration, Blank, StartRule, PeerAdded, BindingAdded, AddRule, Empties, Unchanged}
+use Rattle.endpoint.specs.Demand1.{FoundBad, ReceiveRule, TickRule, WrapRule, Demand1}
 
 -- ---- start. Each of its checks refuses by 18
 
@@ -71,7 +72,7 @@ onlyOut ((test ⇒ C.OutOfRange) ∷ checks) = onlyOut checks
 onlyOut ((test ⇒ C.AlreadyListed) ∷ checks) = false
 onlyOut ((test ⇒ C.Full) ∷ checks) = false
 
-start-by : (P : Started → Type 0) (checks : List (Check ConfigRefusal)) (accepted : Started) → onlyOut checks ≡ true → P (refusedStart C.OutOfRange)
+start-by : (P : StartResult → Type 0) (checks : List (Check ConfigRefusal)) (accepted : StartResult) → onlyOut checks ≡ true → P (refusedStart C.OutOfRange)
     → P accepted → P (first refusedStart checks accepted)
 start-by P [] accepted o f g = g
 start-by P ((true ⇒ C.OutOfRange) ∷ checks) accepted o f g = f
@@ -211,7 +212,7 @@ empties (R.Dropped x) d = record { no-tenant = refl; no-binding = refl; start = 
 
 -- ---- a receive: a frame is found bad by 11, 12 or 13
 
-bound-bad : (tenants : List ℕ) (o : Option ℕ) (frame : List ℕ) (r : FrameRead) → frameOf frame ≡ r → (d : Drop) → bound? tenants o r ≡ bad d
+bound-bad : (tenants : List ℕ) (o : Option ℕ) (frame : List ℕ) (r : FrameRead) → frameOf frame ≡ r → (d : Drop) → byBinding tenants o r ≡ bad d
     → dropCode d among (11 ∷ 12 ∷ 13 ∷ []) ≡ true
 bound-bad tenants none frame r q d e = let z : D.Binding ≡ d = cc (e) in rw (← z)
 bound-bad tenants (some b) frame I.Good q d e = clash (cc (e))
@@ -230,21 +231,21 @@ unfolding judgeOf sttFrom
 judge-bad c p note frame d l e = by (sttOf frame) refl e
   where
     by : (r : SttRead) → sttOf frame ≡ r
-        → stt? r (λ context. innerFrom (c .networks) (c .kinds) (c .owners) (c .tenants) (c .bindings) p 3 context (drop 18 frame)) ≡ bad d
+        → byStt r (λ context. innerFrom (c .networks) (c .kinds) (c .owners) (c .tenants) (c .bindings) p 3 context (drop 18 frame)) ≡ bad d
         → dropCode d among (11 ∷ 12 ∷ 13 ∷ []) ≡ true
     by (H.Refused r) q e = let z : D.Format r ≡ d = cc (e) in rw (← z, stt-code frame r l q)
     by (H.Header context) q e = inner-bad (c .networks) (c .kinds) (c .owners) (c .tenants) (c .bindings) p 3 context (drop 18 frame) d e
 
-spoken-bad : (x : Verdict answers) (i n : ℕ) (frame : List ℕ) (d : Drop) → spoken answers x i n frame .reply ≡ R.Dropped d → x ≡ bad d
+spoken-bad : (x : Verdict answers) (i n : ℕ) (frame : List ℕ) (d : Drop) → frameAnswer answers x i n frame .reply ≡ R.Dropped d → x ≡ bad d
 spoken-bad (bad b) i n frame d e = cc
 spoken-bad (good t) i n frame d e = clash (cc (e))
 
 -- ---- a receive: what it leaves
 
 pub same-row : (e : Endpoint) (p : ℕ) → withRow e p (rowAt e p) ≡ e
-same-row e p = rw (set-getD (e .rows) p noRow)
+same-row e p = rw (set-getD (e .peers) p noRow)
 
-same-configuration : (e : Endpoint) (p : ℕ) (row : Row) → SameConfiguration e (withRow e p row)
+same-configuration : (e : Endpoint) (p : ℕ) (row : Peer) → SameConfiguration e (withRow e p row)
 same-configuration e p row = record {
   settings = record { own = refl; port = refl; mtu = refl };
   peers = record { count = refl; addresses = refl };
@@ -257,30 +258,30 @@ free-at [] s = refl
 free-at (x ∷ l) zero = refl
 free-at (x ∷ l) (suc s) = free-at l s
 
-slot-freed : (rows : List Row) (p s : ℕ) (row : Row) → row .slots ≡ set (getD rows p noRow .slots) s free
+slot-freed : (rows : List Peer) (p s : ℕ) (row : Peer) → row .slots ≡ set (getD rows p noRow .slots) s free
     → getD (getD (set rows p row) p noRow .slots) s free .pending ≡ false
 slot-freed [] p s row q = refl
 slot-freed (x ∷ rows) zero s row q = rw q (free-at (x .slots) s)
 slot-freed (x ∷ rows) (suc p) s row q = slot-freed rows p s row q
 
-slot-other : (rows : List Row) (p s : ℕ) (row : Row) → row .slots ≡ set (getD rows p noRow .slots) s free → (t : ℕ) → t ≢ s
+slot-other : (rows : List Peer) (p s : ℕ) (row : Peer) → row .slots ≡ set (getD rows p noRow .slots) s free → (t : ℕ) → t ≢ s
     → getD (getD (set rows p row) p noRow .slots) t free ≡ getD (getD rows p noRow .slots) t free
 slot-other [] p s row q t d = refl
 slot-other (x ∷ rows) zero s row q t d = rw q (getD-set-other (x .slots) s t free free d)
 slot-other (x ∷ rows) (suc p) s row q t d = slot-other rows p s row q t d
 
-other-slots : (rows : List Row) (p s : ℕ) (row : Row) → row .slots ≡ set (getD rows p noRow .slots) s free → (q t : ℕ) → (q ≢ p) ⊎ (t ≢ s)
+other-slots : (rows : List Peer) (p s : ℕ) (row : Peer) → row .slots ≡ set (getD rows p noRow .slots) s free → (q t : ℕ) → (q ≢ p) ⊎ (t ≢ s)
     → getD (getD (set rows p row) q noRow .slots) t free ≡ getD (getD rows q noRow .slots) t free
 other-slots rows p s row f q t x =
     caseB (eqb q p)
     (λ a. let same : q ≡ p = eqb-true q p a in rw same (slot-other rows p s row f t (either x (λ d. absurd (d same)) (λ d. d))))
-    (λ a. ap (λ (y : Row). getD (y .slots) t free) (getD-set-other rows p q row noRow (eqb-false q p a)))
+    (λ a. ap (λ (y : Peer). getD (y .slots) t free) (getD-set-other rows p q row noRow (eqb-false q p a)))
 
 module _ (e : Endpoint) (m k : List ℕ) (d : Drop) where
   abbrev Refused : Step → Type 0
   Refused s = Unchanged e m (withRow e (s .peer) (s .row)) (s .mem) ⊎ FoundBad e m k (dropCode d) (withRow e (s .peer) (s .row)) (s .mem)
 
-  same : (p : ℕ) (row : Row) (n : List ℕ) (a : Received) → row ≡ rowAt e p → n ≡ m → Refused (record { peer = p; row = row; answer = a; mem = n })
+  same : (p : ℕ) (row : Peer) (n : List ℕ) (a : Received) → row ≡ rowAt e p → n ≡ m → Refused (record { peer = p; row = row; answer = a; mem = n })
   same p row n a q r = inl (record { endpoint = rw q (same-row e p); memory = r })
 
   found-bad : (p : ℕ) (g : Seg) → headerOf (configOf e) k ≡ segment p g → (s : ℕ) → takeIn p (rowAt e p) m g .outcome ≡ O.Complete s
@@ -302,21 +303,21 @@ module _ (e : Endpoint) (m k : List ℕ) (d : Drop) where
         new = c .new;
         stored = c .touches;
         complete = c .whole;
-        freed = slot-freed (e .rows) p s (takeIn p (rowAt e p) m g .row) (c .freed);
-        other-slots = other-slots (e .rows) p s (takeIn p (rowAt e p) m g .row) (c .freed);
+        freed = slot-freed (e .peers) p s (takeIn p (rowAt e p) m g .row) (c .freed);
+        other-slots = other-slots (e .peers) p s (takeIn p (rowAt e p) m g .row) (c .freed);
         configuration = same-configuration e p (takeIn p (rowAt e p) m g .row);
       }
 
   taken : (p : ℕ) (g : Seg) → headerOf (configOf e) k ≡ segment p g → (o : Outcome) → takeIn p (rowAt e p) m g .outcome ≡ o
-      → told answers (judgeOf (configOf e)) bytesOf p g (takeIn p (rowAt e p) m g) o .reply ≡ R.Dropped d → Refused (stepped e m (segment p g))
+      → takeAnswer answers (judgeOf (configOf e)) bytesOf p g (takeIn p (rowAt e p) m g) o .reply ≡ R.Dropped d → Refused (stepped e m (segment p g))
   taken p g h (O.Rejected r) q t = let x = take-refused p (rowAt e p) m g r q in same p _ _ (R.Dropped d) (x .0) (x .1)
   taken p g h O.NoMemory q t = let x = take-no-memory p (rowAt e p) m g q in same p _ _ (R.Dropped d) (x .0) (x .1)
   taken p g h O.Pending q t = clash (cc (t))
   taken p g h (O.Complete s) q t = inr (found-bad p g h s q (spoken-bad _ _ _ _ d t))
 
-  seen : (x : Seen answers) → headerOf (configOf e) k ≡ x → stepped e m x .answer ≡ R.Dropped d → Refused (stepped e m x)
-  seen (stranger a) h t = same 0 (rowAt e 0) m a refl refl
-  seen (plain p a) h t = same p (rowAt e p) m a refl refl
+  seen : (x : Reading answers) → headerOf (configOf e) k ≡ x → stepped e m x .answer ≡ R.Dropped d → Refused (stepped e m x)
+  seen (otherSender a) h t = same 0 (rowAt e 0) m a refl refl
+  seen (direct p a) h t = same p (rowAt e p) m a refl refl
   seen (segment p g) h t = taken p g h (takeIn p (rowAt e p) m g .outcome) refl t
 
   refused : stepOf e m k .answer ≡ R.Dropped d → Refused (stepOf e m k)
@@ -342,11 +343,12 @@ module _ (e : Endpoint) (m k : List ℕ) (p : ℕ) (g : Seg) (h : headerOf (conf
 
   judged-bad : (s : ℕ) → takeIn p (rowAt e p) m g .outcome ≡ O.Complete s → (frame : List ℕ) (x : Verdict answers)
       → judgeOf (configOf e) p (takeIn p (rowAt e p) m g .note) (frameIn bytesOf (takeIn p (rowAt e p) m g .mem) (slotNo p s) (g .frame-length)) ≡ x
-      → Bad (spoken answers x (slotNo p s) (g .frame-length) frame .reply)
+      → Bad (frameAnswer answers x (slotNo p s) (g .frame-length) frame .reply)
   judged-bad s q frame (bad d) j n = found-bad e m k d p g h s q j
   judged-bad s q frame (good t) j n = clash (cc (n))
 
-  told-bad : (o : Outcome) → takeIn p (rowAt e p) m g .outcome ≡ o → Bad (told answers (judgeOf (configOf e)) bytesOf p g (takeIn p (rowAt e p) m g) o .reply)
+  told-bad : (o : Outcome) → takeIn p (rowAt e p) m g .outcome ≡ o
+      → Bad (takeAnswer answers (judgeOf (configOf e)) bytesOf p g (takeIn p (rowAt e p) m g) o .reply)
   told-bad (O.Rejected r) q n = clash (cc (rejection-not r, n))
   told-bad O.NoMemory q n = clash (cc (n))
   told-bad O.Pending q n = clash (cc (n))
@@ -382,9 +384,9 @@ receive-rule e m k = record {
 
 slot-older : (e : Endpoint) (p s : ℕ) → slotAt (tickOf e .endpoint) p s ≡ older (slotAt e p s)
 slot-older e p s =
-    ap (λ (l : List Row). getD (getD l p noRow .slots) s free) (rows-tick e)
-    ∙ ap (λ (l : List Slot). getD l s free) (rows-older (e .rows) p)
-    ∙ older-at (getD (e .rows) p noRow .slots) s
+    ap (λ (l : List Peer). getD (getD l p noRow .slots) s free) (rows-tick e)
+    ∙ ap (λ (l : List Slot). getD l s free) (rows-older (e .peers) p)
+    ∙ older-at (getD (e .peers) p noRow .slots) s
 
 tick-same : (e : Endpoint) → SameConfiguration e (tickOf e .endpoint)
 unfolding tickOf

@@ -24,18 +24,18 @@ use Rattle.reassembly.specs.Take.{Seg, slotNo, frameIn}
 use Rattle.reassembly.specs.Store.{bytesOf, takeIn, slotStart}
 use Rattle.reassembly.specs.Laws.Store.{slot-inside}
 use Rattle.reassembly.specs.Laws.TakeIn.{take-whole, take-length, frame-part}
-use Rattle.reassembly.specs.Receive.{viewOf, Seen, stranger, plain, segment, Verdict, bad, good, spoken, told, Event, receive, tick}
+use Rattle.reassembly.specs.Receive.{viewOf, Reading, otherSender, direct, segment, Verdict, bad, good, frameAnswer, takeAnswer, Event, receive, tick}
 use Rattle.reassembly.specs.declared.take.Outcome.{Outcome}
 use Rattle.reassembly.specs.declared.take.Outcome.the-variants as O
 use Rattle.endpoint.specs.Answer.{placeOf}
 use Rattle.endpoint.specs.Config.{Config, configOf, findPeer, Adding, setUp}
 use Rattle.endpoint.specs.Laws.Receive.{slot-view}
-use Rattle.endpoint.specs.Receive.{answers, isDelivered, carried?, peer?, ours?, ip?, headerOf, judgeOf, rowAt, stepped, stepOf, layers, worldOf}
+use Rattle.endpoint.specs.Receive.{answers, isDelivered, byPayload, byPeer, byDestination, byIpv4, headerOf, judgeOf, rowAt, stepped, stepOf, layers}
+use Rattle.endpoint.specs.Receive.{worldOf}
 use Rattle.endpoint.specs.Formats.{CarriesFrame, CarriesSegment, GoodFrame}
 use Rattle.endpoint.specs.Laws.Formats.{Lies, judge-sound, judge-complete, segment-sound, segment-complete, frame-sound, frame-complete}
 use Rattle.endpoint.specs.declared.answer.Place.{Place}
 use Rattle.endpoint.specs.declared.answer.Target.{Target}
-use Rattle.endpoint.specs.declared.answer.Drop.{Drop}
 use Rattle.endpoint.specs.declared.answer.Drop.the-variants as D
 use Rattle.endpoint.specs.declared.answer.Received.{Received}
 use Rattle.endpoint.specs.declared.answer.Received.the-variants as R
@@ -73,9 +73,9 @@ step-length : (e : Endpoint) (m k : List ℕ) → length (stepOf e m k .mem) ≡
 unfolding stepOf
 step-length e m k = caseB (ltb (length m) 55296) (λ b. rw b refl) (λ b. rw b (seen (headerOf (configOf e) k)))
   where
-    seen : (x : Seen answers) → length (stepped e m x .mem) ≡ length m
-    seen (stranger a) = refl
-    seen (plain p a) = refl
+    seen : (x : Reading answers) → length (stepped e m x .mem) ≡ length m
+    seen (otherSender a) = refl
+    seen (direct p a) = refl
     seen (segment p g) = take-length p (rowAt e p) m g
 
 called-length : (w : Left) (e : Event) → length (called w e .mem) ≡ length (w .mem)
@@ -87,29 +87,29 @@ calls-length w [] = refl
 calls-length w (e ∷ es) = calls-length (called w e) es ∙ called-length w e
 
 -- a segment is a part of its packet
-abbrev SegBytes : Seen answers → Type 0
-SegBytes (stranger a) = Unit {0}
-SegBytes (plain p a) = Unit {0}
+abbrev SegBytes : Reading answers → Type 0
+SegBytes (otherSender a) = Unit {0}
+SegBytes (direct p a) = Unit {0}
 SegBytes (segment p g) = Bytes (g .bytes)
 
 header-bytes : (c : Config) (k : List ℕ) → Bytes k → SegBytes (headerOf c k)
 unfolding headerOf
 header-bytes c k b = by-ip (ipv4Of k)
   where
-    by-carriage : (p start end : ℕ) (x : Carried) → SegBytes (carried? c p start end k x)
+    by-carriage : (p start end : ℕ) (x : Carried) → SegBytes (byPayload c p start end k x)
     by-carriage p start end (C.Refused r) = tt
     by-carriage p start end (C.Tunnel t) = tt
     by-carriage p start end (C.Segment g) = bytes-part k b (start + g .start) end
 
-    by-peer : (h : Ipv4) (o : Option ℕ) → SegBytes (peer? c h k o)
+    by-peer : (h : Ipv4) (o : Option ℕ) → SegBytes (byPeer c h k o)
     by-peer h none = tt
     by-peer h (some p) = by-carriage p (h .start) (h .end) (carriageOf (h .protocol) (h .source) (h .destination) (c .port) (part k (h .start) (h .end)))
 
-    by-ours : (h : Ipv4) (o : Bool) → SegBytes (ours? c h k o)
+    by-ours : (h : Ipv4) (o : Bool) → SegBytes (byDestination c h k o)
     by-ours h true = by-peer h (findPeer c (h .source))
     by-ours h false = tt
 
-    by-ip : (x : Ipv4Read) → SegBytes (ip? c k x)
+    by-ip : (x : Ipv4Read) → SegBytes (byIpv4 c k x)
     by-ip (I.Refused r) = tt
     by-ip (I.Packet h) = by-ours h (eqb (h .destination) (c .own))
 
@@ -117,9 +117,9 @@ pub step-bytes : (e : Endpoint) (m k : List ℕ) → Bytes m → Bytes k → Byt
 unfolding stepOf
 step-bytes e m k bm bk = caseB (ltb (length m) 55296) (λ b. rw b bm) (λ b. rw b (seen (headerOf (configOf e) k) (header-bytes (configOf e) k bk)))
   where
-    seen : (x : Seen answers) → SegBytes x → Bytes (stepped e m x .mem)
-    seen (stranger a) h = bm
-    seen (plain p a) h = bm
+    seen : (x : Reading answers) → SegBytes x → Bytes (stepped e m x .mem)
+    seen (otherSender a) h = bm
+    seen (direct p a) h = bm
     seen (segment p g) h = take-bytes p (rowAt e p) m g bm h
 
 calls-bytes : (w : Left) (es : List Event) → Bytes (w .mem) → Packets es → Bytes (calls w es .mem)
@@ -138,30 +138,31 @@ lies-view k m place frame l =
 
 -- ---- a stranger's packet is never delivered
 
-ours-stranger : (c : Config) (h : Ipv4) (k : List ℕ) (b : Bool) (a : Received) → ours? c h k b ≡ stranger a → isDelivered a ≡ false
+ours-stranger : (c : Config) (h : Ipv4) (k : List ℕ) (b : Bool) (a : Received) → byDestination c h k b ≡ otherSender a → isDelivered a ≡ false
 ours-stranger c h k false a e = let q : R.Dropped D.Destination ≡ a = cc in sym (ap isDelivered q)
 ours-stranger c h k true a e = peer-stranger (findPeer c (h .source)) e
   where
-    carried-not : (q start end : ℕ) (x : Carried) → carried? c q start end k x ≡ stranger a → isDelivered a ≡ false
+    carried-not : (q start end : ℕ) (x : Carried) → byPayload c q start end k x ≡ otherSender a → isDelivered a ≡ false
     carried-not q start end (C.Refused r) e = let z : _≡_ {A = ℕ} 0 1 = cc in absurd (omega arith)
     carried-not q start end (C.Tunnel t) e = let z : _≡_ {A = ℕ} 0 1 = cc in absurd (omega arith)
     carried-not q start end (C.Segment g) e = let z : _≡_ {A = ℕ} 0 1 = cc in absurd (omega arith)
 
-    peer-stranger : (o : Option ℕ) → peer? c h k o ≡ stranger a → isDelivered a ≡ false
+    peer-stranger : (o : Option ℕ) → byPeer c h k o ≡ otherSender a → isDelivered a ≡ false
     peer-stranger none e = let q : R.Dropped D.Peer ≡ a = cc in sym (ap isDelivered q)
-    peer-stranger (some q) e = carried-not q (h .start) (h .end) (carriageOf (h .protocol) (h .source) (h .destination) (c .port) (part k (h .start) (h .end))) e
+    peer-stranger (some q) e = carried-not q (h .start) (h .end)
+        (carriageOf (h .protocol) (h .source) (h .destination) (c .port) (part k (h .start) (h .end))) e
 
-ip-stranger : (c : Config) (k : List ℕ) (x : Ipv4Read) (a : Received) → ip? c k x ≡ stranger a → isDelivered a ≡ false
+ip-stranger : (c : Config) (k : List ℕ) (x : Ipv4Read) (a : Received) → byIpv4 c k x ≡ otherSender a → isDelivered a ≡ false
 ip-stranger c k (I.Refused r) a e = let q : R.Dropped (D.Format r) ≡ a = cc in sym (ap isDelivered q)
 ip-stranger c k (I.Packet h) a e = ours-stranger c h k (eqb (h .destination) (c .own)) a e
 
-header-stranger : (c : Config) (k : List ℕ) (a : Received) → headerOf c k ≡ stranger a → isDelivered a ≡ false
+header-stranger : (c : Config) (k : List ℕ) (a : Received) → headerOf c k ≡ otherSender a → isDelivered a ≡ false
 unfolding headerOf
 header-stranger c k a e = ip-stranger c k (ipv4Of k) a e
 
 -- ---- one receive, sound
 
-spoken-good : (x : Verdict answers) (i n : ℕ) (frame : List ℕ) (t : Target) (place : Place) → spoken answers x i n frame .reply ≡ R.Delivered t place
+spoken-good : (x : Verdict answers) (i n : ℕ) (frame : List ℕ) (t : Target) (place : Place) → frameAnswer answers x i n frame .reply ≡ R.Delivered t place
     → (x ≡ good t) × (record { start = slotStart i + 18; length = n - 18; «in_memory» = true } ≡ place)
 spoken-good (bad b) i n frame t place e = let z : _≡_ {A = ℕ} 0 1 = cc in absurd (omega arith)
 spoken-good (good u) i n frame t place e = (cc, cc)
@@ -177,7 +178,7 @@ module _ (e : Endpoint) (m k : List ℕ) (enough : 55296 ≤ length m) (packet :
 
     taken-sound : (p : ℕ) (g : Seg) → headerOf (configOf e) k ≡ segment p g → Bytes (takeIn p (rowAt e p) m g .mem) → (o : Outcome)
         → takeIn p (rowAt e p) m g .outcome ≡ o
-        → (place : Place) → told answers (judgeOf (configOf e)) bytesOf p g (takeIn p (rowAt e p) m g) o .reply ≡ R.Delivered t place
+        → (place : Place) → takeAnswer answers (judgeOf (configOf e)) bytesOf p g (takeIn p (rowAt e p) m g) o .reply ≡ R.Delivered t place
         → viewOf k (takeIn p (rowAt e p) m g .mem) (placeOf place) ≡ frame → Completes e m k t frame
     taken-sound p g h b (O.Rejected r) q place a w = let z : _≡_ {A = ℕ} 0 1 = cc in absurd (omega arith)
     taken-sound p g h b O.Pending q place a w = let z : _≡_ {A = ℕ} 0 1 = cc in absurd (omega arith)
@@ -186,25 +187,32 @@ module _ (e : Endpoint) (m k : List ℕ) (enough : 55296 ≤ length m) (packet :
         let after : List ℕ = takeIn p (rowAt e p) m g .mem in
         let whole = take-whole p s (rowAt e p) m g q in
         let inside : slotStart (slotNo p s) + g .frame-length ≤ length after =
-        slot-inside after p s (g .frame-length) (omega (arith, take-length p (rowAt e p) m g)) (whole .is-peer) (whole .is-slot) (omega (arith, whole .fits .most)) in
-        let x = spoken-good (judgeOf (configOf e) p (takeIn p (rowAt e p) m g .note) (frameIn bytesOf after (slotNo p s) (g .frame-length))) (slotNo p s) (g .frame-length) (frameIn bytesOf after (slotNo p s) (g .frame-length)) t place a in
-        let j = judge-sound (configOf e) p (takeIn p (rowAt e p) m g .note) (frameIn bytesOf after (slotNo p s) (g .frame-length)) t (frame-bytes after b (slotNo p s) (g .frame-length) inside) (x .0) in
+        slot-inside after p s (g .frame-length) (omega (arith, take-length p (rowAt e p) m g)) (whole .is-peer) (whole .is-slot)
+        (omega (arith, whole .fits .most)) in
+        let x = spoken-good (judgeOf (configOf e) p (takeIn p (rowAt e p) m g .note) (frameIn bytesOf after (slotNo p s) (g .frame-length))) (slotNo p s)
+        (g .frame-length) (frameIn bytesOf after (slotNo p s) (g .frame-length)) t place a in
+        let j = judge-sound (configOf e) p (takeIn p (rowAt e p) m g .note) (frameIn bytesOf after (slotNo p s) (g .frame-length)) t
+        (frame-bytes after b (slotNo p s) (g .frame-length) inside) (x .0) in
         let same : drop 18 (frameIn bytesOf after (slotNo p s) (g .frame-length)) ≡ frame =
-        sym (slot-view k after (slotNo p s) (g .frame-length) (omega (arith, whole .fits .least)) inside) ∙ ap (λ (y : Place). viewOf k after (placeOf y)) (x .1) ∙ w in
+        sym (slot-view k after (slotNo p s) (g .frame-length) (omega (arith, whole .fits .least)) inside)
+        ∙ ap (λ (y : Place). viewOf k after (placeOf y)) (x .1) ∙ w in
         record { p = p; g = g; carried = segment-sound (configOf e) k p g packet h; slot = s; complete = q; good-frame = rw same at j }
 
-    seen-sound : (x : Seen answers) → headerOf (configOf e) k ≡ x → Bytes (stepped e m x .mem) → (place : Place) → stepped e m x .answer ≡ R.Delivered t place
+    seen-sound : (x : Reading answers) → headerOf (configOf e) k ≡ x → Bytes (stepped e m x .mem) → (place : Place) → stepped e m x .answer
+        ≡ R.Delivered t place
         → viewOf k (stepped e m x .mem) (placeOf place) ≡ frame → CarriesFrame (configOf e) k t frame ⊎ Completes e m k t frame
-    seen-sound (stranger a) h b place q w = let z : _≡_ {A = Bool} true false = sym (ap isDelivered q) ∙ header-stranger (configOf e) k a h in let y : _≡_ {A = ℕ} 0 1 = cc (z) in absurd (omega arith)
-    seen-sound (plain p a) h b place q w =
-        let x = frame-sound (configOf e) k p t place packet (h ∙ ap (plain p) q) in
+    seen-sound (otherSender a) h b place q w = let z : _≡_ {A = Bool} true false = sym (ap isDelivered q) ∙ header-stranger (configOf e) k a h in
+        let y : _≡_ {A = ℕ} 0 1 = cc (z) in absurd (omega arith)
+    seen-sound (direct p a) h b place q w =
+        let x = frame-sound (configOf e) k p t place packet (h ∙ ap (direct p) q) in
         let same : x .0 ≡ frame = sym (lies-view k m place (x .0) (x .1 .1)) ∙ w in
         inl (rw same at (x .1 .0))
     seen-sound (segment p g) h b place q w = inr (taken-sound p g h b (takeIn p (rowAt e p) m g .outcome) refl place q w)
 
     pub sound : Delivers e m k t frame → CarriesFrame (configOf e) k t frame ⊎ Completes e m k t frame
     unfolding stepOf
-    sound d = seen-sound (headerOf (configOf e) k) refl (rw (le-ltb (length m) 55296 enough) at (step-bytes e m k memory packet)) (d .place) (rw (le-ltb (length m) 55296 enough) at (d .answer)) (rw (le-ltb (length m) 55296 enough) at (d .views))
+    sound d = seen-sound (headerOf (configOf e) k) refl (rw (le-ltb (length m) 55296 enough) at (step-bytes e m k memory packet)) (d .place)
+        (rw (le-ltb (length m) 55296 enough) at (d .answer)) (rw (le-ltb (length m) 55296 enough) at (d .views))
 
   -- ---- complete
 
@@ -227,7 +235,8 @@ module _ (e : Endpoint) (m k : List ℕ) (enough : 55296 ≤ length m) (packet :
       let after : List ℕ = takeIn p (rowAt e p) m g .mem in
       let whole = take-whole p s (rowAt e p) m g (w .complete) in
       let inside : slotStart (slotNo p s) + g .frame-length ≤ length after =
-      slot-inside after p s (g .frame-length) (omega (arith, take-length p (rowAt e p) m g)) (whole .is-peer) (whole .is-slot) (omega (arith, whole .fits .most)) in
+      slot-inside after p s (g .frame-length) (omega (arith, take-length p (rowAt e p) m g)) (whole .is-peer) (whole .is-slot)
+      (omega (arith, whole .fits .most)) in
       let j = judge-complete (configOf e) p (takeIn p (rowAt e p) m g .note) (frameIn bytesOf after (slotNo p s) (g .frame-length)) t frame (w .good-frame) in
       let h = segment-complete (configOf e) k p g (w .carried) in
       record {
@@ -238,7 +247,8 @@ module _ (e : Endpoint) (m k : List ℕ) (enough : 55296 ≤ length m) (packet :
 
 -- ---- the proof
 
-module _ (own port mtu : ℕ) (adds : List Adding) (m : List ℕ) (enough : 55296 ≤ length m) (es : List Event) (k : List ℕ) (packet : Bytes k) (t : Target) (frame : List ℕ) where
+module _ (own port mtu : ℕ) (adds : List Adding) (m : List ℕ) (enough : 55296 ≤ length m) (es : List Event) (k : List ℕ) (packet : Bytes k) (t : Target)
+    (frame : List ℕ) where
   abbrev e : Endpoint
   e = setUp own port mtu adds
 
@@ -282,7 +292,8 @@ module _ (own port mtu : ℕ) (adds : List Adding) (m : List ℕ) (enough : 5529
             makes = x .1 .1;
             good-frame =
                 subst (λ (y : World Config). GoodFrame (configOf e) (w .p) (frameOf (w .p) (w .g) (w .slot) y) t frame) world-same
-                (subst (λ (y : Config). GoodFrame y (w .p) (frameOf (w .p) (w .g) (w .slot) (worldOf (at .endpoint) (at .mem))) t frame) config-same (w .good-frame));
+                (subst (λ (y : Config). GoodFrame y (w .p) (frameOf (w .p) (w .g) (w .slot) (worldOf (at .endpoint) (at .mem))) t frame) config-same
+                (w .good-frame));
           })
 
   all : CarriesFrame (configOf e) k t frame ⊎ MadeUp e m es k t frame → Delivers (at .endpoint) (at .mem) k t frame
@@ -292,7 +303,8 @@ module _ (own port mtu : ℕ) (adds : List Adding) (m : List ℕ) (enough : 5529
       (segment-complete (configOf e) k (w .p) (w .g) (w .carried)) (w .segments) (w .complete) (w .gathers) (w .makes) in
       let complete : takeIn (w .p) (rowAt (at .endpoint) (w .p)) (at .mem) (w .g) .outcome ≡ O.Complete (x .0) =
       subst (λ (y : World Config). taking answers Config layers (w .p) y (w .g) .outcome ≡ O.Complete (x .0)) (sym world-same) (x .1 .0) in
-      let same : frameOf (w .p) (w .g) (x .0) (worldOf (at .endpoint) (at .mem)) ≡ w .complete = ap (λ (y : World Config). frameOf (w .p) (w .g) (x .0) y) world-same ∙ x .1 .1 in
+      let same : frameOf (w .p) (w .g) (x .0) (worldOf (at .endpoint) (at .mem)) ≡ w .complete =
+      ap (λ (y : World Config). frameOf (w .p) (w .g) (x .0) y) world-same ∙ x .1 .1 in
       complete-memory (at .endpoint) (at .mem) k still-enough packet t frame
       (record {
         p = w .p;

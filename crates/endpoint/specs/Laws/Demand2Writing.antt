@@ -22,7 +22,8 @@ use Rattle.wire.specs.Laws.Layout.{layouts}
 use Rattle.reassembly.specs.Laws.Base.{either}
 use Rattle.endpoint.specs.Config.{configOf}
 use Rattle.endpoint.specs.Wrap.{segmentsOf, segmentSize, packetOf, exceeds, kindAt, networkAt, peerAt, packetAt}
-use Rattle.endpoint.specs.Laws.Wrap.{Says, written-says, written-when, Ready, Listed, ready-listed, ByKind, vxlan, nvgre, stt, by-kind, packet-vxlan, packet-nvgre, packet-stt, one-vxlan, one-nvgre, many-stt, starts-within, ends-past}
+use Rattle.endpoint.specs.Laws.Wrap.{Says, written-says, written-when, Ready, Listed, ready-listed, ByKind, vxlan, nvgre, stt, by-kind, packet-vxlan}
+use Rattle.endpoint.specs.Laws.Wrap.{packet-nvgre, packet-stt, one-vxlan, one-nvgre, many-stt, starts-within, ends-past}
 use Rattle.endpoint.specs.Reached.{Reached, reached-ready}
 use Rattle.endpoint.specs.Demand2Writing.{CarriesWhole, portion, joinedTo, CarriesPart, LaidOutBy, packetLength, Demand2Writing}
 use Rattle.endpoint.specs.declared.answer.Wrapped.the-variants as Y
@@ -80,15 +81,21 @@ module _ (own peer port network mtu : ℕ) (frame : List ℕ) (k identifier : �
       let n : length (sttFrame network frame) ≡ 18 + length frame = stt-length network frame in
       let first : start < 18 + length frame = starts (length frame) mtu k least within in
       let end : start + size ≡ min (18 + length frame) (start + c) = omega arith in
-      let w = segment-is own peer port network identifier start size last frame [] own-fits peer-fits port-fits id-fits (omega arith) (omega arith) (omega arith) in
+      let w = segment-is own peer port network identifier start size last frame [] own-fits peer-fits port-fits id-fits (omega arith) (omega arith)
+      (omega arith) in
       let bytes : segmentBytes network start size frame ≡ portion mtu (sttFrame network frame) k =
       segment-bytes-is network start size frame ∙ ap (λ (x : ℕ). part (sttFrame network frame) start x) (end ∙ ap (λ (x : ℕ). min x (start + c)) (sym n)) in
       record {
         payload = segmentBody own peer port network identifier start size last frame;
-        ipv4 = rw (packet-stt own peer port network mtu frame k identifier, ← append-nil (segmentPacket own peer port network identifier start size last frame)) (w .0);
+        ipv4 = rw (
+          packet-stt own peer port network mtu frame k identifier,
+          ← append-nil (segmentPacket own peer port network identifier start size last frame),
+        ) (w .0);
         segment =
-            subst (λ (x : ℕ). IsSegment own peer port x start identifier (portion mtu (sttFrame network frame) k) (segmentBody own peer port network identifier start size last frame)) (sym n)
-            (subst (λ (x : List ℕ). IsSegment own peer port (18 + length frame) start identifier x (segmentBody own peer port network identifier start size last frame)) bytes (w .1));
+            subst (λ (x : ℕ). IsSegment own peer port x start identifier (portion mtu (sttFrame network frame) k)
+            (segmentBody own peer port network identifier start size last frame)) (sym n)
+            (subst (λ (x : List ℕ). IsSegment own peer port (18 + length frame) start identifier x
+            (segmentBody own peer port network identifier start size last frame)) bytes (w .1));
       }
 
   laid-out-stt : port < 256 ^ 2 → identifier < 256 ^ 4 → 576 ≤ mtu → IsFrame frame → k < segmentsOf 3 (length frame) mtu
@@ -105,7 +112,8 @@ module _ (own peer port network mtu : ℕ) (frame : List ℕ) (k identifier : �
       let first : start < 18 + length frame = starts (length frame) mtu k least within in
       let end : min (length (sttFrame network frame)) (start + c) ≡ start + size = omega (arith, stt-length network frame) in
       rw end
-      (layouts .segment own peer port network identifier start size last frame own-fits peer-fits port-fits id-fits fourteen (omega arith) (omega arith) (omega arith))
+      (layouts .segment own peer port network identifier start size last frame own-fits peer-fits port-fits id-fits fourteen (omega arith) (omega arith)
+      (omega arith))
 
 -- ---- the same for every kind
 
@@ -167,7 +175,11 @@ module _ (kind own peer port network mtu : ℕ) (frame : List ℕ) (k identifier
           let size : ℕ = segmentSize (length frame) mtu k in
           let last : Bool = eqb (k + 1) (segmentsOf 3 (length frame) mtu) in
           let first : start < 18 + length frame = starts (length frame) mtu k least (rw q at within) in
-          inr (inr (q, rw (q, packet-stt own peer port network mtu frame k identifier) (segment-length-is own peer port network identifier start size last frame (omega arith))))
+          inr (inr (
+            q,
+            rw (q, packet-stt own peer port network mtu frame k identifier)
+                (segment-length-is own peer port network identifier start size last frame (omega arith)),
+          ))
 
 same-length : (kind size mtu k n n′ : ℕ) → packetLength kind size mtu k n → packetLength kind size mtu k n′ → n ≡ n′
 same-length kind size mtu k n n′ (inl a) (inl x) = a .1 ∙ sym (x .1)
@@ -236,7 +248,8 @@ demand-two-writing e b frame reached listed =
           let same : length (packetAt e b frame k identifier) ≡ n =
           same-length (kindAt e b) (length frame) (e .mtu) k (length (packetAt e b frame k identifier)) n
           (length-kind (kindAt e b) (e .own) (peerAt e b) (e .port) (networkAt e b) (e .mtu) frame k identifier by (l .mtu-least) good within) formula in
-          written-when e b frame k identifier output listed (l .owner-below) good (not-exceeds (kindAt e b) (length frame) (e .mtu) k n formula short) within (omega arith)
+          written-when e b frame k identifier output listed (l .owner-below) good (not-exceeds (kindAt e b) (length frame) (e .mtu) k n formula short) within
+          (omega arith)
           ∙ ap (λ (x : ℕ). Y.Written (record { length = x; segments = segmentsOf (kindAt e b) (length frame) (e .mtu) })) same;
     }
   where

@@ -11,25 +11,24 @@ use lib.Dec.{eqb}
 use Rattle.wire.specs.Bytes.{Bytes, part}
 use Rattle.wire.specs.Ipv4.{ipv4Of}
 use Rattle.wire.specs.Laws.Ipv4 as P
-use Rattle.wire.specs.declared.ipv4.Ipv4.{Ipv4}
 use Rattle.wire.specs.declared.ipv4.Ipv4Read.{Ipv4Read}
 use Rattle.wire.specs.declared.ipv4.Ipv4Read.the-variants as I
-use Rattle.reassembly.specs.SetUp.{Said}
+use Rattle.reassembly.specs.SetUp.{Replied}
 use Rattle.reassembly.specs.Claim.{Claim}
 use Rattle.reassembly.specs.SetUp as U
 use Rattle.reassembly.specs.Laws.Claim.{claim}
 use Rattle.reassembly.specs.EveryRun.{EveryRun}
 use Rattle.reassembly.specs.Laws.EveryRun.{every-run}
-use Rattle.reassembly.specs.declared.slot.Row.{Row}
+use Rattle.reassembly.specs.declared.slot.Peer.{Peer}
 use Rattle.endpoint.specs.Config.{Config, configOf, findPeer, Adding, setUp}
 use Rattle.endpoint.specs.Laws.Config.{set-up-valid}
-use Rattle.endpoint.specs.Receive.{answers, layers, sender?, sourceOf}
+use Rattle.endpoint.specs.Receive.{answers, layers, bySender, sourceOf}
 use Rattle.endpoint.specs.Calls.{calls-are, receive-is, promised}
 use Rattle.endpoint.specs.Laws.Formats.{peer-listed, peer-found, segment-sound, segment-complete, judge-sound, judge-complete}
 use Rattle.endpoint.specs.declared.config.Endpoint.{Endpoint}
 use Rattle.endpoint.specs.Demand3.{From, Demand3}
 
-from-by : (c : Config) (k : List ℕ) (p : ℕ) → Bytes k → (x : Ipv4Read) → ipv4Of k ≡ x → sender? c x ≡ some p → From c k p
+from-by : (c : Config) (k : List ℕ) (p : ℕ) → Bytes k → (x : Ipv4Read) → ipv4Of k ≡ x → bySender c x ≡ some p → From c k p
 from-by c k p b (I.Refused r) ip e = let z : _≡_ {A = ℕ} 0 1 = cc in absurd (omega arith)
 from-by c k p b (I.Packet h) ip e = ours (eqb (h .destination) (c .own)) refl e
   where
@@ -56,15 +55,17 @@ abbrev noAdding : Config → Adding → Config
 noAdding c a = c
 
 pub demand-three : (own port mtu : ℕ) (adds : List Adding) (p : ℕ) → p < 8 → Demand3 (setUp own port mtu adds) p
-demand-three own port mtu adds p p< = of (setUp own port mtu adds) (set-up-valid own port mtu adds .rows)
+demand-three own port mtu adds p p< = of (setUp own port mtu adds) (set-up-valid own port mtu adds .peers)
   where
-    of : (e : Endpoint) → e .rows ≡ U.setUp Config Adding noAdding (configOf e) [] .rows → Demand3 e p
+    of : (e : Endpoint) → e .peers ≡ U.setUp Config Adding noAdding (configOf e) [] .peers → Demand3 e p
     of e rows =
         record {
-          claims = subst (λ (r : List Row). Claim answers Config layers (record { config = configOf e; rows = r }) p) (sym rows) (claim answers Config layers Adding noAdding (configOf e) [] (promised e) p p<);
-          every = subst (λ (r : List Row). EveryRun answers Config layers p (record { config = configOf e; rows = r })) (sym rows) (every-run answers Config layers p Adding noAdding (configOf e) [] (promised e) p<);
+          claims = subst (λ (r : List Peer). Claim answers Config layers (record { config = configOf e; peers = r }) p) (sym rows)
+              (claim answers Config layers Adding noAdding (configOf e) [] (promised e) p p<);
+          every = subst (λ (r : List Peer). EveryRun answers Config layers p (record { config = configOf e; peers = r })) (sym rows)
+              (every-run answers Config layers p Adding noAdding (configOf e) [] (promised e) p<);
           calls-are-runs = λ m es. calls-are (record { endpoint = e; mem = m }) es;
-          answers-are = λ w k. ap (λ (s : Said answers Config layers). s .reply) (receive-is (w .endpoint) (w .mem) k);
+          answers-are = λ w k. ap (λ (s : Replied answers Config layers). s .reply) (receive-is (w .endpoint) (w .mem) k);
           whose = λ k b q. from-sound (configOf e) k p b q;
           whose-all = λ k w. from-complete (configOf e) k p w;
           sound = λ k g b q. segment-sound (configOf e) k p g b q;

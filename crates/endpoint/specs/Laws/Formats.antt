@@ -32,13 +32,14 @@ use Rattle.wire.specs.declared.stt.SttRead.the-variants as T
 use Rattle.wire.specs.declared.frame.FrameRead.{FrameRead}
 use Rattle.wire.specs.declared.frame.FrameRead.the-variants as F
 use Rattle.reassembly.specs.Laws.Base.{caseB, clash}
-use Rattle.reassembly.specs.Slots.{Note, noMark}
+use Rattle.reassembly.specs.Slots.{Note}
 use Rattle.reassembly.specs.Take.{Seg, segOf}
-use Rattle.reassembly.specs.Receive.{Seen, plain, segment, Verdict, bad, good}
+use Rattle.reassembly.specs.Receive.{Reading, direct, segment, Verdict, bad, good}
 use Rattle.endpoint.specs.Search.{lowest}
 use Rattle.endpoint.specs.Laws.Search.{lowest-some, lowest-is, has-address, other-address, binds-hit, binds-all}
 use Rattle.endpoint.specs.Config.{Config, hasAddress, findPeer, binds, findBinding}
-use Rattle.endpoint.specs.Receive.{answers, bound?, innerFrom, answerAt, tunnelFrom, carried?, peer?, ours?, ip?, headerOf, stt?, sttFrom, judgeOf}
+use Rattle.endpoint.specs.Receive.{answers, byBinding, innerFrom, answerAt, tunnelFrom, byPayload, byPeer, byDestination, byIpv4, headerOf, byStt}
+use Rattle.endpoint.specs.Receive.{sttFrom, judgeOf}
 use Rattle.endpoint.specs.Formats.{ListedPeer, IsBinding, Bound, CarriesFrame, CarriesSegment, GoodFrame}
 use Rattle.endpoint.specs.declared.answer.Place.{Place}
 use Rattle.endpoint.specs.declared.answer.Target.{Target}
@@ -99,7 +100,7 @@ module _ (c : Config) (peer kind network : ℕ) where
 
 -- ---- the inner frame: bound and good
 
-inner-by : (c : Config) (o : Option ℕ) (r : FrameRead) (t : Target) → bound? (c .tenants) o r ≡ good t
+inner-by : (c : Config) (o : Option ℕ) (r : FrameRead) (t : Target) → byBinding (c .tenants) o r ≡ good t
     → (o ≡ some (t .binding)) × ((t .tenant ≡ getD (c .tenants) (t .binding) 0) × (r ≡ F.Good))
 inner-by c none r t e = let z : _≡_ {A = ℕ} 0 1 = cc in absurd (omega arith)
 inner-by c (some b) (F.Refused x) t e = let z : _≡_ {A = ℕ} 0 1 = cc in absurd (omega arith)
@@ -122,7 +123,7 @@ module _ (c : Config) (p kind network : ℕ) (frame : List ℕ) (t : Target) whe
 
 -- ---- a complete STT frame
 
-stt-by : (r : SttRead) (next : ℕ → Verdict answers) (t : Target) → stt? r next ≡ good t → (context : ℕ) × ((r ≡ T.Header context) × (next context ≡ good t))
+stt-by : (r : SttRead) (next : ℕ → Verdict answers) (t : Target) → byStt r next ≡ good t → (context : ℕ) × ((r ≡ T.Header context) × (next context ≡ good t))
 stt-by (T.Refused r) next t e = let z : _≡_ {A = ℕ} 0 1 = cc in absurd (omega arith)
 stt-by (T.Header context) next t e = (context, (refl, e))
 
@@ -144,7 +145,7 @@ judge-complete c p note whole t inner g =
 
 -- ---- a packet that is taken for a segment
 
-carried-segment : (c : Config) (q start end : ℕ) (k : List ℕ) (r : Carried) (p : ℕ) (g : Seg) → carried? c q start end k r ≡ segment p g
+carried-segment : (c : Config) (q start end : ℕ) (k : List ℕ) (r : Carried) (p : ℕ) (g : Seg) → byPayload c q start end k r ≡ segment p g
     → (s : Segment) × ((r ≡ C.Segment s) × ((q ≡ p) × (segOf s (part k (start + s .start) end) ≡ g)))
 carried-segment c q start end k (C.Refused r) p g e = let z : _≡_ {A = ℕ} 0 1 = cc in absurd (omega arith)
 carried-segment c q start end k (C.Tunnel t) p g e = let z : _≡_ {A = ℕ} 0 1 = cc in absurd (omega arith)
@@ -162,18 +163,18 @@ record ReadSegment (c : Config) (k : List ℕ) (p : ℕ) (g : Seg) : Type 0 wher
 
 peer-segment : (c : Config) (k : List ℕ) (p : ℕ) (g : Seg) (h : Ipv4) → ipv4Of k ≡ I.Packet h → h .destination ≡ c .own → (o : Option ℕ)
     → findPeer c (h .source) ≡ o
-    → peer? c h k o ≡ segment p g → ReadSegment c k p g
+    → byPeer c h k o ≡ segment p g → ReadSegment c k p g
 peer-segment c k p g h ip ours none listed e = let z : _≡_ {A = ℕ} 0 1 = cc in absurd (omega arith)
 peer-segment c k p g h ip ours (some q) listed e =
     let x = carried-segment c q (h .start) (h .end) k (carriageOf (h .protocol) (h .source) (h .destination) (c .port) (part k (h .start) (h .end))) p g e in
     record { h = h; ip = ip; ours = ours; listed = listed ∙ ap some (x .1 .1 .0); s = x .0; read = x .1 .0; is = x .1 .1 .1 }
 
 ours-segment : (c : Config) (k : List ℕ) (p : ℕ) (g : Seg) (h : Ipv4) → ipv4Of k ≡ I.Packet h → (b : Bool) → eqb (h .destination) (c .own) ≡ b
-    → ours? c h k b ≡ segment p g → ReadSegment c k p g
+    → byDestination c h k b ≡ segment p g → ReadSegment c k p g
 ours-segment c k p g h ip true b e = peer-segment c k p g h ip (eqb-true (h .destination) (c .own) b) (findPeer c (h .source)) refl e
 ours-segment c k p g h ip false b e = let z : _≡_ {A = ℕ} 0 1 = cc in absurd (omega arith)
 
-ip-segment : (c : Config) (k : List ℕ) (p : ℕ) (g : Seg) (x : Ipv4Read) → ipv4Of k ≡ x → ip? c k x ≡ segment p g → ReadSegment c k p g
+ip-segment : (c : Config) (k : List ℕ) (p : ℕ) (g : Seg) (x : Ipv4Read) → ipv4Of k ≡ x → byIpv4 c k x ≡ segment p g → ReadSegment c k p g
 ip-segment c k p g (I.Refused r) ip e = let z : _≡_ {A = ℕ} 0 1 = cc in absurd (omega arith)
 ip-segment c k p g (I.Packet h) ip e = ours-segment c k p g h ip (eqb (h .destination) (c .own)) refl e
 
@@ -193,7 +194,8 @@ segment-sound c k p g b e =
       ipv4 = rw (w .0, x .ours) at (a .is);
       listed = peer-listed c (h .source) p (x .listed);
       segment =
-          rw (ap (λ (y : Seg). y .frame-length) (x .is), ap (λ (y : Seg). y .offset) (x .is), ap (λ (y : Seg). y .identifier) (x .is), bytes, x .ours) at (w .1 .is);
+          rw (ap (λ (y : Seg). y .frame-length) (x .is), ap (λ (y : Seg). y .offset) (x .is), ap (λ (y : Seg). y .identifier) (x .is), bytes, x .ours) at
+          (w .1 .is);
       no-mark = sym (ap (λ (y : Seg). y .mark) (x .is));
     }
 
@@ -217,7 +219,8 @@ record ReadTunnel (c : Config) (k : List ℕ) (t : Target) (place : Place) : Typ
   listed : findPeer c (h .source) ≡ some peer
   tunnel : Tunnel
   read : carriageOf (h .protocol) (h .source) (h .destination) (c .port) (part k (h .start) (h .end)) ≡ C.Tunnel tunnel
-  worth : innerFrom (c .networks) (c .kinds) (c .owners) (c .tenants) (c .bindings) peer (tunnel .kind) (tunnel .network) (part k (h .start + tunnel .start) (h .end)) ≡ good t
+  worth : innerFrom (c .networks) (c .kinds) (c .owners) (c .tenants) (c .bindings) peer (tunnel .kind) (tunnel .network)
+      (part k (h .start + tunnel .start) (h .end)) ≡ good t
   lies : record { start = h .start + tunnel .start; length = length (part k (h .start + tunnel .start) (h .end)); «in_memory» = false } ≡ place
 
 worth-tunnel : (x : Verdict answers) (at : Place) (t : Target) (place : Place) → answerAt x at ≡ R.Delivered t place → (x ≡ good t) × (at ≡ place)
@@ -225,8 +228,9 @@ worth-tunnel (bad d) at t place e = let z : _≡_ {A = ℕ} 0 1 = cc in absurd (
 worth-tunnel (good u) at t place e = (cc, cc)
 
 carried-tunnel : (c : Config) (q start end : ℕ) (k : List ℕ) (r : Carried) (p : ℕ) (t : Target) (place : Place)
-    → carried? c q start end k r ≡ plain p (R.Delivered t place)
-    → (u : Tunnel) × ((r ≡ C.Tunnel u) × ((innerFrom (c .networks) (c .kinds) (c .owners) (c .tenants) (c .bindings) q (u .kind) (u .network) (part k (start + u .start) end) ≡ good t)
+    → byPayload c q start end k r ≡ direct p (R.Delivered t place)
+    → (u : Tunnel) × ((r ≡ C.Tunnel u) × ((innerFrom (c .networks) (c .kinds) (c .owners) (c .tenants) (c .bindings) q (u .kind) (u .network)
+    (part k (start + u .start) end) ≡ good t)
     × (record { start = start + u .start; length = length (part k (start + u .start) end); «in_memory» = false } ≡ place)))
 unfolding tunnelFrom
 carried-tunnel c q start end k (C.Refused r) p t place e = let z : _≡_ {A = ℕ} 0 1 = cc in absurd (omega arith)
@@ -234,26 +238,28 @@ carried-tunnel c q start end k (C.Segment s) p t place e = let z : _≡_ {A = �
 carried-tunnel c q start end k (C.Tunnel u) p t place e =
     let frame : List ℕ = part k (start + u .start) end in
     let worth : Verdict answers = innerFrom (c .networks) (c .kinds) (c .owners) (c .tenants) (c .bindings) q (u .kind) (u .network) frame in
-    let x = worth-tunnel worth (record { start = start + u .start; length = length frame; «in_memory» = false }) t place (plain-is (answerAt worth (record { start = start + u .start; length = length frame; «in_memory» = false })) (R.Delivered t place) q p e) in
+    let x = worth-tunnel worth (record { start = start + u .start; length = length frame; «in_memory» = false }) t place
+    (plain-is (answerAt worth (record { start = start + u .start; length = length frame; «in_memory» = false })) (R.Delivered t place) q p e) in
     (u, (refl, (x .0, x .1)))
   where
-    plain-is : (a b : Received) (i j : ℕ) → _≡_ {A = Seen answers} (plain i a) (plain j b) → a ≡ b
+    plain-is : (a b : Received) (i j : ℕ) → _≡_ {A = Reading answers} (direct i a) (direct j b) → a ≡ b
     plain-is a b i j z = cc
 
 peer-tunnel : (c : Config) (k : List ℕ) (p : ℕ) (t : Target) (place : Place) (h : Ipv4) → ipv4Of k ≡ I.Packet h → h .destination ≡ c .own → (o : Option ℕ)
     → findPeer c (h .source) ≡ o
-    → peer? c h k o ≡ plain p (R.Delivered t place) → ReadTunnel c k t place
+    → byPeer c h k o ≡ direct p (R.Delivered t place) → ReadTunnel c k t place
 peer-tunnel c k p t place h ip ours none listed e = let z : _≡_ {A = ℕ} 0 1 = cc in absurd (omega arith)
 peer-tunnel c k p t place h ip ours (some q) listed e =
-    let x = carried-tunnel c q (h .start) (h .end) k (carriageOf (h .protocol) (h .source) (h .destination) (c .port) (part k (h .start) (h .end))) p t place e in
+    let x = carried-tunnel c q (h .start) (h .end) k (carriageOf (h .protocol) (h .source) (h .destination) (c .port) (part k (h .start) (h .end))) p t place
+    e in
     record { h = h; ip = ip; ours = ours; peer = q; listed = listed; tunnel = x .0; read = x .1 .0; worth = x .1 .1 .0; lies = x .1 .1 .1 }
 
 ours-tunnel : (c : Config) (k : List ℕ) (p : ℕ) (t : Target) (place : Place) (h : Ipv4) → ipv4Of k ≡ I.Packet h → (b : Bool) → eqb (h .destination) (c .own) ≡ b
-    → ours? c h k b ≡ plain p (R.Delivered t place) → ReadTunnel c k t place
+    → byDestination c h k b ≡ direct p (R.Delivered t place) → ReadTunnel c k t place
 ours-tunnel c k p t place h ip true b e = peer-tunnel c k p t place h ip (eqb-true (h .destination) (c .own) b) (findPeer c (h .source)) refl e
 ours-tunnel c k p t place h ip false b e = let z : _≡_ {A = ℕ} 0 1 = cc in absurd (omega arith)
 
-ip-tunnel : (c : Config) (k : List ℕ) (p : ℕ) (t : Target) (place : Place) (x : Ipv4Read) → ipv4Of k ≡ x → ip? c k x ≡ plain p (R.Delivered t place)
+ip-tunnel : (c : Config) (k : List ℕ) (p : ℕ) (t : Target) (place : Place) (x : Ipv4Read) → ipv4Of k ≡ x → byIpv4 c k x ≡ direct p (R.Delivered t place)
     → ReadTunnel c k t place
 ip-tunnel c k p t place (I.Refused r) ip e = let z : _≡_ {A = ℕ} 0 1 = cc in absurd (omega arith)
 ip-tunnel c k p t place (I.Packet h) ip e = ours-tunnel c k p t place h ip (eqb (h .destination) (c .own)) refl e
@@ -264,7 +270,7 @@ pub record Lies (k : List ℕ) (place : Place) (frame : List ℕ) : Type 0 where
   pub within : place .start + place .length ≤ length k
   pub bytes : part k (place .start) (place .start + place .length) ≡ frame
 
-pub frame-sound : (c : Config) (k : List ℕ) (p : ℕ) (t : Target) (place : Place) → Bytes k → headerOf c k ≡ plain p (R.Delivered t place)
+pub frame-sound : (c : Config) (k : List ℕ) (p : ℕ) (t : Target) (place : Place) → Bytes k → headerOf c k ≡ direct p (R.Delivered t place)
     → (frame : List ℕ) × (CarriesFrame c k t frame × Lies k place frame)
 unfolding headerOf
 frame-sound c k p t place b e =
@@ -305,7 +311,7 @@ frame-sound c k p t place b e =
     )
 
 pub frame-complete : (c : Config) (k : List ℕ) (t : Target) (frame : List ℕ) (w : CarriesFrame c k t frame)
-    → (place : Place) × ((headerOf c k ≡ plain (w .peer) (R.Delivered t place)) × Lies k place frame)
+    → (place : Place) × ((headerOf c k ≡ direct (w .peer) (R.Delivered t place)) × Lies k place frame)
 unfolding headerOf tunnelFrom
 frame-complete c k t frame w =
     let n : ℕ = length (header (w .ipv4 .f)) in
@@ -317,7 +323,15 @@ frame-complete c k t frame w =
     let end : n + f .start + length frame ≡ size = omega (arith, f .long) in (
       place,
       (
-        rw (i .0, eq-eqb (c .own) (c .own) refl, peer-found c (w .source) (w .peer) (w .listed), i .1, f .is, same, inner-complete c (w .peer) (w .kind) (w .network) frame t (w .bound) (w .good)),
+        rw (
+          i .0,
+          eq-eqb (c .own) (c .own) refl,
+          peer-found c (w .source) (w .peer) (w .listed),
+          i .1,
+          f .is,
+          same,
+          inner-complete c (w .peer) (w .kind) (w .network) frame t (w .bound) (w .good),
+        ),
         record {
           in-packet = refl;
           within = omega (arith, P.ends-within (w .ipv4), f .long);

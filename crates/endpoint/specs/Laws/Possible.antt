@@ -2,29 +2,29 @@
 -- segments, are mixed, four pending at once and one under an identifier that is used again, with ticks, packets of the peer's own and other senders'
 -- between; and by the claim each is delivered once in that run, to the tenant of its Context ID.
 use mathlib.Core.Path.{_≡_, refl, sym, ap, subst, _∙_}
-use mathlib.Core.Bool.{Bool, true, false, cond}
+use mathlib.Core.Bool.{Bool, false, cond}
 use mathlib.Core.List.{List, [], _∷_, _++_, map}
 use Prim.Native.Nat.{ℕ, zero, suc, _+_, _-_, _≤_, _<_}
 use native.Mathlib.Omega.{arith}
 use lib.ListN.{length, take, drop}
 use Rattle.reassembly.specs.Laws.Base.{below-two}
-use Rattle.reassembly.specs.declared.slot.Row.{Row}
 use Rattle.reassembly.specs.Take.{slotNo}
 use Rattle.reassembly.specs.Store.{slotStart}
-use Rattle.reassembly.specs.Receive.{Answer, bare, Seen, segment, Event, receive, tick}
-use Rattle.reassembly.specs.SetUp.{strike, isPeer, peerOf, Promised, World, from, answersOf}
+use Rattle.reassembly.specs.Receive.{Answer, bare, Reading, segment, Event, receive, tick}
+use Rattle.reassembly.specs.SetUp.{strike, isPeer, peerOf, World, from, answersOf}
 use Rattle.reassembly.specs.Mix.{Right, Frame, partOf, states, frameOf, event, Cut, Item, notSegment, Mixing, InTurn}
 use Rattle.reassembly.specs.Laws.MixTest.{mixing}
 use Rattle.reassembly.specs.Laws.OneByOne.{turns-in-turn}
 use Rattle.reassembly.specs.Claim.{SameFrame, answerIn, deliveries, Cuts, Claim}
 use Rattle.endpoint.specs.Laws.Demand3.{demand-three}
 use Rattle.endpoint.specs.Config.{Config, configOf}
-use Rattle.endpoint.specs.Laws.Config.{set-up-valid}
 use Rattle.endpoint.specs.Receive.{answers, inMemory, headerOf, judgeOf, layers, worldOf}
-use Rattle.endpoint.specs.Laws.Receive.{header-kept, header-whose, config-few}
+use Rattle.endpoint.specs.Laws.Receive.{header-whose}
 use Rattle.endpoint.specs.declared.answer.Received.the-variants as R
-use Rattle.endpoint.specs.Laws.PossibleRun.{calls, ready, listed, inner-a, inner-b, frame-a, frame-b, frame-c, frame-d, frames, own-packet, broken-packet, vxlan-packet, rival-packet, stray-packet, mixed, alone, turn}
-use Rattle.endpoint.specs.Laws.WorkedRun.{ready-config, heard-a0, heard-a1, heard-b0, heard-b1, heard-c0, heard-c1, heard-d0, heard-d1, worth-a, worth-b, heard-own, heard-broken, heard-vxlan, heard-rival, heard-stray, mixes-frames, turns-frames}
+use Rattle.endpoint.specs.Laws.PossibleRun.{calls, ready, listed, inner-a, inner-b, frame-a, frame-b, frame-c, frame-d, frames, own-packet, broken-packet}
+use Rattle.endpoint.specs.Laws.PossibleRun.{vxlan-packet, rival-packet, stray-packet, mixed, alone, turn}
+use Rattle.endpoint.specs.Laws.WorkedRun.{ready-config, heard-a0, heard-a1, heard-b0, heard-b1, heard-c0, heard-c1, heard-d0, heard-d1, worth-a, worth-b}
+use Rattle.endpoint.specs.Laws.WorkedRun.{heard-own, heard-broken, heard-vxlan, heard-rival, heard-stray, mixes-frames, turns-frames}
 
 -- ---- what demand 3 asks for, of a configuration and a peer: cuts of good frames, a mixing of them, the same segments one after another, and a second run
 -- that is alike for the peer
@@ -111,11 +111,12 @@ free-rival : notSegment answers 0 (headerOf listed rival-packet)
 free-rival = rw heard-rival (λ q. absurd (omega arith))
 
 is-mixing : Mixing answers (headerOf listed) 0 frames mixed
-is-mixing = mixing frames answers (headerOf listed) 0 mixed mixes-frames (tt, (tt, (tt, (free-own, (tt, (free-broken, (tt, (free-vxlan, (tt, (free-stray, (free-rival, (tt, (tt, (tt, (tt, (tt, (tt, (tt, tt))))))))))))))))))
+is-mixing = mixing frames answers (headerOf listed) 0 mixed mixes-frames
+    (tt, (tt, (tt, (free-own, (tt, (free-broken, (tt, (free-vxlan, (tt, (free-stray, (free-rival, (tt, (tt, (tt, (tt, (tt, (tt, (tt, tt))))))))))))))))))
 
 -- ---- whose packets they are
 
-own : (k : List ℕ) (x : Seen answers) → headerOf listed k ≡ x → from answers Config layers listed 0 k ≡ isPeer 0 (peerOf answers x)
+own : (k : List ℕ) (x : Reading answers) → headerOf listed k ≡ x → from answers Config layers listed 0 k ≡ isPeer 0 (peerOf answers x)
 own k x e = ap (isPeer 0) (sym (header-whose listed (omega arith) k) ∙ ap (peerOf answers) e)
 
 -- another sender's packet is struck out
@@ -140,7 +141,7 @@ possible = rw ready-config (record { cuts = cuts; mixing = is-mixing; in-turn = 
 
 -- ---- the consequences, over every memory of 55,296 bytes or more
 
-claimed : Claim answers Config layers (record { config = configOf ready; rows = ready .rows }) 0
+claimed : Claim answers Config layers (record { config = configOf ready; peers = ready .peers }) 0
 claimed = demand-three 167772161 7471 1500 calls 0 (omega arith) .claims
 
 -- an answer that delivers this inner frame from the memory, to this tenant by this binding
@@ -182,7 +183,7 @@ module _ (m : List ℕ) (enough : 55296 ≤ length m) where
   -- with what its Context ID says
   pub answered : Answered (worldOf ready m)
   answered = rw ready-config (
-      let c : Claim answers Config layers (record { config = listed; rows = ready .rows }) 0 = rw ready-config at claimed in
+      let c : Claim answers Config layers (record { config = listed; peers = ready .peers }) 0 = rw ready-config at claimed in
       let right = c .delivers frames cuts mixed is-mixing m enough in
       record {
         waits-0 = right [] (drop 1 mixed) 0 1 (omega arith) refl .waits (omega arith);
@@ -200,16 +201,19 @@ module _ (m : List ℕ) (enough : 55296 ≤ length m) where
 
   -- one after another, over another memory of that length, each last segment is answered the same
   module _ (m′ : List ℕ) (same : length m ≡ length m′) where
-    pub in-turn-0 : SameFrame answers (answerIn answers Config layers (worldOf ready m) frames (take 12 mixed) 0 0) (answerIn answers Config layers (worldOf ready m′) frames (take 1 turn) 0 1)
+    pub in-turn-0 : SameFrame answers (answerIn answers Config layers (worldOf ready m) frames (take 12 mixed) 0 0)
+        (answerIn answers Config layers (worldOf ready m′) frames (take 1 turn) 0 1)
     in-turn-0 =
         claimed .one-after-another frames (possible .cuts) mixed turn (possible .mixing) (possible .in-turn) m m′ enough same
         (take 12 mixed) (drop 13 mixed) (take 1 turn) (drop 2 turn) 0 0 1 (omega arith) refl refl refl refl
 
-    pub in-turn-4 : SameFrame answers (answerIn answers Config layers (worldOf ready m) frames (take 15 mixed) 4 1) (answerIn answers Config layers (worldOf ready m′) frames (take 9 turn) 4 1)
+    pub in-turn-4 : SameFrame answers (answerIn answers Config layers (worldOf ready m) frames (take 15 mixed) 4 1)
+        (answerIn answers Config layers (worldOf ready m′) frames (take 9 turn) 4 1)
     in-turn-4 =
         claimed .one-after-another frames (possible .cuts) mixed turn (possible .mixing) (possible .in-turn) m m′ enough same
         (take 15 mixed) (drop 16 mixed) (take 9 turn) (drop 10 turn) 4 1 1 (omega arith) refl refl refl refl
 
     -- and other senders' packets change none of its answers
-    pub undisturbed : answersOf answers Config layers 0 (worldOf ready m) (map (event frames) mixed) ≡ answersOf answers Config layers 0 (worldOf ready m′) (map (event frames) alone)
+    pub undisturbed : answersOf answers Config layers 0 (worldOf ready m) (map (event frames) mixed)
+        ≡ answersOf answers Config layers 0 (worldOf ready m′) (map (event frames) alone)
     undisturbed = claimed .same m m′ enough same (map (event frames) mixed) (map (event frames) alone) (possible .alike)

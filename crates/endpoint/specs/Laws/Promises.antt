@@ -18,14 +18,14 @@ use Rattle.endpoint.specs.declared.answer.Added.{Added}
 use Rattle.endpoint.specs.declared.answer.Added.the-variants as A
 use Rattle.endpoint.specs.declared.answer.Wrapped.{Wrapped}
 use Rattle.endpoint.specs.declared.config.Endpoint.{Endpoint}
-use Rattle.endpoint.specs.declared.config.Configured.{Configured}
-use Rattle.endpoint.specs.declared.config.Started.{Started}
-use Rattle.endpoint.specs.declared.receive.Receipt.{Receipt}
-use Rattle.endpoint.specs.declared.tick.Ticked.{Ticked}
+use Rattle.endpoint.specs.declared.config.AddResult.{AddResult}
+use Rattle.endpoint.specs.declared.config.StartResult.{StartResult}
+use Rattle.endpoint.specs.declared.receive.ReceiveResult.{ReceiveResult}
+use Rattle.endpoint.specs.declared.tick.TickResult.{TickResult}
 
 -- ---- start
 
-pub start-promised : (own port mtu : ℕ) (r : Started) → r ≡ startOf own port mtu
+pub start-promised : (own port mtu : ℕ) (r : StartResult) → r ≡ startOf own port mtu
     → (r ≡ startOf own port mtu) × ((startCode (r .answer) ≡ numbered (startRows own port mtu)) × StartRule own port mtu r)
 start-promised own port mtu r is = (is, (rw is (document-table .start own port mtu), rw is (demand-one .start own port mtu)))
 
@@ -35,12 +35,12 @@ added-number : (a : Added) → addedValuesOf a .number ≡ addedCode a
 added-number (A.Number n) = refl
 added-number (A.Refused r) = refl
 
-pub add-peer-promised : (e : Endpoint) (address : ℕ) (r : Configured) → r ≡ addPeerOf e address
+pub add-peer-promised : (e : Endpoint) (address : ℕ) (r : AddResult) → r ≡ addPeerOf e address
     → (r ≡ addPeerOf e address) × ((addedValuesOf (r .answer) .number ≡ numbered (addPeerRows e address)) × AddRule e (PeerAdded e address) r)
 add-peer-promised e address r is =
     (is, (added-number (r .answer) ∙ rw is (document-table .add-peer e address), rw is (demand-one .add-peer e address)))
 
-pub add-binding-promised : (e : Endpoint) (peer kind network tenant : ℕ) (r : Configured) → r ≡ addBindingOf e peer kind network tenant
+pub add-binding-promised : (e : Endpoint) (peer kind network tenant : ℕ) (r : AddResult) → r ≡ addBindingOf e peer kind network tenant
     → (r ≡ addBindingOf e peer kind network tenant)
     × ((addedValuesOf (r .answer) .number ≡ numbered (addBindingRows e peer kind network tenant)) × AddRule e (BindingAdded e peer kind network tenant) r)
 add-binding-promised e peer kind network tenant r is =
@@ -50,7 +50,7 @@ add-binding-promised e peer kind network tenant r is =
 
 -- ---- receive
 
-pub receive-promised : (e : Endpoint) (m k : List ℕ) (r : Receipt) (m′ : List ℕ) → r ≡ receiptOf e (stepOf e m k) → m′ ≡ stepOf e m k .mem
+pub receive-promised : (e : Endpoint) (m k : List ℕ) (r : ReceiveResult) (m′ : List ℕ) → r ≡ receiptOf e (stepOf e m k) → m′ ≡ stepOf e m k .mem
     → (r ≡ receiptOf e (stepOf e m k))
     × ((m′ ≡ stepOf e m k .mem)
     × ((Bytes k → valuesOf (r .answer) .number ≡ numbered (receiveRows e m k)) × ReceiveRule e m k (valuesOf (r .answer)) (r .endpoint) m′))
@@ -58,7 +58,7 @@ receive-promised e m k r m′ is left = (is, (left, (λ b. rw is (document-table
 
 -- ---- a tick
 
-pub tick-promised : (e : Endpoint) (r : Ticked) → r ≡ tickOf e → (r ≡ tickOf e) × TickRule e (tickCode (r .answer)) (r .endpoint)
+pub tick-promised : (e : Endpoint) (r : TickResult) → r ≡ tickOf e → (r ≡ tickOf e) × TickRule e (tickCode (r .answer)) (r .endpoint)
 tick-promised e r is = (is, rw is (demand-one .tick e))
 
 -- ---- wrap

@@ -33,22 +33,23 @@ use Rattle.reassembly.specs.Laws.TakeFacts.{length-frame}
 use Rattle.reassembly.specs.Laws.Store.{handed, slot-inside}
 use Rattle.reassembly.specs.Take.{Seg, segOf, frameIn}
 use Rattle.reassembly.specs.Store.{bytesOf, takeIn, slotStart, takenOf}
-use Rattle.reassembly.specs.Receive.{Seen as Made, stranger, plain, segment, Verdict, bad, good, spoken, told, partOfSlice, viewOf}
+use Rattle.reassembly.specs.Receive.{Reading as Made, otherSender, direct, segment, Verdict, bad, good, frameAnswer, takeAnswer, partOfSlice, viewOf}
 use Rattle.reassembly.specs.Laws.Base.{caseB}
 use Rattle.reassembly.specs.SetUp.{Kept, peerOf}
 use Rattle.reassembly.specs.declared.take.Taken.{Taken}
 use Rattle.reassembly.specs.Laws.TakeIn.{taken-row, taken-outcome, take-length, take-whole, slot-start, frame-part}
-use Rattle.reassembly.specs.declared.slot.Row.{Row}
+use Rattle.reassembly.specs.declared.slot.Peer.{Peer}
 use Rattle.reassembly.specs.declared.take.Rejection.{Rejection}
 use Rattle.reassembly.specs.declared.take.Outcome.{Outcome}
 use Rattle.reassembly.specs.declared.take.Outcome.the-variants as O
 use Rattle.endpoint.specs.Answer.{placeOf, valuesOf}
 use Rattle.endpoint.specs.Search.{lowest, foundOf}
 use Rattle.endpoint.specs.Laws.Search.{lowest-some}
-use Rattle.endpoint.specs.declared.search.Found.{Found}
-use Rattle.endpoint.specs.declared.search.Found.the-variants as L
+use Rattle.endpoint.specs.declared.search.Lookup.{Lookup}
+use Rattle.endpoint.specs.declared.search.Lookup.the-variants as L
 use Rattle.endpoint.specs.Config.{Config, configOf, hasAddress, findPeer, binds}
-use Rattle.endpoint.specs.Receive.{answers, innerFrom, answerAt, tunnelFrom, carried?, peer?, headerOf, ours?, ip?, sender?, sourceOf, stt?, sttFrom, judgeOf, Step, rowAt, unchanged, stepped, stepOf}
+use Rattle.endpoint.specs.Receive.{answers, innerFrom, answerAt, tunnelFrom, byPayload, byPeer, headerOf, byDestination, byIpv4, bySender, sourceOf}
+use Rattle.endpoint.specs.Receive.{byStt, sttFrom, judgeOf, Step, rowAt, unchanged, stepped, stepOf}
 use Rattle.endpoint.specs.declared.answer.Drop.{Drop}
 use Rattle.endpoint.specs.declared.answer.Drop.the-variants as D
 use Rattle.endpoint.specs.declared.answer.Received.{Received}
@@ -62,7 +63,8 @@ use Rattle.endpoint.specs.declared.receive.Offer.{Offer}
 use Rattle.endpoint.specs.declared.receive.Offer.the-variants as B
 use Rattle.endpoint.specs.declared.receive.Changed.{Changed}
 use Rattle.endpoint.specs.declared.config.Endpoint.{Endpoint}
-use Rattle.endpoint.specs.Stages.{carriedFrom, contentFrom, strangerWith, openPeer, openHeader, openIp, openOf, sttOffer, offerAt, offerOf, Lies, changedOf, takeOf, deliverOf, settleOf, openedBy, settledBy}
+use Rattle.endpoint.specs.Stages.{carriedFrom, contentFrom, fromOther, openPeer, openHeader, openIp, openOf, sttOffer, offerAt, offerOf, Lies, changedOf}
+use Rattle.endpoint.specs.Stages.{takeOf, deliverOf, settleOf, openedBy, settledBy}
 
 -- ---- a search, as the code makes it
 
@@ -74,13 +76,14 @@ pub found-some : (d : Drop) (o : Option ℕ) (i : ℕ) → foundOf d o ≡ L.At 
 found-some d none i e = let z : _≡_ {A = ℕ} 0 1 = cc in absurd (omega arith)
 found-some d (some j) i e = cc
 
-pub found-among : (d : Drop) (test : ℕ → Bool) (n all : ℕ) (f : Found) → f ≡ foundOf d (lowest test n) → n ≡ all → f ≡ foundOf d (lowest test all)
+pub found-among : (d : Drop) (test : ℕ → Bool) (n all : ℕ) (f : Lookup) → f ≡ foundOf d (lowest test n) → n ≡ all → f ≡ foundOf d (lowest test all)
 found-among d test n all f q s = q ∙ ap (λ (x : ℕ). foundOf d (lowest test x)) s
 
 -- ---- the ways out of what a listed peer's packet brings
 
 module _ (port : ℕ) (h : Ipv4) (k payload : List ℕ) (is : payload ≡ part k (h .start) (h .end)) where
-  pub content-refused : (r : Refusal) → carriageOf (h .protocol) (h .source) (h .destination) port payload ≡ C.Refused r → A.Refused (D.Format r) ≡ contentFrom port h k
+  pub content-refused : (r : Refusal) → carriageOf (h .protocol) (h .source) (h .destination) port payload ≡ C.Refused r → A.Refused (D.Format r)
+      ≡ contentFrom port h k
   unfolding contentFrom
   content-refused r read = rw (← is, read)
 
@@ -97,26 +100,27 @@ module _ (port : ℕ) (h : Ipv4) (k payload : List ℕ) (is : payload ≡ part k
 -- ---- the ways out of opening
 
 module _ (addresses : List ℕ) (own port peers : ℕ) (k : List ℕ) (room : ℕ) where
-  pub open-memory : room < 55296 → strangerWith D.Memory ≡ openOf addresses own port peers k room
+  pub open-memory : room < 55296 → fromOther D.Memory ≡ openOf addresses own port peers k room
   unfolding openOf
   open-memory l = rw (lt-ltb room 55296 l)
 
   module _ (enough : 55296 ≤ room) where
-    pub open-ip : (r : Refusal) (d : Drop) → ipv4Of k ≡ I.Refused r → d ≡ D.Format r → strangerWith d ≡ openOf addresses own port peers k room
+    pub open-ip : (r : Refusal) (d : Drop) → ipv4Of k ≡ I.Refused r → d ≡ D.Format r → fromOther d ≡ openOf addresses own port peers k room
     unfolding openOf
     open-ip r d q z = rw (le-ltb room 55296 enough, q, z)
 
     module _ (h : Ipv4) (ip : ipv4Of k ≡ I.Packet h) where
-      pub open-destination : (h .destination ≡ own → ⊥) → strangerWith D.Destination ≡ openOf addresses own port peers k room
+      pub open-destination : (h .destination ≡ own → ⊥) → fromOther D.Destination ≡ openOf addresses own port peers k room
       unfolding openOf
       open-destination n = rw (le-ltb room 55296 enough, ip, ne-eqb (h .destination) own n)
 
       module _ (ours : h .destination ≡ own) where
-        pub open-stranger : lowest (hasAddress addresses (h .source)) peers ≡ none → strangerWith D.Peer ≡ openOf addresses own port peers k room
+        pub open-stranger : lowest (hasAddress addresses (h .source)) peers ≡ none → fromOther D.Peer ≡ openOf addresses own port peers k room
         unfolding openOf
         open-stranger q = rw (le-ltb room 55296 enough, ip, eq-eqb (h .destination) own ours, q)
 
-        pub open-peer : (p : ℕ) (x : Content) → lowest (hasAddress addresses (h .source)) peers ≡ some p → x ≡ contentFrom port h k → record { peer = p; content = x } ≡ openOf addresses own port peers k room
+        pub open-peer : (p : ℕ) (x : Content) → lowest (hasAddress addresses (h .source)) peers ≡ some p → x ≡ contentFrom port h k
+            → record { peer = p; content = x } ≡ openOf addresses own port peers k room
         unfolding openOf
         open-peer p x q r = rw (le-ltb room 55296 enough, ip, eq-eqb (h .destination) own ours, q, r)
 
@@ -134,7 +138,8 @@ module _ (at : ℕ) (frame : List ℕ) where
 
 -- ---- the ways out of a segment
 
-pub lies-complete : (peer : ℕ) (o : Outcome) (size : ℕ) (m : List ℕ) (s : ℕ) → Lies peer o size m → o ≡ O.Complete s → (peer < 8) × ((s < 4) × ((size ≤ 1532) × (55296 ≤ length m)))
+pub lies-complete : (peer : ℕ) (o : Outcome) (size : ℕ) (m : List ℕ) (s : ℕ) → Lies peer o size m → o ≡ O.Complete s → (peer < 8)
+    × ((s < 4) × ((size ≤ 1532) × (55296 ≤ length m)))
 unfolding Lies
 lies-complete peer (O.Rejected r) size m s l e = let z : _≡_ {A = ℕ} 0 1 = cc in absurd (omega arith)
 lies-complete peer O.Pending size m s l e = let z : _≡_ {A = ℕ} 0 1 = cc in absurd (omega arith)
@@ -160,7 +165,8 @@ module _ (peer : ℕ) (o : Outcome) (size : ℕ) (m : List ℕ) where
   settled-complete s e frame f = rw (e, f)
 
 -- a segment that was taken: what its outcome tells of the memory
-lies-by : (peer : ℕ) (row : Row) (m : List ℕ) (g : Seg) (o : Outcome) → takeIn peer row m g .outcome ≡ o → Lies peer o (g .frame-length) (takeIn peer row m g .mem)
+lies-by : (peer : ℕ) (row : Peer) (m : List ℕ) (g : Seg) (o : Outcome) → takeIn peer row m g .outcome ≡ o
+    → Lies peer o (g .frame-length) (takeIn peer row m g .mem)
 unfolding Lies
 lies-by peer row m g (O.Rejected r) e = tt
 lies-by peer row m g O.Pending e = tt
@@ -169,17 +175,19 @@ lies-by peer row m g (O.Complete s) e =
     let w = take-whole peer s row m g e in
     (w .is-peer, (w .is-slot, (w .fits .most, omega (arith, w .memory, take-length peer row m g))))
 
-pub lies : (peer : ℕ) (row : Row) (m : List ℕ) (g : Seg) → Lies peer (takeIn peer row m g .outcome) (g .frame-length) (takeIn peer row m g .mem)
+pub lies : (peer : ℕ) (row : Peer) (m : List ℕ) (g : Seg) → Lies peer (takeIn peer row m g .outcome) (g .frame-length) (takeIn peer row m g .mem)
 lies peer row m g = lies-by peer row m g (takeIn peer row m g .outcome) refl
 
 -- ---- the ways out of taking
 
-module _ (row : Row) (a : Arrival) (k m : List ℕ) where
-  pub pass-refused : (d : Drop) → a .content ≡ A.Refused d → (record { row = row; offer = B.Refused d } ≡ changedOf (takeOf row a k m)) × (m ≡ takeOf row a k m .mem)
+module _ (row : Peer) (a : Arrival) (k m : List ℕ) where
+  pub pass-refused : (d : Drop) → a .content ≡ A.Refused d → (record { row = row; offer = B.Refused d } ≡ changedOf (takeOf row a k m))
+      × (m ≡ takeOf row a k m .mem)
   unfolding takeOf
   pass-refused d q = (rw q, rw q)
 
-  pub pass-frame : (f : InnerFrame) → a .content ≡ A.Frame f → (record { row = row; offer = B.Frame f } ≡ changedOf (takeOf row a k m)) × (m ≡ takeOf row a k m .mem)
+  pub pass-frame : (f : InnerFrame) → a .content ≡ A.Frame f → (record { row = row; offer = B.Frame f } ≡ changedOf (takeOf row a k m))
+      × (m ≡ takeOf row a k m .mem)
   unfolding takeOf
   pass-frame f q = (rw q, rw q)
 
@@ -195,7 +203,8 @@ module _ (row : Row) (a : Arrival) (k m : List ℕ) where
     pub lies-taken : Lies (a .peer) (t .outcome) (d .header .«frame_length») m′
     lies-taken = rw (same-outcome, left) (lies (a .peer) row m (segOf (d .header) bytes))
 
-    pub segment-out : (x : Offer) → x ≡ offerOf (a .peer) (t .outcome) (d .header .«frame_length») m′ → (record { row = t .row; offer = x } ≡ changedOf (takeOf row a k m)) × (m′ ≡ takeOf row a k m .mem)
+    pub segment-out : (x : Offer) → x ≡ offerOf (a .peer) (t .outcome) (d .header .«frame_length») m′
+        → (record { row = t .row; offer = x } ≡ changedOf (takeOf row a k m)) × (m′ ≡ takeOf row a k m .mem)
     unfolding takeOf
     segment-out x e = (rw (due, e, same-row, same-outcome, left, are), rw (due, left, are))
 
@@ -211,16 +220,19 @@ module _ (networks kinds owners tenants : List ℕ) (n peer : ℕ) (o : Offer) (
   deliver-pending e = rw e
 
   module _ (f : InnerFrame) (is : o ≡ B.Frame f) where
-    pub deliver-unbound : lowest (binds networks kinds owners peer (f .kind) (f .network)) n ≡ none → R.Dropped D.Binding ≡ deliverOf networks kinds owners tenants n peer o k m
+    pub deliver-unbound : lowest (binds networks kinds owners peer (f .kind) (f .network)) n ≡ none → R.Dropped D.Binding
+        ≡ deliverOf networks kinds owners tenants n peer o k m
     unfolding deliverOf innerFrom
     deliver-unbound e = rw (is, e)
 
-    module _ (b : ℕ) (found : lowest (binds networks kinds owners peer (f .kind) (f .network)) n ≡ some b) (frame : List ℕ) (view : frame ≡ viewOf k m (placeOf (f .place))) where
+    module _ (b : ℕ) (found : lowest (binds networks kinds owners peer (f .kind) (f .network)) n ≡ some b) (frame : List ℕ)
+        (view : frame ≡ viewOf k m (placeOf (f .place))) where
       pub deliver-bad : (r : Refusal) → frameOf frame ≡ F.Refused r → R.Dropped (D.Format r) ≡ deliverOf networks kinds owners tenants n peer o k m
       unfolding deliverOf innerFrom
       deliver-bad r e = rw (is, found, ← view, e)
 
-      pub deliver-good : frameOf frame ≡ F.Good → R.Delivered (record { tenant = getD tenants b 0; binding = b }) (f .place) ≡ deliverOf networks kinds owners tenants n peer o k m
+      pub deliver-good : frameOf frame ≡ F.Good → R.Delivered (record { tenant = getD tenants b 0; binding = b }) (f .place)
+          ≡ deliverOf networks kinds owners tenants n peer o k m
       unfolding deliverOf innerFrom
       deliver-good e = rw (is, found, ← view, e)
 
@@ -241,13 +253,15 @@ slot-view k m i n l f =
 
 -- VXLAN and NVGRE: it lies in the packet
 tunnel-out : (networks kinds owners tenants : List ℕ) (n peer kind network at end : ℕ) (k m : List ℕ) → at ≤ end → end ≤ length k
-    → deliverOf networks kinds owners tenants n peer (B.Frame (record { network = network; place = record { start = at; length = end - at; «in_memory» = false }; kind = kind })) k m
+    → deliverOf networks kinds owners tenants n peer (B.Frame
+    (record { network = network; place = record { start = at; length = end - at; «in_memory» = false }; kind = kind })) k m
     ≡ tunnelFrom networks kinds owners tenants n peer kind network at (part k at end)
 unfolding deliverOf tunnelFrom
 tunnel-out networks kinds owners tenants n peer kind network at end k m l b = rw (part-view k at end l b, part-length k at end b)
 
 -- STT: it lies in slot i
-spoken-out : (x : Verdict answers) (i n : ℕ) (frame : List ℕ) → answerAt x (record { start = slotStart i + 18; length = n - 18; «in_memory» = true }) ≡ spoken answers x i n frame .reply
+spoken-out : (x : Verdict answers) (i n : ℕ) (frame : List ℕ) → answerAt x (record { start = slotStart i + 18; length = n - 18; «in_memory» = true })
+    ≡ frameAnswer answers x i n frame .reply
 spoken-out (bad d) i n frame = refl
 spoken-out (good t) i n frame = refl
 
@@ -256,29 +270,35 @@ module _ (c : Config) (p : ℕ) (k after : List ℕ) (i n : ℕ) (long : 18 ≤ 
   whole = frameIn bytesOf after i n
 
   header-out : (x : SttRead) → deliverOf (c .networks) (c .kinds) (c .owners) (c .tenants) (c .bindings) p (sttOffer (slotStart i) n x) k after
-      ≡ spoken answers (stt? x (λ context. innerFrom (c .networks) (c .kinds) (c .owners) (c .tenants) (c .bindings) p 3 context (drop 18 whole))) i n whole .reply
+      ≡ frameAnswer answers (byStt x (λ context. innerFrom (c .networks) (c .kinds) (c .owners) (c .tenants) (c .bindings) p 3 context (drop 18 whole))) i n
+      whole .reply
   unfolding deliverOf
   header-out (T.Refused r) = refl
   header-out (T.Header context) =
-      rw (slot-view k after i n long inside) (spoken-out (innerFrom (c .networks) (c .kinds) (c .owners) (c .tenants) (c .bindings) p 3 context (drop 18 whole)) i n whole)
+      rw (slot-view k after i n long inside) (spoken-out (innerFrom (c .networks) (c .kinds) (c .owners) (c .tenants) (c .bindings) p 3 context
+      (drop 18 whole)) i n whole)
 
-  judged-out : (note : Note) → deliverOf (c .networks) (c .kinds) (c .owners) (c .tenants) (c .bindings) p (offerAt (i * 1728) (part after (i * 1728) (i * 1728 + n))) k after
-      ≡ spoken answers (judgeOf c p note whole) i n whole .reply
+  judged-out : (note : Note) → deliverOf (c .networks) (c .kinds) (c .owners) (c .tenants) (c .bindings) p
+      (offerAt (i * 1728) (part after (i * 1728) (i * 1728 + n))) k after
+      ≡ frameAnswer answers (judgeOf c p note whole) i n whole .reply
   unfolding judgeOf sttFrom offerAt
   judged-out note =
       let at : slotStart i ≡ i * 1728 = slot-start i in
       let size : i * 1728 + n - i * 1728 ≡ n = omega arith in
       let same : part after (i * 1728) (i * 1728 + n) ≡ whole =
-      part-is after (i * 1728) (i * 1728 + n) ∙ ap (λ (x : ℕ). take x (drop (i * 1728) after)) size ∙ ap (λ (x : ℕ). take n (drop x after)) (sym at) ∙ sym (frame-part after i n inside) in
+      part-is after (i * 1728) (i * 1728 + n) ∙ ap (λ (x : ℕ). take x (drop (i * 1728) after)) size ∙ ap (λ (x : ℕ). take n (drop x after)) (sym at)
+      ∙ sym (frame-part after i n inside) in
       ap (λ (f : List ℕ). deliverOf (c .networks) (c .kinds) (c .owners) (c .tenants) (c .bindings) p (sttOffer (i * 1728) (length f) (sttOf f)) k after) same
-      ∙ ap (λ (s : ℕ). deliverOf (c .networks) (c .kinds) (c .owners) (c .tenants) (c .bindings) p (sttOffer (i * 1728) s (sttOf whole)) k after) (length-frame bytesOf after i n)
+      ∙ ap (λ (s : ℕ). deliverOf (c .networks) (c .kinds) (c .owners) (c .tenants) (c .bindings) p (sttOffer (i * 1728) s (sttOf whole)) k after)
+      (length-frame bytesOf after i n)
       ∙ ap (λ (a : ℕ). deliverOf (c .networks) (c .kinds) (c .owners) (c .tenants) (c .bindings) p (sttOffer a n (sttOf whole)) k after) (sym at)
       ∙ header-out (sttOf whole)
 
-module _ (c : Config) (p : ℕ) (row : Row) (k m : List ℕ) (g : Seg) where
+module _ (c : Config) (p : ℕ) (row : Peer) (k m : List ℕ) (g : Seg) where
   told-out : (o : Outcome) → takeIn p row m g .outcome ≡ o
-      → deliverOf (c .networks) (c .kinds) (c .owners) (c .tenants) (c .bindings) p (offerOf p o (g .frame-length) (takeIn p row m g .mem)) k (takeIn p row m g .mem)
-      ≡ told answers (judgeOf c) bytesOf p g (takeIn p row m g) o .reply
+      → deliverOf (c .networks) (c .kinds) (c .owners) (c .tenants) (c .bindings) p (offerOf p o (g .frame-length) (takeIn p row m g .mem)) k
+      (takeIn p row m g .mem)
+      ≡ takeAnswer answers (judgeOf c) bytesOf p g (takeIn p row m g) o .reply
   unfolding deliverOf offerOf
   told-out (O.Rejected r) e = refl
   told-out O.Pending e = refl
@@ -287,7 +307,8 @@ module _ (c : Config) (p : ℕ) (row : Row) (k m : List ℕ) (g : Seg) where
       let w = take-whole p s row m g e in
       let n : ℕ = g .frame-length in
       let after : List ℕ = takeIn p row m g .mem in
-      let inside : slotStart (4 * p + s) + n ≤ length after = slot-inside after p s n (omega (arith, w .memory, take-length p row m g)) (w .is-peer) (w .is-slot) (omega (arith, w .fits .most)) in
+      let inside : slotStart (4 * p + s) + n ≤ length after =
+      slot-inside after p s n (omega (arith, w .memory, take-length p row m g)) (w .is-peer) (w .is-slot) (omega (arith, w .fits .most)) in
       judged-out c p k after (4 * p + s) n (omega (arith, w .fits .least)) inside (takeIn p row m g .note)
 
 -- ---- what the stages make of a packet, and what the theory of runs does
@@ -299,34 +320,39 @@ module _ (e : Endpoint) (m k : List ℕ) where
 
   carried-adds : (h : Ipv4) → (h .start ≤ h .end) × (h .end ≤ length k) → (p : ℕ) (x : Carried)
       → carriageOf (h .protocol) (h .source) (h .destination) (e .port) (part k (h .start) (h .end)) ≡ x
-      → staged (record { peer = p; content = carriedFrom (h .start) (h .end) x }) ≡ stepped e m (carried? (configOf e) p (h .start) (h .end) k x)
+      → staged (record { peer = p; content = carriedFrom (h .start) (h .end) x }) ≡ stepped e m (byPayload (configOf e) p (h .start) (h .end) k x)
   unfolding settleOf takeOf deliverOf configOf
   carried-adds h b p (C.Refused r) q = refl
   carried-adds h b p (C.Tunnel t) q =
-      let in-payload : t .start ≤ length (part k (h .start) (h .end)) = tunnel-within (h .protocol) (h .source) (h .destination) (e .port) (part k (h .start) (h .end)) t q in
+      let in-payload : t .start ≤ length (part k (h .start) (h .end)) =
+      tunnel-within (h .protocol) (h .source) (h .destination) (e .port) (part k (h .start) (h .end)) t q in
       ap (unchanged e p m)
       (tunnel-out (e .networks) (e .kinds) (e .owners) (e .tenants) (min (e .«binding_count») 64) p (t .kind) (t .network) (h .start + t .start) (h .end) k m
       (omega (arith, part-length k (h .start) (h .end) (b .1))) (b .1))
   carried-adds h b p (C.Segment g) q =
-      let in-payload : g .start ≤ length (part k (h .start) (h .end)) = segment-within (h .protocol) (h .source) (h .destination) (e .port) (part k (h .start) (h .end)) g q in
+      let in-payload : g .start ≤ length (part k (h .start) (h .end)) =
+      segment-within (h .protocol) (h .source) (h .destination) (e .port) (part k (h .start) (h .end)) g q in
       let bytes : List ℕ = part k (h .start + g .start) (h .end) in
       rw (
         part-view k (h .start + g .start) (h .end) (omega (arith, part-length k (h .start) (h .end) (b .1))) (b .1),
         told-out (configOf e) p (rowAt e p) k m (segOf g bytes) (takeIn p (rowAt e p) m (segOf g bytes) .outcome) refl,
       )
 
-  peer-adds : (h : Ipv4) → (h .start ≤ h .end) × (h .end ≤ length k) → (o : Option ℕ) → staged (openPeer o (contentFrom (e .port) h k)) ≡ stepped e m (peer? (configOf e) h k o)
+  peer-adds : (h : Ipv4) → (h .start ≤ h .end) × (h .end ≤ length k) → (o : Option ℕ) → staged (openPeer o (contentFrom (e .port) h k))
+      ≡ stepped e m (byPeer (configOf e) h k o)
   unfolding settleOf takeOf deliverOf contentFrom configOf
   peer-adds h b none = refl
   peer-adds h b (some p) = carried-adds h b p (carriageOf (h .protocol) (h .source) (h .destination) (e .port) (part k (h .start) (h .end))) refl
 
   ours-adds : (h : Ipv4) → (h .start ≤ h .end) × (h .end ≤ length k) → (b : Bool)
-      → staged (cond b (openPeer (lowest (hasAddress (e .addresses) (h .source)) (min (e .«peer_count») 8)) (contentFrom (e .port) h k)) (strangerWith D.Destination)) ≡ stepped e m (ours? (configOf e) h k b)
+      → staged (cond b (openPeer (lowest (hasAddress (e .addresses) (h .source)) (min (e .«peer_count») 8)) (contentFrom (e .port) h k))
+      (fromOther D.Destination)) ≡ stepped e m (byDestination (configOf e) h k b)
   unfolding settleOf takeOf deliverOf findPeer configOf
   ours-adds h b true = peer-adds h b (findPeer (configOf e) (h .source))
   ours-adds h b false = refl
 
-  ip-adds : (x : Ipv4Read) → ipv4Of k ≡ x → staged (openIp x (openHeader (e .addresses) (e .own) (e .port) (min (e .«peer_count») 8) k)) ≡ stepped e m (ip? (configOf e) k x)
+  ip-adds : (x : Ipv4Read) → ipv4Of k ≡ x → staged (openIp x (openHeader (e .addresses) (e .own) (e .port) (min (e .«peer_count») 8) k))
+      ≡ stepped e m (byIpv4 (configOf e) k x)
   unfolding settleOf takeOf deliverOf configOf
   ip-adds (I.Refused r) q = refl
   ip-adds (I.Packet h) q = ours-adds h (ipv4-bounds k h q) (eqb (h .destination) (e .own))
@@ -351,20 +377,21 @@ module _ (c : Config) (few : c .peers ≤ 8) (k : List ℕ) where
   unfolding findPeer
   found-few a p q = omega (arith, lowest-some (hasAddress (c .addresses) a) (c .peers) p q .below)
 
-  carried-kept : (p start end : ℕ) → p < 8 → (x : Carried) → Kept answers (carried? c p start end k x)
+  carried-kept : (p start end : ℕ) → p < 8 → (x : Carried) → Kept answers (byPayload c p start end k x)
   carried-kept p start end l (C.Refused r) = (l, refl)
   carried-kept p start end l (C.Tunnel t) = (l, place-in-packet (c .networks) (c .kinds) (c .owners) (c .tenants) (c .bindings) p (t .kind) (t .network) (start + t .start) (part k (start + t .start) end))
   carried-kept p start end l (C.Segment g) = l
 
-  peer-kept : (h : Ipv4) (o : Option ℕ) → findPeer c (h .source) ≡ o → Kept answers (peer? c h k o)
+  peer-kept : (h : Ipv4) (o : Option ℕ) → findPeer c (h .source) ≡ o → Kept answers (byPeer c h k o)
   peer-kept h none q = refl
-  peer-kept h (some p) q = carried-kept p (h .start) (h .end) (found-few (h .source) p q) (carriageOf (h .protocol) (h .source) (h .destination) (c .port) (part k (h .start) (h .end)))
+  peer-kept h (some p) q = carried-kept p (h .start) (h .end) (found-few (h .source) p q)
+      (carriageOf (h .protocol) (h .source) (h .destination) (c .port) (part k (h .start) (h .end)))
 
-  ours-kept : (h : Ipv4) (b : Bool) → Kept answers (ours? c h k b)
+  ours-kept : (h : Ipv4) (b : Bool) → Kept answers (byDestination c h k b)
   ours-kept h true = peer-kept h (findPeer c (h .source)) refl
   ours-kept h false = refl
 
-  ip-kept : (x : Ipv4Read) → Kept answers (ip? c k x)
+  ip-kept : (x : Ipv4Read) → Kept answers (byIpv4 c k x)
   ip-kept (I.Refused r) = refl
   ip-kept (I.Packet h) = ours-kept h (eqb (h .destination) (c .own))
 
@@ -372,20 +399,20 @@ module _ (c : Config) (few : c .peers ≤ 8) (k : List ℕ) where
   unfolding headerOf
   header-kept = ip-kept (ipv4Of k)
 
-  carried-whose : (p start end : ℕ) (x : Carried) → peerOf answers (carried? c p start end k x) ≡ some p
+  carried-whose : (p start end : ℕ) (x : Carried) → peerOf answers (byPayload c p start end k x) ≡ some p
   carried-whose p start end (C.Refused r) = refl
   carried-whose p start end (C.Tunnel t) = refl
   carried-whose p start end (C.Segment g) = refl
 
-  peer-whose : (h : Ipv4) (o : Option ℕ) → peerOf answers (peer? c h k o) ≡ o
+  peer-whose : (h : Ipv4) (o : Option ℕ) → peerOf answers (byPeer c h k o) ≡ o
   peer-whose h none = refl
   peer-whose h (some p) = carried-whose p (h .start) (h .end) (carriageOf (h .protocol) (h .source) (h .destination) (c .port) (part k (h .start) (h .end)))
 
-  ours-whose : (h : Ipv4) (b : Bool) → peerOf answers (ours? c h k b) ≡ cond b (findPeer c (h .source)) none
+  ours-whose : (h : Ipv4) (b : Bool) → peerOf answers (byDestination c h k b) ≡ cond b (findPeer c (h .source)) none
   ours-whose h true = peer-whose h (findPeer c (h .source))
   ours-whose h false = refl
 
-  ip-whose : (x : Ipv4Read) → peerOf answers (ip? c k x) ≡ sender? c x
+  ip-whose : (x : Ipv4Read) → peerOf answers (byIpv4 c k x) ≡ bySender c x
   ip-whose (I.Refused r) = refl
   ip-whose (I.Packet h) = ours-whose h (eqb (h .destination) (c .own))
 
@@ -400,8 +427,8 @@ config-few e = omega arith
 -- ---- the stages in turn are the step
 
 stepped-below : (e : Endpoint) (m : List ℕ) (x : Made answers) → Kept answers x → stepped e m x .peer < 8
-stepped-below e m (stranger a) l = omega arith
-stepped-below e m (plain p a) l = l .0
+stepped-below e m (otherSender a) l = omega arith
+stepped-below e m (direct p a) l = l .0
 stepped-below e m (segment p g) l = l
 
 module _ (e : Endpoint) (k : List ℕ) where
@@ -414,7 +441,8 @@ module _ (e : Endpoint) (k : List ℕ) where
   open-below room =
       caseB (ltb room 55296)
       (λ b. rw b (omega arith))
-      (λ b. rw (b, ← peer-settled [] (openIp (ipv4Of k) (openHeader (e .addresses) (e .own) (e .port) (min (e .«peer_count») 8) k)), header-adds e [] k) (stepped-below e [] (headerOf (configOf e) k) (header-kept (configOf e) (config-few e) k)))
+      (λ b. rw (b, ← peer-settled [] (openIp (ipv4Of k) (openHeader (e .addresses) (e .own) (e .port) (min (e .«peer_count») 8) k)), header-adds e [] k)
+      (stepped-below e [] (headerOf (configOf e) k) (header-kept (configOf e) (config-few e) k)))
 
   module _ (m : List ℕ) where
     pub stages-step : staged e m k (openedBy e k (length m)) ≡ stepOf e m k
@@ -425,12 +453,13 @@ module _ (e : Endpoint) (k : List ℕ) where
     step-below = rw (← stages-step, peer-settled m (openedBy e k (length m))) (open-below (length m))
 
     -- with the row as the code reads it
-    pub settled-is : (x : Arrival) → x ≡ openedBy e k (length m) → settledBy e x (getD (e .rows) (x .peer) noRow) k m ≡ stepOf e m k
+    pub settled-is : (x : Arrival) → x ≡ openedBy e k (length m) → settledBy e x (getD (e .peers) (x .peer) noRow) k m ≡ stepOf e m k
     settled-is x q = rw q stages-step
 
 -- taking and delivering, as the code does one after the other
-module _ (networks kinds owners tenants : List ℕ) (n : ℕ) (x : Arrival) (row : Row) (k m : List ℕ) (c : Changed) (m′ : List ℕ) (a : Received)
-    (took : c ≡ changedOf (takeOf row x k m)) (left : m′ ≡ takeOf row x k m .mem) (gave : a ≡ deliverOf networks kinds owners tenants n (x .peer) (c .offer) k m′) where
+module _ (networks kinds owners tenants : List ℕ) (n : ℕ) (x : Arrival) (row : Peer) (k m : List ℕ) (c : Changed) (m′ : List ℕ) (a : Received)
+    (took : c ≡ changedOf (takeOf row x k m)) (left : m′ ≡ takeOf row x k m .mem)
+    (gave : a ≡ deliverOf networks kinds owners tenants n (x .peer) (c .offer) k m′) where
   pub settled-out : record { peer = x .peer; row = c .row; answer = a; mem = m′ } ≡ settleOf networks kinds owners tenants n x row k m
   unfolding settleOf
   settled-out = rw (gave, took, left)

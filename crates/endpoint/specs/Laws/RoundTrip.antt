@@ -1,5 +1,6 @@
--- DEMAND 2, the round trip: the theorem (statement: RoundTrip). By VXLAN and NVGRE what was written is a packet that carries the frame (Demand2Writing), and such a packet is delivered
--- (Demand2, `complete-packet`). By STT the written segments are a cut of a good frame, and any order of them is a mixing of that one frame, so demand 3's delivery says what is answered.
+-- DEMAND 2, the round trip: the theorem (statement: RoundTrip). By VXLAN and NVGRE what was written is a packet that carries the frame (Demand2Writing), and
+-- such a packet is delivered (Demand2, `complete-packet`). By STT the written segments are a cut of a good frame, and any order of them is a mixing of that
+-- one frame, so demand 3's delivery says what is answered.
 -- Assumes nothing.
 use Prim.Native.Nat.{ℕ, zero, suc, _+_, _-_, _*_, _/_, _^_, _<_, _≤_, min}
 use mathlib.Core.Path.{_≡_, refl, sym, ap, ap₂, subst, _∙_}
@@ -19,10 +20,10 @@ use Rattle.wire.specs.Write.{sttFrame}
 use Rattle.wire.specs.Laws.Write.{stt-is, stt-length}
 use Rattle.wire.specs.Laws.WriteIs.{part-short, part-join, part-all, wrote-front, vxlan-bytes, nvgre-bytes}
 use Rattle.reassembly.specs.Slots.{noMark}
-use Rattle.reassembly.specs.Receive.{segment, good}
+use Rattle.reassembly.specs.Receive.{segment}
 use Rattle.reassembly.specs.Mix as M
 use Rattle.reassembly.specs.Mix.{Right}
-use Rattle.reassembly.specs.SetUp.{World, runs, heard}
+use Rattle.reassembly.specs.SetUp.{World, runs, answerOf}
 use Rattle.endpoint.specs.Config.{Config, configOf, findPeer, findBinding}
 use Rattle.endpoint.specs.Laws.Config.{Valid, set-up-valid, listed-peer-found, listed-binding-found}
 use Rattle.endpoint.specs.Receive.{answers, layers, headerOf, judgeOf, worldOf}
@@ -30,7 +31,8 @@ use Rattle.endpoint.specs.Calls.{Left, calls}
 use Rattle.endpoint.specs.Formats.{ListedPeer, Bound, CarriesFrame, CarriesSegment, GoodFrame}
 use Rattle.endpoint.specs.Laws.Formats.{peer-listed, binding-bound, segment-complete, judge-complete}
 use Rattle.endpoint.specs.Wrap.{segmentsOf, kindAt, networkAt, ownerAt, peerAt, packetOf, packetAt}
-use Rattle.endpoint.specs.Laws.Wrap.{Says, written-says, Ready, Listed, ready-listed, ByKind, vxlan, nvgre, stt, by-kind, packet-vxlan, packet-nvgre, one-vxlan, one-nvgre, many-stt, starts-within, ends-past}
+use Rattle.endpoint.specs.Laws.Wrap.{Says, written-says, Ready, Listed, ready-listed, ByKind, vxlan, nvgre, stt, by-kind, packet-vxlan, packet-nvgre}
+use Rattle.endpoint.specs.Laws.Wrap.{one-vxlan, one-nvgre, many-stt, starts-within, ends-past}
 use Rattle.endpoint.specs.Reached.{Reached, reached-ready}
 use Rattle.endpoint.specs.Demand2.{Delivers}
 use Rattle.endpoint.specs.Laws.Demand2.{complete-packet}
@@ -67,7 +69,8 @@ record Meets (own peer port kind network : ℕ) (e′ : Endpoint) (b′ p : ℕ)
   bound : Bound (configOf e′) p kind network (targetOf e′ b′)
   demand : Demand3 e′ p
 
-meets : (e : Endpoint) (b : ℕ) (e′ : Endpoint) (b′ : ℕ) (w : Matches e b e′ b′) → Meets (e .own) (peerAt e b) (e .port) (kindAt e b) (networkAt e b) e′ b′ (w .peer)
+meets : (e : Endpoint) (b : ℕ) (e′ : Endpoint) (b′ : ℕ) (w : Matches e b e′ b′)
+    → Meets (e .own) (peerAt e b) (e .port) (kindAt e b) (networkAt e b) e′ b′ (w .peer)
 unfolding configOf
 meets e b e′ b′ w =
     let v : Valid e′ = subst Valid (sym (w .set-up)) (set-up-valid (w .own) (w .stt-port) (w .mtu) (w .adds)) in
@@ -83,7 +86,8 @@ meets e b e′ b′ w =
       demand = subst (λ (x : Endpoint). Demand3 x (w .peer)) (sym (w .set-up)) (demand-three (w .own) (w .stt-port) (w .mtu) (w .adds) (w .peer) p);
     }
 
-module _ (own peer port kind network : ℕ) (e′ : Endpoint) (b′ p : ℕ) (w : Meets own peer port kind network e′ b′ p) (frame : List ℕ) (keeps : IsFrame frame) where
+module _ (own peer port kind network : ℕ) (e′ : Endpoint) (b′ p : ℕ) (w : Meets own peer port kind network e′ b′ p) (frame : List ℕ)
+    (keeps : IsFrame frame) where
   -- a whole frame
   carried-whole : (packet : List ℕ) → CarriesWhole own peer kind network frame packet → CarriesFrame (configOf e′) packet (targetOf e′ b′) frame
   carried-whole packet c = record {
@@ -102,7 +106,14 @@ module _ (own peer port kind network : ℕ) (e′ : Endpoint) (b′ p : ℕ) (w 
 
   -- a segment of an STT frame
   carried-part : (mtu : ℕ) (whole : List ℕ) (k identifier : ℕ) (packet : List ℕ) → CarriesPart own peer port mtu whole k identifier packet
-      → CarriesSegment (configOf e′) packet p (record { identifier = identifier; frame-length = length whole; offset = k * (mtu - 40); bytes = portion mtu whole k; mark = noMark })
+      → CarriesSegment (configOf e′) packet p (record {
+        identifier = identifier;
+        frame-length = length whole;
+        offset = k * (mtu - 40);
+        bytes =
+            portion mtu whole k;
+        mark = noMark;
+      })
   carried-part mtu whole k identifier packet c = record {
     source = own;
     payload = c .payload;
@@ -159,7 +170,8 @@ module _ (mtu : ℕ) (whole : List ℕ) (packets : ℕ → List ℕ) where
   abbrev frameFrom : (count identifier : ℕ) → M.Frame
   frameFrom count identifier = record { identifier = identifier; content = whole; parts = each piece 0 count }
 
-  module _ (count identifier : ℕ) (room : 0 < mtu - 40) (starts : (k : ℕ) → k < count → k * (mtu - 40) < length whole) (ends : length whole ≤ count * (mtu - 40)) where
+  module _ (count identifier : ℕ) (room : 0 < mtu - 40) (starts : (k : ℕ) → k < count → k * (mtu - 40) < length whole)
+      (ends : length whole ≤ count * (mtu - 40)) where
     all-joined : M.joined (each piece 0 count) ≡ whole
     all-joined = pieces-joined 0 count ∙ rw (zero-mul, zero-add) (part-all whole (count * (mtu - 40)) ends)
 
@@ -174,7 +186,14 @@ module _ (mtu : ℕ) (whole : List ℕ) (packets : ℕ → List ℕ) where
         ∙ rw (zero-mul, zero-add) (part-length whole 0 (k * (mtu - 40)) (omega arith) ∙ omega arith)
 
     states-at : (k : ℕ) → k < count
-        → M.states (frameFrom count identifier) k ≡ record { identifier = identifier; frame-length = length whole; offset = k * (mtu - 40); bytes = portion mtu whole k; mark = noMark }
+        → M.states (frameFrom count identifier) k ≡ record {
+          identifier = identifier;
+          frame-length = length whole;
+          offset = k * (mtu - 40);
+          bytes =
+              portion mtu whole k;
+          mark = noMark;
+        }
     states-at k h = rw (offset-at k h, part-at k h)
 
     piece-some : (k : ℕ) → k < count → 0 < length (portion mtu whole k)
@@ -203,13 +222,15 @@ module _ (own peer port network : ℕ) (e′ : Endpoint) (b′ p : ℕ) (w : Mee
   reads k h =
       let l : k < count = in-count k h in
       ap (λ (x : M.Part). headerOf (configOf e′) (x .packet)) (part-at mtu whole packets count identifier room starts ends k l)
-      ∙ segment-complete (configOf e′) (packets k) p _ (carried-part own peer port 3 network e′ b′ p w frame keeps mtu whole k identifier (packets k) (carries k l))
+      ∙ segment-complete (configOf e′) (packets k) p _ (carried-part own peer port 3 network e′ b′ p w frame keeps mtu whole k identifier (packets k)
+      (carries k l))
       ∙ ap (segment p) (sym (states-at mtu whole packets count identifier room starts ends k l))
 
   some-byte : (k : ℕ) → k < length (sentFrame .parts) → 0 < length (M.partOf sentFrame k .bytes)
   some-byte k h =
       let l : k < count = in-count k h in
-      subst (λ (x : M.Part). 0 < length (x .bytes)) (sym (part-at mtu whole packets count identifier room starts ends k l)) (piece-some mtu whole packets count identifier room starts ends k l)
+      subst (λ (x : M.Part). 0 < length (x .bytes)) (sym (part-at mtu whole packets count identifier room starts ends k l))
+      (piece-some mtu whole packets count identifier room starts ends k l)
 
   abbrev cut : M.Cut answers (headerOf (configOf e′)) (judgeOf (configOf e′)) p sentFrame
   cut = record {
@@ -222,7 +243,8 @@ module _ (own peer port network : ℕ) (e′ : Endpoint) (b′ p : ℕ) (w : Mee
     sound = reads;
   }
 
-  stt-answered : (m : List ℕ) → 55296 ≤ length m → (order : List ℕ) → Order count order → (before : List ℕ) (k : ℕ) (after : List ℕ) → order ≡ before ++ (k ∷ after)
+  stt-answered : (m : List ℕ) → 55296 ≤ length m → (order : List ℕ) → Order count order → (before : List ℕ) (k : ℕ) (after : List ℕ) → order ≡ before
+      ++ (k ∷ after)
       → Answered (calls (record { endpoint = e′; mem = m }) (arrivals packets before)) (packets k) (targetOf e′ b′) frame (length after)
   stt-answered m enough order o before k after is =
       let here : (j : ℕ) → j < count → M.partOf sentFrame j .packet ≡ packets j =
@@ -230,17 +252,21 @@ module _ (own peer port network : ℕ) (e′ : Endpoint) (b′ p : ℕ) (w : Mee
       let parts : Order (length (sentFrame .parts)) order = subst (λ (n : ℕ). Order n order) (sym (each-length (piece mtu whole packets) 0 count)) o in
       let left : Left = calls (record { endpoint = e′; mem = m }) (arrivals packets before) in
       let world : runs answers Config layers (worldOf e′ m) (arrivals (λ j. M.partOf sentFrame j .packet) before) ≡ worldOf (left .endpoint) (left .mem) =
-      ap (runs answers Config layers (worldOf e′ m)) (same-arrivals (λ j. M.partOf sentFrame j .packet) packets count here before (before-below count order o before k after is))
+      ap (runs answers Config layers (worldOf e′ m)) (same-arrivals (λ j. M.partOf sentFrame j .packet) packets count here before
+      (before-below count order o before k after is))
       ∙ sym (w .demand .calls-are-runs m (arrivals packets before)) in
       let right = one-frame e′ p (w .demand) sentFrame cut order parts m enough before k after is in
-      right-answered left (packets k) p sentFrame (targetOf e′ b′) frame (length after) (judge-complete (configOf e′) p (M.frameNote sentFrame) whole (targetOf e′ b′) frame worth .1)
-      (subst (λ (x : World Config). Right answers p sentFrame (targetOf e′ b′) (length after) (heard answers Config layers x (packets k))) world
+      right-answered left (packets k) p sentFrame (targetOf e′ b′) frame (length after)
+      (judge-complete (configOf e′) p (M.frameNote sentFrame) whole (targetOf e′ b′) frame worth .1)
+      (subst (λ (x : World Config). Right answers p sentFrame (targetOf e′ b′) (length after) (answerOf answers Config layers x (packets k))) world
       (subst (λ (y : List ℕ). Right answers p sentFrame (targetOf e′ b′) (length after)
-      (heard answers Config layers (runs answers Config layers (worldOf e′ m) (arrivals (λ j. M.partOf sentFrame j .packet) before)) y)) (here k (now-below count order o before k after is)) right))
+      (answerOf answers Config layers (runs answers Config layers (worldOf e′ m) (arrivals (λ j. M.partOf sentFrame j .packet) before)) y))
+      (here k (now-below count order o before k after is)) right))
 
 -- ---- VXLAN and NVGRE: one packet, which is delivered
 
-whole-answered : (own peer port kind network : ℕ) (e′ : Endpoint) (b′ p : ℕ) → Meets own peer port kind network e′ b′ p → (frame : List ℕ) → IsFrame frame → (packets : ℕ → List ℕ)
+whole-answered : (own peer port kind network : ℕ) (e′ : Endpoint) (b′ p : ℕ) → Meets own peer port kind network e′ b′ p → (frame : List ℕ) → IsFrame frame
+    → (packets : ℕ → List ℕ)
     → Bytes (packets 0) → CarriesWhole own peer kind network frame (packets 0)
     → (m : List ℕ) → 55296 ≤ length m → (order : List ℕ) → Order 1 order → (before : List ℕ) (k : ℕ) (after : List ℕ) → order ≡ before ++ (k ∷ after)
     → Answered (calls (record { endpoint = e′; mem = m }) (arrivals packets before)) (packets k) (targetOf e′ b′) frame (length after)
@@ -252,7 +278,8 @@ whole-answered own peer port kind network e′ b′ p w frame keeps packets byte
 
 -- ---- each kind, over plain values
 
-module _ (own peer port network mtu : ℕ) (frame : List ℕ) (identifier : ℕ) (packets : ℕ → List ℕ) (e′ : Endpoint) (b′ p : ℕ) (own-fits : own < 256 ^ 4) (peer-fits : peer < 256 ^ 4) where
+module _ (own peer port network mtu : ℕ) (frame : List ℕ) (identifier : ℕ) (packets : ℕ → List ℕ) (e′ : Endpoint) (b′ p : ℕ) (own-fits : own < 256 ^ 4)
+    (peer-fits : peer < 256 ^ 4) where
   -- the packets are those written for a good frame
   abbrev Given : ℕ → Type 0
   Given kind = (k : ℕ) → k < segmentsOf kind (length frame) mtu → IsFrame frame × (packets k ≡ packetOf kind own peer port network mtu frame k identifier)
@@ -299,7 +326,8 @@ module _ (own peer port network mtu : ℕ) (frame : List ℕ) (identifier : ℕ)
       record {
         some-segment = pos;
         answered =
-            stt-answered own peer port network e′ b′ p w frame (given 0 pos .0) mtu whole packets count identifier (omega arith) starts ends (stt-is network frame network-fits) size
+            stt-answered own peer port network e′ b′ p w frame (given 0 pos .0) mtu whole packets count identifier (omega arith) starts ends
+            (stt-is network frame network-fits) size
             (λ k h. rw (given k h .1) (sent-stt own peer port network mtu frame k identifier own-fits peer-fits port-fits id-fits least (given k h .0) h));
       }
     where

@@ -1,6 +1,6 @@
 -- What the round trip's proof uses: orders of segments; a run of one frame's segments, by demand 3's delivery; and an answer of a run as an answer of the call.
 -- Assumes nothing.
-use Prim.Native.Nat.{ℕ, zero, suc, _+_, _-_, _<_, _≤_}
+use Prim.Native.Nat.{ℕ, zero, suc, _+_, _<_, _≤_}
 use mathlib.Core.Path.{_≡_, refl, sym, ap, ap₂, _∙_}
 use mathlib.Core.Bool.{Bool, true, cond}
 use mathlib.Core.List.{List, [], _∷_, _++_, map}
@@ -14,7 +14,7 @@ use Rattle.reassembly.specs.Receive.{Event, receive, Answer, viewOf}
 use Rattle.reassembly.specs.Mix as M
 use Rattle.reassembly.specs.Mix.{Right, InTurn, Only}
 use Rattle.reassembly.specs.Laws.InTurn.{in-turn}
-use Rattle.reassembly.specs.SetUp.{Said, receives, runs, heard}
+use Rattle.reassembly.specs.SetUp.{Replied, receives, runs, answerOf}
 use Rattle.reassembly.specs.Claim.{Cuts}
 use Rattle.endpoint.specs.Answer.{placeOf, valuesOf}
 use Rattle.endpoint.specs.Config.{Config, configOf}
@@ -72,7 +72,8 @@ module _ (count : ℕ) (order : List ℕ) (o : Order count order) (before : List
   after-below = all-below count after (λ j h. counted count order o j (omega (arith, split j, times-more j k after)))
 
 -- one segment: it is the first and the last
-pub only-one : (order : List ℕ) → Order 1 order → (before : List ℕ) (k : ℕ) (after : List ℕ) → order ≡ before ++ (k ∷ after) → (before ≡ []) × (k ≡ 0) × (after ≡ [])
+pub only-one : (order : List ℕ) → Order 1 order → (before : List ℕ) (k : ℕ) (after : List ℕ) → order ≡ before ++ (k ∷ after) → (before ≡ []) × (k ≡ 0)
+    × (after ≡ [])
 only-one order o before k after is =
     let z : k ≡ 0 = omega (arith, now-below 1 order o before k after is) in
     let one : timesIn k order ≡ 1 = o .once k ∙ rw (lt-ltb k 1 (omega arith)) in
@@ -85,7 +86,8 @@ only-one order o before k after is =
         let q : x ≡ k = omega (arith, b .0, now-below 1 order o before k after is) in
         absurd (omega (arith, times-here k xs, ap (λ (y : ℕ). timesIn k (y ∷ xs)) q))
 
-pub same-arrivals : (packets packets′ : ℕ → List ℕ) (n : ℕ) → ((k : ℕ) → k < n → packets k ≡ packets′ k) → (xs : List ℕ) → Below n xs → arrivals packets xs ≡ arrivals packets′ xs
+pub same-arrivals : (packets packets′ : ℕ → List ℕ) (n : ℕ) → ((k : ℕ) → k < n → packets k ≡ packets′ k) → (xs : List ℕ) → Below n xs → arrivals packets xs
+    ≡ arrivals packets′ xs
 same-arrivals packets packets′ n f [] b = refl
 same-arrivals packets packets′ n f (x ∷ xs) b = ap₂ (λ (k : List ℕ) (r : List Event). receive k ∷ r) (f x (b .0)) (same-arrivals packets packets′ n f xs (b .1))
 
@@ -137,29 +139,32 @@ below-one P a (suc j) l = absurd (omega arith)
 
 -- by demand 3, each of them is answered as it should be
 pub one-frame : (e : Endpoint) (p : ℕ) → Demand3 e p → (fr : M.Frame) (cut : M.Cut answers (headerOf (configOf e)) (judgeOf (configOf e)) p fr)
-    → (order : List ℕ) → Order (length (fr .parts)) order → (m : List ℕ) → 55296 ≤ length m → (before : List ℕ) (k : ℕ) (after : List ℕ) → order ≡ before ++ (k ∷ after)
+    → (order : List ℕ) → Order (length (fr .parts)) order → (m : List ℕ) → 55296 ≤ length m → (before : List ℕ) (k : ℕ) (after : List ℕ) → order ≡ before
+    ++ (k ∷ after)
     → Right answers p fr (cut .verdict) (length after)
-    (heard answers Config layers (runs answers Config layers (worldOf e m) (arrivals (λ j. M.partOf fr j .packet) before)) (M.partOf fr k .packet))
+    (answerOf answers Config layers (runs answers Config layers (worldOf e m) (arrivals (λ j. M.partOf fr j .packet) before)) (M.partOf fr k .packet))
 one-frame e p demand fr cut order o m enough before k after is =
     let cuts : Cuts answers Config layers (configOf e) p (fr ∷ []) =
     below-one (λ f. M.Cut answers (headerOf (configOf e)) (judgeOf (configOf e)) p (M.frameOf (fr ∷ []) f)) cut in
-    let right = demand .claims .delivers (fr ∷ []) cuts (labels order) (in-turn answers (headerOf (configOf e)) p (fr ∷ []) (labels order) (labels-turn fr order o)) m enough
+    let right = demand .claims .delivers (fr ∷ []) cuts (labels order)
+    (in-turn answers (headerOf (configOf e)) p (fr ∷ []) (labels order) (labels-turn fr order o)) m enough
     (labels before) (labels after) 0 k (omega arith) (ap labels is ∙ labels-append before (k ∷ after)) in
     rw (labels-segments after, labels-events fr order o before) at right
 
 -- ---- an answer of a run, as the call gives it
 
 abbrev heardBy : Left → List ℕ → Answer answers
-heardBy w k = heard answers Config layers (worldOf (w .endpoint) (w .mem)) k
+heardBy w k = answerOf answers Config layers (worldOf (w .endpoint) (w .mem)) k
 
 module _ (w : Left) (k : List ℕ) where
   reply-is : stepOf (w .endpoint) (w .mem) k .answer ≡ heardBy w k .reply
-  reply-is = ap (λ (s : Said answers Config layers). s .reply) (receive-is (w .endpoint) (w .mem) k)
+  reply-is = ap (λ (s : Replied answers Config layers). s .reply) (receive-is (w .endpoint) (w .mem) k)
 
   mem-is : stepOf (w .endpoint) (w .mem) k .mem ≡ receives answers Config layers (worldOf (w .endpoint) (w .mem)) k .world .mem
-  mem-is = ap (λ (s : Said answers Config layers). s .world .mem) (receive-is (w .endpoint) (w .mem) k)
+  mem-is = ap (λ (s : Replied answers Config layers). s .world .mem) (receive-is (w .endpoint) (w .mem) k)
 
-  heard-delivers : (t : Target) (start n : ℕ) (frame : List ℕ) → heardBy w k .reply ≡ inMemory t start n → heardBy w k .bytes ≡ frame → Delivers (w .endpoint) (w .mem) k t frame
+  heard-delivers : (t : Target) (start n : ℕ) (frame : List ℕ) → heardBy w k .reply ≡ inMemory t start n → heardBy w k .bytes ≡ frame
+      → Delivers (w .endpoint) (w .mem) k t frame
   heard-delivers t start n frame r b =
       let place : Place = record { start = start; length = n; «in_memory» = true } in
       record {

@@ -20,7 +20,7 @@ use Rattle.wire.specs.Stt.{sttOf}
 use Rattle.wire.specs.Frame.{frameOf}
 use Rattle.wire.specs.Table as T
 use Rattle.wire.specs.Table.{_andThen_, _otherwise_}
-use Rattle.wire.specs.Laws.Table.{pull, under, behind, row2, row3, row6, wire-table}
+use Rattle.wire.specs.Laws.Table.{pull, under, behind, row3, row6, wire-table}
 use Rattle.wire.specs.declared.ipv4.Ipv4.{Ipv4}
 use Rattle.wire.specs.declared.ipv4.Ipv4Read.{Ipv4Read}
 use Rattle.wire.specs.declared.ipv4.Ipv4Read.the-variants as I
@@ -43,11 +43,14 @@ use Rattle.reassembly.specs.declared.take.Outcome.the-variants as O
 use Rattle.reassembly.specs.Store.{bytesOf, takeIn}
 use Rattle.reassembly.specs.Table.{segmentRows, completeFrame, takenNumber}
 use Rattle.reassembly.specs.Laws.Table.{reassembly-table, under-segment}
-use Rattle.reassembly.specs.Receive.{nowhere, Seen, segment, spoken, told, Verdict, bad, good}
+use Rattle.reassembly.specs.Receive.{nowhere, Reading, segment, frameAnswer, takeAnswer, Verdict, bad, good}
 use Rattle.endpoint.specs.Answer.{dropCode, addedCode, startCode, valuesOf, wrapValuesOf}
-use Rattle.endpoint.specs.Config.{isSome, configOf, hasAddress, findPeer, binds, findBinding, fresh, startChecks, refusedStart, startOf, refusedAdd, addPeerChecks, withAddress, addPeerOf, isNetwork, addBindingChecks, withBinding, addBindingOf}
-use Rattle.endpoint.specs.Receive.{bound?, frame?, innerFrom, answerAt, tunnelFrom, tunnelOf, answers, carried?, peer?, ours?, ip?, headerOf, stt?, sttFrom, judgeOf, rowAt, stepped, stepOf}
-use Rattle.endpoint.specs.Wrap.{capacity, segmentsOf, segmentStart, segmentSize, low32, packetOf, exceeds, isBad, kindAt, networkAt, ownerAt, peerAt, packetAt, wrapChecks, Wrote, refusedWrap, wrapOf}
+use Rattle.endpoint.specs.Config.{isSome, configOf, hasAddress, findPeer, binds, findBinding, fresh, startChecks, refusedStart, startOf, refusedAdd}
+use Rattle.endpoint.specs.Config.{addPeerChecks, withAddress, addPeerOf, isNetwork, addBindingChecks, withBinding, addBindingOf}
+use Rattle.endpoint.specs.Receive.{byBinding, byFrame, innerFrom, answerAt, tunnelFrom, tunnelOf, answers, byPayload, byPeer, byDestination, byIpv4}
+use Rattle.endpoint.specs.Receive.{headerOf, byStt, sttFrom, judgeOf, rowAt, stepped, stepOf}
+use Rattle.endpoint.specs.Wrap.{capacity, segmentsOf, segmentStart, segmentSize, low32, packetOf, exceeds, isBad, kindAt, networkAt, ownerAt, peerAt}
+use Rattle.endpoint.specs.Wrap.{packetAt, wrapChecks, Wrote, refusedWrap, wrapOf}
 use Rattle.endpoint.specs.Laws.Wrap.{Listed, ready-listed, ByKind, vxlan, nvgre, stt, by-kind, many-stt, starts-within}
 use Rattle.endpoint.specs.Reached.{Reached, reached-ready}
 use Rattle.endpoint.specs.declared.answer.Place.{Place}
@@ -59,8 +62,8 @@ use Rattle.endpoint.specs.declared.answer.Start.the-variants as S
 use Rattle.endpoint.specs.declared.answer.Wrapped.{Wrapped}
 use Rattle.endpoint.specs.declared.answer.Wrapped.the-variants as Y
 use Rattle.endpoint.specs.declared.config.Endpoint.{Endpoint}
-use Rattle.endpoint.specs.declared.config.Configured.{Configured}
-use Rattle.endpoint.specs.declared.config.Started.{Started}
+use Rattle.endpoint.specs.declared.config.AddResult.{AddResult}
+use Rattle.endpoint.specs.declared.config.StartResult.{StartResult}
 use Rattle.endpoint.specs.Table as P
 
 -- a lookup finds something exactly where something passes
@@ -75,7 +78,7 @@ some-lowest n f =
 pub start-number : (own port mtu : ℕ) → startCode (startOf own port mtu .answer) ≡ T.numbered (P.startRows own port mtu)
 unfolding startOf startChecks P.startRows
 start-number own port mtu =
-    pull (λ (s : Started). startCode (s .answer)) refusedStart (startChecks own port mtu) (record { endpoint = fresh own port mtu; answer = S.Done })
+    pull (λ (s : StartResult). startCode (s .answer)) refusedStart (startChecks own port mtu) (record { endpoint = fresh own port mtu; answer = S.Done })
     ∙ row6 18 (eqb (own / 2 ^ 24) 0) (leb 224 (own / 2 ^ 24)) (eqb port 0) (ltb 65535 port) (ltb mtu 576) (ltb 1600 mtu) 0
 
 peer-rows : (p a b o : Bool) (x : ℕ) → pick p 18 (pick a 18 (pick b 18 (pick o 18 x))) ≡ pick (p || (a || b) || o) 18 x
@@ -86,7 +89,7 @@ pub add-peer-number : (e : Endpoint) (address : ℕ) → addedCode (addPeerOf e 
 unfolding addPeerOf addPeerChecks findPeer configOf hasAddress P.addPeerRows
 add-peer-number e address =
     rw (some-lowest (min (e .«peer_count») 8) (λ i. eqb (getD (e .addresses) i 0) address))
-    (pull (λ (s : Configured). addedCode (s .answer)) (refusedAdd e) (addPeerChecks e address)
+    (pull (λ (s : AddResult). addedCode (s .answer)) (refusedAdd e) (addPeerChecks e address)
     (record { endpoint = withAddress e (e .«peer_count») address; answer = A.Number (e .«peer_count») })
     ∙ peer-rows (eqb (e .port) 0) (eqb (address / 2 ^ 24) 0) (leb 224 (address / 2 ^ 24)) (eqb address (e .own)) _)
 
@@ -126,7 +129,7 @@ pub add-binding-number : (e : Endpoint) (peer kind network tenant : ℕ)
 unfolding addBindingOf addBindingChecks findBinding configOf binds P.addBindingRows
 add-binding-number e peer kind network tenant =
     rw (some-lowest (min (e .«binding_count») 64) (P.isBinding e peer kind network), sym (network-bad kind network))
-    (pull (λ (s : Configured). addedCode (s .answer)) (refusedAdd e) (addBindingChecks e peer kind network tenant)
+    (pull (λ (s : AddResult). addedCode (s .answer)) (refusedAdd e) (addBindingChecks e peer kind network tenant)
     (record { endpoint = withBinding e (e .«binding_count») peer kind network tenant; answer = A.Number (e .«binding_count») })
     ∙ row3 18 (leb (min (e .«peer_count») 8) peer) (not (isNetwork kind network)) (ltb 65535 tenant) _)
 
@@ -147,11 +150,11 @@ module _ (e : Endpoint) (peer kind network : ℕ) (frame : List ℕ) where
       rw (some-lowest (P.bindings e) (P.isBinding e peer kind network))
       (by-binding (lowest (P.isBinding e peer kind network) (P.bindings e)))
     where
-      by-frame : (r : FrameRead) (t : Target) → verdictNumber (frame? r t) ≡ T.frameNumber 0 r
+      by-frame : (r : FrameRead) (t : Target) → verdictNumber (byFrame r t) ≡ T.frameNumber 0 r
       by-frame F.Good t = refl
       by-frame (F.Refused r) t = refl
 
-      by-binding : (o : Option ℕ) → verdictNumber (bound? (e .tenants) o (frameOf frame)) ≡ pick (not (isSome o)) 12 (pick (T.badFrame frame) 13 0)
+      by-binding : (o : Option ℕ) → verdictNumber (byBinding (e .tenants) o (frameOf frame)) ≡ pick (not (isSome o)) 12 (pick (T.badFrame frame) 13 0)
       by-binding none = refl
       by-binding (some b) = by-frame (frameOf frame) (record { tenant = getD (e .tenants) b 0; binding = b }) ∙ wire-table .inner-frame 0 frame
 
@@ -169,7 +172,7 @@ module _ (e : Endpoint) (peer : ℕ) where
       ∙ ap (λ (n : ℕ). T.sttRows frame otherwise n) (inner-number e peer 3 (T.contextOf frame) (drop 18 frame))
       ∙ sym (behind (T.sttRows frame) (P.innerRows e peer 3 (T.contextOf frame) (drop 18 frame)) 0)
     where
-      by-header : (x : SttRead) → verdictNumber (stt? x (λ context. verdict e peer 3 context (drop 18 frame)))
+      by-header : (x : SttRead) → verdictNumber (byStt x (λ context. verdict e peer 3 context (drop 18 frame)))
           ≡ T.sttNumber (λ context. verdictNumber (verdict e peer 3 context (drop 18 frame))) x
       by-header (H.Header context) = refl
       by-header (H.Refused r) = refl
@@ -177,10 +180,10 @@ module _ (e : Endpoint) (peer : ℕ) where
 -- ---- an STT segment: 14, 15, 16, 17, 1, and then those of the complete frame
 
 -- the number of the answer to what is made of a packet
-seenNumber : Endpoint → List ℕ → Seen answers → ℕ
+seenNumber : Endpoint → List ℕ → Reading answers → ℕ
 seenNumber e m x = valuesOf (stepped e m x .answer) .number
 
-spoken-number : (v : Verdict answers) (i n : ℕ) (frame : List ℕ) → valuesOf (spoken answers v i n frame .reply) .number ≡ verdictNumber v
+spoken-number : (v : Verdict answers) (i n : ℕ) (frame : List ℕ) → valuesOf (frameAnswer answers v i n frame .reply) .number ≡ verdictNumber v
 unfolding verdictNumber
 spoken-number (bad d) i n frame = refl
 spoken-number (good t) i n frame = refl
@@ -190,7 +193,8 @@ module _ (e : Endpoint) (m : List ℕ) (p : ℕ) (g : Seg) where
   judged : List ℕ → ℕ
   judged frame = verdictNumber (judgeOf (configOf e) p noNote frame)
 
-  told-number : (o : Effect bytesOf) (x : Outcome) → valuesOf (told answers (judgeOf (configOf e)) bytesOf p g o x .reply) .number ≡ takenNumber judged p g o x
+  told-number : (o : Effect bytesOf) (x : Outcome) → valuesOf (takeAnswer answers (judgeOf (configOf e)) bytesOf p g o x .reply) .number
+      ≡ takenNumber judged p g o x
   unfolding judged judgeOf
   told-number o (O.Rejected r) = refl
   told-number o O.Pending = refl
@@ -250,7 +254,7 @@ module _ (e : Endpoint) (m k : List ℕ) where
   segmentNumber : Segment → ℕ
   segmentNumber g = seenNumber e m (segment peer (segOf g (part k (start + g .start) end)))
 
-  carried-is : (x : Carried) → seenNumber e m (carried? (configOf e) peer start end k x) ≡ T.carriedNumber tunnelNumber segmentNumber x
+  carried-is : (x : Carried) → seenNumber e m (byPayload (configOf e) peer start end k x) ≡ T.carriedNumber tunnelNumber segmentNumber x
   unfolding seenNumber tunnelNumber segmentNumber
   carried-is (C.Refused r) = refl
   carried-is (C.Tunnel t) = refl
@@ -278,7 +282,7 @@ module _ (e : Endpoint) (m k : List ℕ) where
       ∙ segment-number e m peer (P.segmentOf payload) small enough
 
   payload-number : Bytes k → peer < 8 → 55296 ≤ length m
-      → seenNumber e m (carried? (configOf e) peer start end k (carriageOf protocol (T.sourceOf k) (T.destinationOf k) (e .port) payload))
+      → seenNumber e m (byPayload (configOf e) peer start end k (carriageOf protocol (T.sourceOf k) (T.destinationOf k) (e .port) payload))
       ≡ T.numbered (carriage andThen next)
   unfolding P.vxlanNext P.nvgreNext
   payload-number bytes small enough =
@@ -309,21 +313,21 @@ module _ (e : Endpoint) (m k : List ℕ) where
 
   -- what is made of a packet whose header is good
   good-header : Ipv4 → ℕ
-  good-header h = seenNumber e m (ours? (configOf e) h k (eqb (h .destination) (e .own)))
+  good-header h = seenNumber e m (byDestination (configOf e) h k (eqb (h .destination) (e .own)))
 
   module _ (bytes : Bytes k) (enough : 55296 ≤ length m) where
-    peer-number : seenNumber e m (peer? (configOf e) header k (findPeer (configOf e) (T.sourceOf k))) ≡ seventh
+    peer-number : seenNumber e m (byPeer (configOf e) header k (findPeer (configOf e) (T.sourceOf k))) ≡ seventh
     unfolding findPeer configOf hasAddress seenNumber
     peer-number =
         rw (some-lowest (P.peers e) sends)
         (caseO (lowest sends (P.peers e)) (λ q. rw q) (λ p q.
         let r : lowest sends (P.peers e) ≡ some peer = q ∙ ap some (sym (ap found q)) in
         let small : peer < 8 = omega (arith, lowest-some sends (P.peers e) peer r .below) in
-        ap (λ (o : Option ℕ). seenNumber e m (peer? (configOf e) header k o)) r
+        ap (λ (o : Option ℕ). seenNumber e m (byPeer (configOf e) header k o)) r
         ∙ payload-number bytes small enough
         ∙ sym (ap (λ (b : Bool). pick (not b) 7 (T.numbered (carriage andThen next))) (ap isSome r))))
 
-    ours-number : (b : Bool) → seenNumber e m (ours? (configOf e) header k b) ≡ pick (not b) 6 seventh
+    ours-number : (b : Bool) → seenNumber e m (byDestination (configOf e) header k b) ≡ pick (not b) 6 seventh
     unfolding seenNumber
     ours-number false = refl
     ours-number true = peer-number
@@ -335,7 +339,7 @@ module _ (e : Endpoint) (m k : List ℕ) where
         ∙ wire-table .ipv4 good-header k
         ∙ ap (λ (n : ℕ). T.ipv4Rows k otherwise n) (ours-number (eqb (T.destinationOf k) (e .own)))
       where
-        by-header : (x : Ipv4Read) → seenNumber e m (ip? (configOf e) k x) ≡ T.ipv4Number good-header x
+        by-header : (x : Ipv4Read) → seenNumber e m (byIpv4 (configOf e) k x) ≡ T.ipv4Number good-header x
         by-header (I.Packet h) = refl
         by-header (I.Refused r) = refl
 

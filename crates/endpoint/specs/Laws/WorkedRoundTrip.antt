@@ -17,7 +17,8 @@ use Rattle.wire.specs.Frame.{IsFrame}
 use Rattle.wire.specs.Laws.WriteIs.{wrote-front}
 use Rattle.reassembly.specs.Laws.Base.{caseB}
 use Rattle.endpoint.specs.Search.{from, lowest}
-use Rattle.endpoint.specs.Config.{configOf, hasAddress, findPeer, binds, findBinding, fresh, startChecks, startOf, addPeerChecks, withAddress, addPeerOf, isNetwork, addBindingChecks, withBinding, addBindingOf, Adding, addPeer, addBinding, added, addedAll, setUp}
+use Rattle.endpoint.specs.Config.{configOf, hasAddress, findPeer, binds, findBinding, fresh, startChecks, startOf, addPeerChecks, withAddress, addPeerOf}
+use Rattle.endpoint.specs.Config.{isNetwork, addBindingChecks, withBinding, addBindingOf, Adding, addPeer, addBinding, added, addedAll, setUp}
 use Rattle.endpoint.specs.Laws.Config.{addressAt}
 use Rattle.endpoint.specs.Wrap.{segmentsOf, exceeds, kindAt, networkAt, ownerAt, peerAt, packetAt, wrapOf}
 use Rattle.endpoint.specs.Laws.Wrap.{written-says, written-when, ready-listed}
@@ -44,7 +45,8 @@ module _ (e : Endpoint) (b : ℕ) (frame : List ℕ) (identifier : ℕ) (reached
 
   written : (k : ℕ) → k < segmentsFor e b frame → wrapOf e b frame k identifier (packets k) .answer ≡ Y.Written (answer k)
   written k h =
-      written-when e b frame k identifier (packets k) listed (ready-listed e b (reached-ready e reached) listed .owner-below) good short h (le-refl (length (packets k)))
+      written-when e b frame k identifier (packets k) listed (ready-listed e b (reached-ready e reached) listed .owner-below) good short h
+      (le-refl (length (packets k)))
 
   -- into outputs that are just large enough
   pub wrapped : Wraps e b frame identifier packets
@@ -53,7 +55,8 @@ module _ (e : Endpoint) (b : ℕ) (frame : List ℕ) (identifier : ℕ) (reached
     answer = answer;
     written = written;
     is = λ k h.
-        sym (ap (take (length (packets k))) (written-says e b frame k identifier (packets k) (answer k) (written k h) .output-is) ∙ wrote-front (packets k) (packets k));
+        sym (ap (take (length (packets k))) (written-says e b frame k identifier (packets k) (answer k) (written k h) .output-is)
+        ∙ wrote-front (packets k) (packets k));
   }
 
 -- ---- segments have an order: the last first
@@ -107,27 +110,33 @@ abbrev held : Endpoint → (b p : ℕ) → List ℕ
 held e b p = e .own ∷ e .port ∷ e .mtu ∷ e .«peer_count» ∷ e .«binding_count» ∷ addressAt e p ∷ ownerAt e b ∷ kindAt e b ∷ networkAt e b ∷ []
 
 sends-vxlan : held sender 0 0 ≡ 167772161 ∷ 7471 ∷ 576 ∷ 1 ∷ 3 ∷ 167772162 ∷ 0 ∷ 1 ∷ 22 ∷ []
-unfolding addressAt configOf from lowest hasAddress findPeer binds findBinding fresh startChecks startOf addPeerChecks withAddress addPeerOf isNetwork addBindingChecks withBinding addBindingOf added addedAll setUp
+unfolding addressAt configOf from lowest hasAddress findPeer binds findBinding fresh startChecks startOf addPeerChecks withAddress addPeerOf isNetwork
+    addBindingChecks withBinding addBindingOf added addedAll setUp
 sends-vxlan = refl
 
 takes-vxlan : held receiver 2 1 ≡ 167772162 ∷ 7471 ∷ 576 ∷ 2 ∷ 3 ∷ 167772161 ∷ 1 ∷ 1 ∷ 22 ∷ []
-unfolding addressAt configOf from lowest hasAddress findPeer binds findBinding fresh startChecks startOf addPeerChecks withAddress addPeerOf isNetwork addBindingChecks withBinding addBindingOf added addedAll setUp
+unfolding addressAt configOf from lowest hasAddress findPeer binds findBinding fresh startChecks startOf addPeerChecks withAddress addPeerOf isNetwork
+    addBindingChecks withBinding addBindingOf added addedAll setUp
 takes-vxlan = refl
 
 sends-nvgre : held sender 1 0 ≡ 167772161 ∷ 7471 ∷ 576 ∷ 1 ∷ 3 ∷ 167772162 ∷ 0 ∷ 2 ∷ 4096 ∷ []
-unfolding addressAt configOf from lowest hasAddress findPeer binds findBinding fresh startChecks startOf addPeerChecks withAddress addPeerOf isNetwork addBindingChecks withBinding addBindingOf added addedAll setUp
+unfolding addressAt configOf from lowest hasAddress findPeer binds findBinding fresh startChecks startOf addPeerChecks withAddress addPeerOf isNetwork
+    addBindingChecks withBinding addBindingOf added addedAll setUp
 sends-nvgre = refl
 
 takes-nvgre : held receiver 1 1 ≡ 167772162 ∷ 7471 ∷ 576 ∷ 2 ∷ 3 ∷ 167772161 ∷ 1 ∷ 2 ∷ 4096 ∷ []
-unfolding addressAt configOf from lowest hasAddress findPeer binds findBinding fresh startChecks startOf addPeerChecks withAddress addPeerOf isNetwork addBindingChecks withBinding addBindingOf added addedAll setUp
+unfolding addressAt configOf from lowest hasAddress findPeer binds findBinding fresh startChecks startOf addPeerChecks withAddress addPeerOf isNetwork
+    addBindingChecks withBinding addBindingOf added addedAll setUp
 takes-nvgre = refl
 
 sends-stt : held sender 2 0 ≡ 167772161 ∷ 7471 ∷ 576 ∷ 1 ∷ 3 ∷ 167772162 ∷ 0 ∷ 3 ∷ 72623859790382856 ∷ []
-unfolding addressAt configOf from lowest hasAddress findPeer binds findBinding fresh startChecks startOf addPeerChecks withAddress addPeerOf isNetwork addBindingChecks withBinding addBindingOf added addedAll setUp
+unfolding addressAt configOf from lowest hasAddress findPeer binds findBinding fresh startChecks startOf addPeerChecks withAddress addPeerOf isNetwork
+    addBindingChecks withBinding addBindingOf added addedAll setUp
 sends-stt = refl
 
 takes-stt : held receiver 0 1 ≡ 167772162 ∷ 7471 ∷ 576 ∷ 2 ∷ 3 ∷ 167772161 ∷ 1 ∷ 3 ∷ 72623859790382856 ∷ []
-unfolding addressAt configOf from lowest hasAddress findPeer binds findBinding fresh startChecks startOf addPeerChecks withAddress addPeerOf isNetwork addBindingChecks withBinding addBindingOf added addedAll setUp
+unfolding addressAt configOf from lowest hasAddress findPeer binds findBinding fresh startChecks startOf addPeerChecks withAddress addPeerOf isNetwork
+    addBindingChecks withBinding addBindingOf added addedAll setUp
 takes-stt = refl
 
 owner-address : (e : Endpoint) (b : ℕ) → peerAt e b ≡ addressAt e (ownerAt e b)
@@ -185,7 +194,8 @@ trip b b′ kind network h h′ s r frame good bytes size identifier fits =
     let mtu : sender .mtu ≡ 576 = cc (s) in
     let its-kind : kindAt sender b ≡ kind = cc (s) in
     let listed : b < configOf sender .bindings = bindings-of sender b bindings h in
-    let short : exceeds (kindAt sender b) (length frame) (sender .mtu) ≡ false = ap (exceeds (kindAt sender b) (length frame)) mtu ∙ ap (λ (x : ℕ). exceeds x (length frame) 576) its-kind ∙ let-through kind (length frame) size in
+    let short : exceeds (kindAt sender b) (length frame) (sender .mtu) ≡ false = ap (exceeds (kindAt sender b) (length frame)) mtu
+    ∙ ap (λ (x : ℕ). exceeds x (length frame) 576) its-kind ∙ let-through kind (length frame) size in
     round-trip sender b frame identifier (λ k. packetAt sender b frame k identifier) receiver b′ reached listed bytes fits
     (wrapped sender b frame identifier reached listed good short) (matched b b′ kind network h′ s r)
 
@@ -214,7 +224,12 @@ out-of-order = record { once = once }
     once (suc zero) = refl
     once (suc (suc zero)) = refl
     once (suc (suc (suc k))) =
-        rw (ne-eqb 2 (suc (suc (suc k))) (λ q. absurd (omega arith)), ne-eqb 0 (suc (suc (suc k))) (λ q. absurd (omega arith)), ne-eqb 1 (suc (suc (suc k))) (λ q. absurd (omega arith)), le-ltb (suc (suc (suc k))) 3 (omega arith))
+        rw (
+          ne-eqb 2 (suc (suc (suc k))) (λ q. absurd (omega arith)),
+          ne-eqb 0 (suc (suc (suc k))) (λ q. absurd (omega arith)),
+          ne-eqb 1 (suc (suc (suc k))) (λ q. absurd (omega arith)),
+          le-ltb (suc (suc (suc k))) 3 (omega arith),
+        )
 
 -- a frame of 1,514 bytes
 abbrev pub longest : List ℕ
@@ -240,7 +255,8 @@ longest-good =
 
 -- the tenant that the receiver has for it
 tenant-is : getD (receiver .tenants) 0 0 ≡ 4
-unfolding configOf from lowest hasAddress findPeer binds findBinding fresh startChecks startOf addPeerChecks withAddress addPeerOf isNetwork addBindingChecks withBinding addBindingOf added addedAll setUp
+unfolding configOf from lowest hasAddress findPeer binds findBinding fresh startChecks startOf addPeerChecks withAddress addPeerOf isNetwork addBindingChecks
+    withBinding addBindingOf added addedAll setUp
 tenant-is = refl
 
 module _ (m : List ℕ) (enough : 55296 ≤ length m) (identifier : ℕ) (fits : identifier < 256 ^ 4) where
@@ -263,13 +279,15 @@ module _ (m : List ℕ) (enough : 55296 ≤ length m) (identifier : ℕ) (fits :
       let n : segmentsFor sender 2 longest ≡ 3 = three longest longest-size in
       let zeros : Bytes longest = λ i. omega (arith, zero-at 1514 i) in
       let round : RoundTrip longest 3 segment receiver 0 =
-      subst (λ (c : ℕ). RoundTrip longest c segment receiver 0) n (possible 2 (omega arith) longest longest-good zeros (λ h. absurd (omega arith)) identifier fits) in
+      subst (λ (c : ℕ). RoundTrip longest c segment receiver 0) n
+      (possible 2 (omega arith) longest longest-good zeros (λ h. absurd (omega arith)) identifier fits) in
       let answer = round .answered m enough (2 ∷ 0 ∷ 1 ∷ []) out-of-order in
       record {
         count = n;
         third = answer [] 2 (0 ∷ 1 ∷ []) refl .waits (omega arith);
         first = answer (2 ∷ []) 0 (1 ∷ []) refl .waits (omega arith);
         second =
-            subst (λ (x : ℕ). Delivers (after (2 ∷ 0 ∷ []) .endpoint) (after (2 ∷ 0 ∷ []) .mem) (segment 1) (record { tenant = x; binding = 0 }) longest) tenant-is
+            subst (λ (x : ℕ). Delivers (after (2 ∷ 0 ∷ []) .endpoint) (after (2 ∷ 0 ∷ []) .mem) (segment 1) (record { tenant = x; binding = 0 }) longest)
+            tenant-is
             (answer (2 ∷ 0 ∷ []) 1 [] refl .delivers refl);
       }

@@ -1,4 +1,5 @@
--- A worked run, computed through the definitions of every layer: what the set-up of PossibleRun holds, what becomes of each packet of its run, and what each frame is worth.
+-- A worked run, computed through the definitions of every layer: what the set-up of PossibleRun holds, what becomes of each packet of its run, and what each
+-- frame is worth.
 use mathlib.Core.Path.{_≡_, refl}
 use mathlib.Core.Bool.{true, false}
 use lib.ListN.{replicate}
@@ -14,21 +15,24 @@ use Rattle.wire.specs.Carriage.{carriageOf}
 use Rattle.wire.specs.declared.refusal.Refusal.the-variants as F
 use Rattle.reassembly.specs.Base.{allBelow, table}
 use Rattle.reassembly.specs.Slots.{Note, noMark}
-use Rattle.reassembly.specs.Receive.{stranger, plain, segment, good}
+use Rattle.reassembly.specs.Receive.{otherSender, direct, segment, good}
 use Rattle.reassembly.specs.Mix.{partOf, states}
 use Rattle.reassembly.specs.Laws.MixTest.{mixes}
 use Rattle.reassembly.specs.Laws.OneByOne.{turns}
 use Rattle.endpoint.specs.Search.{from, lowest}
-use Rattle.endpoint.specs.Config.{configOf, hasAddress, findPeer, binds, findBinding, fresh, startChecks, startOf, addPeerChecks, withAddress, addPeerOf, isNetwork, addBindingChecks, withBinding, addBindingOf, added, addedAll, setUp}
+use Rattle.endpoint.specs.Config.{configOf, hasAddress, findPeer, binds, findBinding, fresh, startChecks, startOf, addPeerChecks, withAddress, addPeerOf}
+use Rattle.endpoint.specs.Config.{isNetwork, addBindingChecks, withBinding, addBindingOf, added, addedAll, setUp}
 use Rattle.endpoint.specs.Receive.{innerFrom, tunnelFrom, headerOf, sttFrom, judgeOf}
 use Rattle.endpoint.specs.declared.answer.Drop.the-variants as D
 use Rattle.endpoint.specs.declared.answer.Received.the-variants as R
-use Rattle.endpoint.specs.Laws.PossibleRun.{ready, listed, frame-a, frame-b, frame-c, frame-d, frames, own-packet, broken-packet, vxlan-packet, rival-packet, stray-packet, mixed, turn}
+use Rattle.endpoint.specs.Laws.PossibleRun.{ready, listed, frame-a, frame-b, frame-c, frame-d, frames, own-packet, broken-packet, vxlan-packet}
+use Rattle.endpoint.specs.Laws.PossibleRun.{rival-packet, stray-packet, mixed, turn}
 
 -- ---- the set-up
 
 pub ready-config : configOf ready ≡ listed
-unfolding configOf from lowest hasAddress findPeer binds findBinding fresh startChecks startOf addPeerChecks withAddress addPeerOf isNetwork addBindingChecks withBinding addBindingOf added addedAll setUp
+unfolding configOf from lowest hasAddress findPeer binds findBinding fresh startChecks startOf addPeerChecks withAddress addPeerOf isNetwork addBindingChecks
+    withBinding addBindingOf added addedAll setUp
 ready-config = refl
 
 -- ---- the segments of peer 0's frames: each packet is sound, and states its frame's length, its offset and its identifier
@@ -77,26 +81,31 @@ worth-b note = refl
 
 -- ---- packets of peer 0's own: delivered, and refused (10)
 
-pub heard-own : headerOf listed own-packet ≡ plain 0 (R.Delivered (record { tenant = 5; binding = 3 }) (record { start = 36; length = 14; «in_memory» = false }))
-unfolding headerOf ipv4Checks ipv4At ipv4Of be beAt part total ones udpSum udpChecks udpOf vxlanChecks vxlanAt vxlanOf carriageOf from lowest hasAddress findPeer binds innerFrom tunnelFrom frameChecks frameOf
+pub heard-own : headerOf listed own-packet ≡ direct 0 (R.Delivered (record { tenant = 5; binding = 3 })
+    (record { start = 36; length = 14; «in_memory» = false }))
+unfolding headerOf ipv4Checks ipv4At ipv4Of be beAt part total ones udpSum udpChecks udpOf vxlanChecks vxlanAt vxlanOf carriageOf from lowest hasAddress
+    findPeer binds innerFrom tunnelFrom frameChecks frameOf
 heard-own = refl
 
-pub heard-broken : headerOf listed broken-packet ≡ plain 0 (R.Dropped (D.Format F.TcpChecksum))
+pub heard-broken : headerOf listed broken-packet ≡ direct 0 (R.Dropped (D.Format F.TcpChecksum))
 unfolding headerOf ipv4Checks ipv4At ipv4Of be beAt part total ones pseudo segmentChecks segmentAt segmentOf carriageOf from lowest hasAddress findPeer
 heard-broken = refl
 
 -- ---- other senders' packets
 
 -- delivered: the frame of 14 bytes behind 36
-pub heard-vxlan : headerOf listed vxlan-packet ≡ plain 1 (R.Delivered (record { tenant = 9; binding = 2 }) (record { start = 36; length = 14; «in_memory» = false }))
-unfolding headerOf ipv4Checks ipv4At ipv4Of be beAt part total ones udpSum udpChecks udpOf vxlanChecks vxlanAt vxlanOf carriageOf from lowest hasAddress findPeer binds innerFrom tunnelFrom frameChecks frameOf
+pub heard-vxlan : headerOf listed vxlan-packet ≡ direct 1 (R.Delivered (record { tenant = 9; binding = 2 })
+    (record { start = 36; length = 14; «in_memory» = false }))
+unfolding headerOf ipv4Checks ipv4At ipv4Of be beAt part total ones udpSum udpChecks udpOf vxlanChecks vxlanAt vxlanOf carriageOf from lowest hasAddress
+    findPeer binds innerFrom tunnelFrom frameChecks frameOf
 heard-vxlan = refl
 
-pub heard-rival : headerOf listed rival-packet ≡ segment 1 (record { identifier = 1001; frame-length = 32; offset = 0; bytes = replicate 10 255; mark = noMark })
+pub heard-rival : headerOf listed rival-packet ≡ segment 1 (record
+    { identifier = 1001; frame-length = 32; offset = 0; bytes = replicate 10 255; mark = noMark })
 unfolding headerOf ipv4Checks ipv4At ipv4Of be beAt part total ones pseudo segmentChecks segmentAt segmentOf carriageOf from lowest hasAddress findPeer
 heard-rival = refl
 
-pub heard-stray : headerOf listed stray-packet ≡ stranger (R.Dropped D.Peer)
+pub heard-stray : headerOf listed stray-packet ≡ otherSender (R.Dropped D.Peer)
 unfolding headerOf ipv4Checks ipv4At ipv4Of be beAt part total ones pseudo segmentChecks segmentAt segmentOf carriageOf from lowest hasAddress findPeer
 heard-stray = refl
 

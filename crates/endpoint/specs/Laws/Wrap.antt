@@ -20,7 +20,8 @@ use Rattle.wire.specs.Write.{vxlanPacket, nvgrePacket, segmentPacket}
 use Rattle.reassembly.specs.Laws.Base.{caseB, either, clash, and-l, and-r, or-cases}
 use Rattle.endpoint.specs.Config.{Config, configOf, addressChecks, startChecks, fresh, isNetwork}
 use Rattle.endpoint.specs.Laws.Config.{Valid, addressAt}
-use Rattle.endpoint.specs.Wrap.{capacity, segmentsOf, segmentStart, segmentSize, low32, packetOf, exceeds, isBad, kindAt, networkAt, ownerAt, peerAt, packetAt, wrapChecks, Wrote, refusedWrap, wrapOf}
+use Rattle.endpoint.specs.Wrap.{capacity, segmentsOf, segmentStart, segmentSize, low32, packetOf, exceeds, isBad, kindAt, networkAt, ownerAt, peerAt}
+use Rattle.endpoint.specs.Wrap.{packetAt, wrapChecks, Wrote, refusedWrap, wrapOf}
 use Rattle.endpoint.specs.declared.answer.Packet.{Packet}
 use Rattle.endpoint.specs.declared.answer.Wrapped.the-variants as Y
 use Rattle.endpoint.specs.declared.config.Endpoint.{Endpoint}
@@ -192,11 +193,13 @@ pub by-kind : (kind network : ℕ) → isNetwork kind network ≡ true → ByKin
 unfolding isNetwork
 by-kind kind network h =
     either (or-cases (eqb kind 1 && ltb network 16777216) ((eqb kind 2 && (leb 4096 network && ltb network 16777215)) || eqb kind 3) h)
-    (λ q. vxlan (eqb-true kind 1 (and-l (eqb kind 1) (ltb network 16777216) q)) (omega (arith, ltb-true network 16777216 (and-r (eqb kind 1) (ltb network 16777216) q))))
+    (λ q. vxlan (eqb-true kind 1 (and-l (eqb kind 1) (ltb network 16777216) q))
+    (omega (arith, ltb-true network 16777216 (and-r (eqb kind 1) (ltb network 16777216) q))))
     (λ q. either (or-cases (eqb kind 2 && (leb 4096 network && ltb network 16777215)) (eqb kind 3) q)
     (λ x.
     let y : (leb 4096 network && ltb network 16777215) ≡ true = and-r (eqb kind 2) (leb 4096 network && ltb network 16777215) x in
-    nvgre (eqb-true kind 2 (and-l (eqb kind 2) (leb 4096 network && ltb network 16777215) x)) (omega (arith, ltb-true network 16777215 (and-r (leb 4096 network) (ltb network 16777215) y))))
+    nvgre (eqb-true kind 2 (and-l (eqb kind 2) (leb 4096 network && ltb network 16777215) x))
+    (omega (arith, ltb-true network 16777215 (and-r (leb 4096 network) (ltb network 16777215) y))))
     (λ x. stt (eqb-true kind 3 x)))
 
 module _ (own peer port network mtu : ℕ) (frame : List ℕ) (segment identifier : ℕ) where

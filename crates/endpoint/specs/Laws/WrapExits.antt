@@ -149,9 +149,11 @@ put-piece own peer port context identifier c k count last frame old new r h1 h2 
     let n : ℕ = min (18 + length frame) (k * c + c) - k * c in
     let packet : List ℕ = pieceOf own peer port context identifier c k last frame in
     let may : segmentFits (length frame) (k * c) n (length old) ≡ leb (length packet) (length old) =
-    may-segment (length frame) (k * c) n (length old) packet (piece-length own peer port context identifier c k last frame h3) h1 (omega arith) (omega arith) (omega arith) in
+    may-segment (length frame) (k * c) n (length old) packet (piece-length own peer port context identifier c k last frame h3) h1 (omega arith) (omega arith)
+    (omega arith) in
     subst (λ (m : Bool). Written m packet old new r) may
-    (subst (λ (j : ℕ). Written (segmentFits (length frame) (k * c) j (length old)) (segmentPacket own peer port context identifier (k * c) j last frame) old new r) e w)
+    (subst (λ (j : ℕ). Written (segmentFits (length frame) (k * c) j (length old))
+    (segmentPacket own peer port context identifier (k * c) j last frame) old new r) e w)
 
 module _ (t : Route) (frame : List ℕ) (k identifier : ℕ) (old new : List ℕ) (r : ℕ) where
   pub put-vxlan : t .kind ≡ 1 → 14 ≤ length frame → length frame ≤ 1514
@@ -199,7 +201,8 @@ not-put : (may : Bool) (packet old new : List ℕ) (r : ℕ) → Written may pac
 not-put true packet old new r w h e = absurd (omega (arith, w .length-is))
 not-put false packet old new r w h e = (refl, w .output-is)
 
-was-put : (may : Bool) (packet old new : List ℕ) (r : ℕ) → Written may packet old new r → (r ≡ 0 → ⊥) → (may ≡ true) × ((r ≡ length packet) × (new ≡ wrote old packet))
+was-put : (may : Bool) (packet old new : List ℕ) (r : ℕ) → Written may packet old new r → (r ≡ 0 → ⊥) → (may ≡ true)
+    × ((r ≡ length packet) × (new ≡ wrote old packet))
 was-put true packet old new r w h = (refl, (w .length-is, w .output-is))
 was-put false packet old new r w h = absurd (h (w .length-is))
 

@@ -7,7 +7,6 @@ use native.Mathlib.Omega.{arith}
 use lib.ListN.{length}
 use lib.Dec.{ltb, eqb}
 use borrow.Author.Tests.{eqb-true, eqb-false, ltb-true, ltb-false}
-use Rattle.wire.specs.Frame.{IsFrame}
 use Rattle.reassembly.specs.Laws.Base.{caseB}
 use Rattle.endpoint.specs.Answer.{wrapValuesOf}
 use Rattle.endpoint.specs.Wrap.{kindAt, segmentsOf, wrapOf}

@@ -3,18 +3,19 @@
 use mathlib.Core.Path.{_≡_, refl, sym, ap, subst, _∙_}
 use mathlib.Core.Bool.{true, false, cond}
 use mathlib.Core.List.{List, [], _∷_, _++_, append-assoc, append-nil}
-use Prim.Native.Nat.{ℕ, zero, suc, _+_, _≤_, _<_}
+use Prim.Native.Nat.{ℕ, zero, suc, _≤_, _<_}
 use native.Mathlib.Omega.{arith}
 use lib.ListN.{length, getD, set}
 use lib.Seq.{getD-set-same}
 use lib.Dec.{eqb}
 use borrow.Author.Tests.{eq-eqb, eqb-true}
 use Rattle.reassembly.specs.Laws.Base.{caseB, clash}
-use Rattle.reassembly.specs.Slots.{Slot, Row, Note, noRow, free, emptyRows, emptyRow}
-use Rattle.reassembly.specs.Take.{slotNo, Seg, Outcome, Rejected, Pending, Complete, NoMemory, Choice, reject, old, fresh, chosen, Effect, frameIn, takeSegment}
+use Rattle.reassembly.specs.Slots.{Slot, Peer, Note, noRow, free, emptyRows, emptyRow}
+use Rattle.reassembly.specs.Take.{slotNo, Seg, Outcome, Rejected, Pending, Complete, NoMemory, Choice, reject, old, fresh, chosen, Effect, frameIn}
+use Rattle.reassembly.specs.Take.{takeSegment}
 use Rattle.reassembly.specs.Store.{bytesOf, takeIn}
 use Rattle.reassembly.specs.Laws.Store.{take-in, bytes-laws}
-use Rattle.reassembly.specs.Receive.{Answers, Verdict, Seen, stranger, plain, segment, Event, receive, tick}
+use Rattle.reassembly.specs.Receive.{Answers, Verdict, Reading, otherSender, direct, segment, Event, receive, tick}
 use Rattle.reassembly.specs.Laws.Runs.{State, react, after, run, mine, own, Listed, Sim, event-sim, rows-older}
 use Rattle.reassembly.specs.Laws.Sim.{Alike, take-alike}
 use Rattle.reassembly.specs.SetUp.{keeps, Layers, Promised, World, next, runs}
@@ -48,7 +49,7 @@ module _ (W : Answers) (Config : Type 0) (U : Layers W Config) (p : ℕ) where
   )
 
   module _ (p< : p < 8) (c : Config) (promise : Promised W Config U c) where
-    abbrev pub header : List ℕ → Seen W
+    abbrev pub header : List ℕ → Reading W
     header k = U .header c k
 
     abbrev pub judge : ℕ → Note → List ℕ → Verdict W
@@ -58,12 +59,12 @@ module _ (W : Answers) (Config : Type 0) (U : Layers W Config) (p : ℕ) where
     listed k = kept-listed W (header k) (promise .kept k)
 
     abbrev pub world : State bytesOf → World Config
-    world s = record { ends = record { config = c; rows = s .rows }; mem = s .mem }
+    world s = record { ends = record { config = c; peers = s .peers }; mem = s .mem }
 
     -- what holds after the events so far
     pub record Inv (past : List Event) (s : State bytesOf) (g : State ghost) (L : Log) : Type 0 where
       pub sim : Sim bytesOf ghost p s g
-      pub logs : Logs p (getD (g .rows) p noRow .slots) (g .mem) L
+      pub logs : Logs p (getD (g .peers) p noRow .slots) (g .mem) L
       pub came : (t : ℕ) → Came c past (L t)
 
     -- what the log gains came in the run
@@ -80,48 +81,52 @@ module _ (W : Answers) (Config : Type 0) (U : Layers W Config) (p : ℕ) where
     entered-came past L g x (Complete s) i a t = enters-came past L g x i a t
     entered-came past L g x NoMemory i a t = a t
 
-    seen-came : (past : List Event) (s : State bytesOf) (L : Log) (x : Seen W)
+    seen-came : (past : List Event) (s : State bytesOf) (L : Log) (x : Reading W)
         → ((q : ℕ) (g : Seg) → x ≡ segment q g → q ≡ p → CameIn W Config U p c past g) → ((t : ℕ) → Came c past (L t)) → (t : ℕ)
         → Came c past (logSeen W Config U p (world s) L x t)
-    seen-came past s L (stranger a) i h t = h t
-    seen-came past s L (plain q a) i h t = h t
+    seen-came past s L (otherSender a) i h t = h t
+    seen-came past s L (direct q a) i h t = h t
     seen-came past s L (segment q g) i h t =
         caseB (eqb q p)
-        (λ e. rw e (entered-came past L g (chosen (getD (s .rows) p noRow .slots) g) (taking W Config U p (world s) g .outcome) (i q g refl (eqb-true q p e)) h t))
+        (λ e. rw e (entered-came past L g (chosen (getD (s .peers) p noRow .slots) g) (taking W Config U p (world s) g .outcome)
+        (i q g refl (eqb-true q p e)) h t))
         (λ e. rw e (h t))
 
     -- the real row and outcome are the ghost's
     logged-same : (s : State bytesOf) (g : State ghost) (L : Log) (x : Seg) → Sim bytesOf ghost p s g
-        → logged L (getD (s .rows) p noRow .slots) x (taking W Config U p (world s) x .outcome) ≡ logged L (getD (g .rows) p noRow .slots) x (takeSegment ghost p (getD (g .rows) p noRow) (g .mem) x .outcome)
+        → logged L (getD (s .peers) p noRow .slots) x (taking W Config U p (world s) x .outcome)
+        ≡ logged L (getD (g .peers) p noRow .slots) x (takeSegment ghost p (getD (g .peers) p noRow) (g .mem) x .outcome)
     logged-same s g L x h =
-        let r : getD (s .rows) p noRow ≡ getD (g .rows) p noRow = ap (λ (l : List Slot). record { slots = l }) (h .row) in
-        let l : Alike bytesOf ghost p (x .frame-length) (takeSegment bytesOf p (getD (s .rows) p noRow) (s .mem) x) (takeSegment ghost p (getD (s .rows) p noRow) (g .mem) x) =
-        take-alike bytesOf ghost bytes-laws ghost-laws p p< (getD (s .rows) p noRow) (s .mem) (g .mem) x (h .same) in
-        rw (take-in p (getD (s .rows) p noRow) (s .mem) x p< (h .same .okA), l .outcome, r)
+        let r : getD (s .peers) p noRow ≡ getD (g .peers) p noRow = ap (λ (l : List Slot). record { slots = l }) (h .row) in
+        let l : Alike bytesOf ghost p (x .frame-length) (takeSegment bytesOf p (getD (s .peers) p noRow) (s .mem) x)
+        (takeSegment ghost p (getD (s .peers) p noRow) (g .mem) x) =
+        take-alike bytesOf ghost bytes-laws ghost-laws p p< (getD (s .peers) p noRow) (s .mem) (g .mem) x (h .same) in
+        rw (take-in p (getD (s .peers) p noRow) (s .mem) x p< (h .same .okA), l .outcome, r)
 
-    mine-logs : (s : State bytesOf) (g : State ghost) (L : Log) (x : Seen W) → mine W p x ≡ true → Sim bytesOf ghost p s g
-        → Logs p (getD (g .rows) p noRow .slots) (g .mem) L
-        → Logs p (getD (react W judge ghost g x .state .rows) p noRow .slots) (react W judge ghost g x .state .mem) (logSeen W Config U p (world s) L x)
-    mine-logs s g L (stranger a) m h l = l
-    mine-logs s g L (plain q a) m h l = l
+    mine-logs : (s : State bytesOf) (g : State ghost) (L : Log) (x : Reading W) → mine W p x ≡ true → Sim bytesOf ghost p s g
+        → Logs p (getD (g .peers) p noRow .slots) (g .mem) L
+        → Logs p (getD (react W judge ghost g x .state .peers) p noRow .slots) (react W judge ghost g x .state .mem) (logSeen W Config U p (world s) L x)
+    mine-logs s g L (otherSender a) m h l = l
+    mine-logs s g L (direct q a) m h l = l
     mine-logs s g L (segment q x) m h l =
         let z : q ≡ p = eqb-true q p m in
-        let o : Effect ghost = takeSegment ghost p (getD (g .rows) p noRow) (g .mem) x in
-        let r : getD (set (g .rows) p (o .row)) p noRow ≡ o .row = getD-set-same (g .rows) p (o .row) noRow (omega (arith, h .eightB)) in
-        rw (m, z, logged-same s g L x h) (rw r (take-logs p (getD (g .rows) p noRow) (g .mem) L x l .logs))
+        let o : Effect ghost = takeSegment ghost p (getD (g .peers) p noRow) (g .mem) x in
+        let r : getD (set (g .peers) p (o .row)) p noRow ≡ o .row = getD-set-same (g .peers) p (o .row) noRow (omega (arith, h .eightB)) in
+        rw (m, z, logged-same s g L x h) (rw r (take-logs p (getD (g .peers) p noRow) (g .mem) L x l .logs))
 
-    other-log : (s : State bytesOf) (L : Log) (x : Seen W) → mine W p x ≡ false → logSeen W Config U p (world s) L x ≡ L
-    other-log s L (stranger a) m = refl
-    other-log s L (plain q a) m = refl
+    other-log : (s : State bytesOf) (L : Log) (x : Reading W) → mine W p x ≡ false → logSeen W Config U p (world s) L x ≡ L
+    other-log s L (otherSender a) m = refl
+    other-log s L (direct q a) m = refl
     other-log s L (segment q x) m = rw m
 
     -- one event
     pub step : (past : List Event) (s : State bytesOf) (g : State ghost) (L : Log) (e : Event) → Inv past s g L
-        → Inv (past ++ (e ∷ [])) (after W judge bytesOf header s e) (run W judge ghost header g (cond (keeps (own W header p) e) (e ∷ []) [])) (logNext W Config U p (world s) L e)
+        → Inv (past ++ (e ∷ [])) (after W judge bytesOf header s e) (run W judge ghost header g (cond (keeps (own W header p) e) (e ∷ []) []))
+        (logNext W Config U p (world s) L e)
     step past s g L tick h =
         record {
           sim = event-sim W judge bytesOf ghost bytes-laws ghost-laws header listed p p< s g tick (h .sim);
-          logs = rw (rows-older (g .rows) p) (tick-logs p _ _ L (h .logs));
+          logs = rw (rows-older (g .peers) p) (tick-logs p _ _ L (h .logs));
           came = λ t. came-more c past tick (L t) (h .came t);
         }
     step past s g L (receive k) h =
@@ -147,14 +152,17 @@ module _ (W : Answers) (Config : Type 0) (U : Layers W Config) (p : ℕ) where
     reach [] past s g L h = record { state = s; ghosts = g; is = refl; inv = subst (λ (x : List Event). Inv x s g L) (sym (append-nil past)) h }
     reach (v ∷ es) past s g L h =
         let q : next W Config U (world s) v ≡ world (after W judge bytesOf header s v) = next-at W Config U c promise p p< s g v (h .sim) in
-        let r : Reach (past ++ (v ∷ [])) es (after W judge bytesOf header s v) (logNext W Config U p (world s) L v) = reach es (past ++ (v ∷ [])) _ _ (logNext W Config U p (world s) L v) (step past s g L v h) in
+        let r : Reach (past ++ (v ∷ [])) es (after W judge bytesOf header s v) (logNext W Config U p (world s) L v) =
+        reach es (past ++ (v ∷ [])) _ _ (logNext W Config U p (world s) L v) (step past s g L v h) in
         record {
           state = r .state;
           ghosts = r .ghosts;
           is = ap (λ (w : World Config). runs W Config U w es) q ∙ r .is;
           inv =
-              subst (λ (x : List Event). Inv x (r .state) (r .ghosts) (logRun W Config U p (next W Config U (world s) v) (logNext W Config U p (world s) L v) es)) (append-assoc past (v ∷ []) es)
-              (subst (λ (w : World Config). Inv ((past ++ (v ∷ [])) ++ es) (r .state) (r .ghosts) (logRun W Config U p w (logNext W Config U p (world s) L v) es)) (sym q) (r .inv));
+              subst (λ (x : List Event). Inv x (r .state) (r .ghosts)
+              (logRun W Config U p (next W Config U (world s) v) (logNext W Config U p (world s) L v) es)) (append-assoc past (v ∷ []) es)
+              (subst (λ (w : World Config). Inv ((past ++ (v ∷ [])) ++ es) (r .state) (r .ghosts)
+              (logRun W Config U p w (logNext W Config U p (world s) L v) es)) (sym q) (r .inv));
         }
 
     pub log-snoc : (es : List Event) (w : World Config) (L : Log) (e : Event)
@@ -164,8 +172,8 @@ module _ (W : Answers) (Config : Type 0) (U : Layers W Config) (p : ℕ) where
 
     -- one more packet, which carries segment x of peer p's
     module _ (past : List Event) (s : State bytesOf) (g : State ghost) (L : Log) (h : Inv past s g L) (k : List ℕ) (x : Seg) (e : header k ≡ segment p x) where
-      abbrev pub row : Row
-      row = getD (s .rows) p noRow
+      abbrev pub row : Peer
+      row = getD (s .peers) p noRow
 
       abbrev pub ghostly : Effect ghost
       ghostly = takeSegment ghost p row (g .mem) x
@@ -187,7 +195,8 @@ module _ (W : Answers) (Config : Type 0) (U : Layers W Config) (p : ℕ) where
 
       -- the frame in the memory is made up of the segments of its log
       pub completes : (t : ℕ) → taking W Config U p (world s) x .outcome ≡ Complete t → (i : ℕ) → i < x .frame-length
-          → OneOf (logNext W Config U p (world s) L (receive k) t) i (getD (frameIn bytesOf (takeSegment bytesOf p row (s .mem) x .mem) (slotNo p t) (x .frame-length)) i 0)
+          → OneOf (logNext W Config U p (world s) L (receive k) t) i
+          (getD (frameIn bytesOf (takeSegment bytesOf p row (s .mem) x .mem) (slotNo p t) (x .frame-length)) i 0)
       completes t o i l =
           let w = kept-log .pieced t (sym same-outcome ∙ o) in
           rw (alike .frame t (rw in-memory at o)) (pieced-byte p t x (ghostly .mem) (logNext W Config U p (world s) L (receive k) t) (w .0) (w .1) i l)

@@ -84,11 +84,22 @@ part-some [] i l = absurd (omega arith)
 part-some (x ∷ ps) i l =
     caseB (ltb i (length (x .bytes)))
     (λ e. record { part = 0; is-part = omega arith; here = within-is 0 (length (x .bytes)) i (omega arith) (omega (arith, ltb-true i (length (x .bytes)) e)) })
-    (λ e. let r : Lies ps (i - length (x .bytes)) = part-some ps (i - length (x .bytes)) (omega (arith, ltb-false i (length (x .bytes)) e, length-append (x .bytes) (joined ps))) in
+    (λ e. let r : Lies ps (i - length (x .bytes)) = part-some ps (i - length (x .bytes))
+    (omega (arith, ltb-false i (length (x .bytes)) e, length-append (x .bytes) (joined ps))) in
     record {
       part = suc (r .part);
       is-part = omega (arith, r .is-part);
       here = within-is (offsetOf (x ∷ ps) (suc (r .part))) (size ps (r .part)) i
-          (omega (arith, ltb-false i (length (x .bytes)) e, offset-suc x ps (r .part), within-low (offsetOf ps (r .part)) (size ps (r .part)) (i - length (x .bytes)) (r .here)))
-          (omega (arith, ltb-false i (length (x .bytes)) e, offset-suc x ps (r .part), within-high (offsetOf ps (r .part)) (size ps (r .part)) (i - length (x .bytes)) (r .here)));
+          (omega (
+            arith,
+            ltb-false i (length (x .bytes)) e,
+            offset-suc x ps (r .part),
+            within-low (offsetOf ps (r .part)) (size ps (r .part)) (i - length (x .bytes)) (r .here),
+          ))
+          (omega (
+            arith,
+            ltb-false i (length (x .bytes)) e,
+            offset-suc x ps (r .part),
+            within-high (offsetOf ps (r .part)) (size ps (r .part)) (i - length (x .bytes)) (r .here),
+          ));
     })

@@ -5,7 +5,7 @@ use mathlib.Core.Logic.{_≢_}
 use mathlib.Core.Bool.{true, false, cond}
 use mathlib.Core.List.{List, [], _∷_, _++_, map, reverse, reverseAux, reverseAux-eq, append-assoc}
 use mathlib.Core.Option.{none}
-use Prim.Native.Nat.{ℕ, suc, _+_, _-_, _≤_, _<_}
+use Prim.Native.Nat.{ℕ, suc, _+_, _≤_, _<_}
 use native.Mathlib.Omega.{arith}
 use lib.ListN.{length, getD, set, length-map}
 use lib.Seq.{getD-set-same, getD-set-other, set-set, ext-getD}
@@ -13,18 +13,21 @@ use lib.Dec.{ltb, eqb}
 use borrow.Author.Tests.{ltb-true, ltb-false, eqb-true, eqb-false, lt-ltb, eq-eqb, ne-eqb}
 use Rattle.reassembly.specs.Laws.Base.{caseB, caseO, either, clash, and-l, and-r, allBelow-at, allBelow-intro, someBelow-none, length-table, getD-table}
 use Rattle.reassembly.specs.Base.{someBelow, allBelow, table}
-use Rattle.reassembly.specs.Slots.{Slot, Row, Note, noNote, noteOf, free, pendingSlot, lifetime, older, first, bears, isFree}
+use Rattle.reassembly.specs.Slots.{Slot, Peer, Note, noNote, noteOf, free, pendingSlot, lifetime, older, first, bears, isFree}
 use Rattle.reassembly.specs.Laws.Slots.{noteOf-pending, older-pending, older-stays, First, first-some, first-none}
-use Rattle.reassembly.specs.Take.{slotNo, Seg, Pending, Complete, old, fresh, chosen, testedBytes, storedBytes, noteAfter, openedSlot, furtherSlot, Effect, complete, overlaps, frameIn, finish, placed, takeSegment, Fits}
+use Rattle.reassembly.specs.Take.{slotNo, Seg, Pending, Complete, old, fresh, chosen, testedBytes, storedBytes, noteAfter, openedSlot, furtherSlot}
+use Rattle.reassembly.specs.Take.{Effect, complete, overlaps, frameIn, finish, placed, takeSegment, Fits}
 use Rattle.reassembly.specs.Laws.TakeFacts.{chosen-opens, bears-is, bears-pending, bears-identifier, not-free, chosen-fits}
 use Rattle.reassembly.specs.Laws.Memory.{within-is}
-use Rattle.reassembly.specs.Receive.{Answers, Verdict, Seen, receive, tick}
+use Rattle.reassembly.specs.Receive.{Answers, Verdict, Reading, receive, tick}
 use Rattle.reassembly.specs.Laws.Sim.{RowOk, row-set, set-cases}
 use Rattle.reassembly.specs.Laws.Runs.{older-at}
 use Rattle.reassembly.specs.Laws.Ghost.{Piece, receivedIn, byteIn, ghost, upd-same, upd-other}
-use Rattle.reassembly.specs.Mix.{Frame, joined, offsetOf, partOf, states, frameNote, Cut, Item, given, other, frameOf, isSegment, times, segmentsOf, pendingAt, howMany, Mixing}
+use Rattle.reassembly.specs.Mix.{Frame, joined, offsetOf, partOf, states, frameNote, Cut, Item, given, other, frameOf, isSegment, times, segmentsOf}
+use Rattle.reassembly.specs.Mix.{pendingAt, howMany, Mixing}
 use Rattle.reassembly.specs.Laws.CutFacts.{size, part-end, part-one, Lies, part-some}
-use Rattle.reassembly.specs.Laws.MixFacts.{times-back, of-append, of-back, times-le, Splits, splits, Given, some-given, pieces, notes, notes-all, age, pieces-none, age-none, Holder, received-by, holds, right-byte, Since, since, ticks-append, five}
+use Rattle.reassembly.specs.Laws.MixFacts.{times-back, of-append, of-back, times-le, Splits, splits, Given, some-given, pieces, notes, notes-all, age}
+use Rattle.reassembly.specs.Laws.MixFacts.{pieces-none, age-none, Holder, received-by, holds, right-byte, Since, since, ticks-append, five}
 
 -- the three questions, of a slot whose pieces are known
 complete-is : (m : ℕ → List Piece) (k n : ℕ) (ps : List Piece) → m k ≡ ps → complete ghost m k n ≡ allBelow n (λ i. receivedIn ps i)
@@ -80,7 +83,8 @@ module _ (p : ℕ) (frames : List Frame) where
   notes-other f g j past n = rw (ne-eqb f g (λ q. n (sym q)))
 
   slot-other : (f g j : ℕ) (past : List Item) → g ≢ f → slotOf g past ≡ slotOf g (given f j ∷ past)
-  slot-other f g j past n = ap (λ (x : Note). pendingSlot (frameOf frames g .identifier) (length (frameOf frames g .content)) (age frames g past) x) (notes-other f g j past n)
+  slot-other f g j past n = ap (λ (x : Note). pendingSlot (frameOf frames g .identifier) (length (frameOf frames g .content)) (age frames g past) x)
+      (notes-other f g j past n)
 
   -- slot s becomes frame f's, or is freed with its last segment; the other slots are left
   settle : (past fut : List Item) (f j s : ℕ) (row : List Slot) (m m′ : ℕ → List Piece) (v : Slot)
@@ -128,7 +132,13 @@ module _ (p : ℕ) (frames : List Frame) where
             let b′ : 0 < segmentsOf g past = rw (of-other f g j past n) at b in
             let o : Seat past row m g = h .seat g lg b′ (rw (of-other f g j fut n) u) in
             let w : o .at ≢ s = λ z. n (near g lg b′ u (let k : getD row s free ≡ slotOf g past = rw z at (o .slot) in cc (mine (rw k)))) in
-            record { at = o .at; is-slot = o .is-slot; slot = there (o .at) w ∙ o .slot ∙ slot-other f g j past n; store = left (o .at) w ∙ o .store ∙ sym (pieces-other f g j past n) });
+            record {
+              at = o .at;
+              is-slot = o .is-slot;
+              slot = there (o .at) w ∙ o .slot ∙ slot-other f g j past n;
+              store = left (o .at) w ∙ o .store
+                  ∙ sym (pieces-other f g j past n);
+            });
         alone = λ t u lt lu et eu i.
             either (set-cases row s v free t (omega (arith, h .row-ok .four)))
             (λ c. either (set-cases row s v free u (omega (arith, h .row-ok .four)))
@@ -139,13 +149,16 @@ module _ (p : ℕ) (frames : List Frame) where
             (λ d. h .alone t u lt lu (rw (c .1) at et) (rw (d .1) at eu) (cc (i, c .1, d .1))));
       }
 
-module _ (W : Answers) (header : List ℕ → Seen W) (judge : ℕ → Note → List ℕ → Verdict W) (p : ℕ) (p< : p < 8) (frames : List Frame) (items : List Item)
+module _ (W : Answers) (header : List ℕ → Reading W) (judge : ℕ → Note → List ℕ → Verdict W) (p : ℕ) (p< : p < 8) (frames : List Frame) (items : List Item)
     (cuts : (f : ℕ) → f < length frames → Cut W header judge p (frameOf frames f)) (mix : Mixing W header p frames items) where
   -- the frames pending at an item, from what was before it and what is after it
   way : (past : List Item) (now : Item) (fut : List Item) (g : ℕ) → 0 < segmentsOf g (now ∷ past) → 0 < segmentsOf g (now ∷ fut)
       → pendingAt (reverse past) now fut g ≡ true
   way past now fut g b u =
-      cc (lt-ltb 0 (segmentsOf g (reverse past ++ (now ∷ []))) (omega (arith, of-append g (reverse past) (now ∷ []), of-back g past [])), lt-ltb 0 (segmentsOf g (now ∷ fut)) u)
+      cc (
+        lt-ltb 0 (segmentsOf g (reverse past ++ (now ∷ []))) (omega (arith, of-append g (reverse past) (now ∷ []), of-back g past [])),
+        lt-ltb 0 (segmentsOf g (now ∷ fut)) u,
+      )
 
   split-here : (past : List Item) (now : Item) (fut : List Item) → reverseAux past (now ∷ fut) ≡ items → items ≡ reverse past ++ (now ∷ fut)
   split-here past now fut is = sym is ∙ reverseAux-eq past (now ∷ fut)
@@ -164,7 +177,10 @@ module _ (W : Answers) (header : List ℕ → Seen W) (judge : ℕ → Note → 
     real : (k : ℕ) → 0 < times f k (now ∷ past) + times f k fut → (f < length frames) × (k < length (fr .parts))
     real k l =
         caseB (isSegment frames f k)
-        (λ e. (ltb-true _ _ (and-l (ltb f (length frames)) (ltb k (length (fr .parts))) e), ltb-true _ _ (and-r (ltb f (length frames)) (ltb k (length (fr .parts))) e)))
+        (λ e. (
+          ltb-true _ _ (and-l (ltb f (length frames)) (ltb k (length (fr .parts))) e),
+          ltb-true _ _ (and-r (ltb f (length frames)) (ltb k (length (fr .parts))) e),
+        ))
         (λ e. absurd (omega (arith, rw e at (counts k))))
 
     once-at : (k : ℕ) → times f k (now ∷ past) + times f k fut ≤ 1
@@ -223,7 +239,8 @@ module _ (W : Answers) (header : List ℕ → Seen W) (judge : ℕ → Note → 
         caseB (receivedIn (pieces frames f past) (offsetOf (fr .parts) j + i))
         (λ e. let h : Holder frames f past (offsetOf (fr .parts) j + i) = received-by frames f past (offsetOf (fr .parts) j + i) e in
         let lh : h .seg < length (fr .parts) = real (h .seg) (omega (arith, h .was)) .1 in
-        let q : h .seg ≡ j = part-one (fr .parts) (h .seg) j (offsetOf (fr .parts) j + i) lh lj (h .here) (within-is (offsetOf (fr .parts) j) (size (fr .parts) j) _ (omega arith) (omega arith)) in
+        let q : h .seg ≡ j = part-one (fr .parts) (h .seg) j (offsetOf (fr .parts) j + i) lh lj (h .here)
+        (within-is (offsetOf (fr .parts) j) (size (fr .parts) j) _ (omega arith) (omega arith)) in
         absurd (omega (arith, once-at j, is-now, rw q at (h .was))))
         (λ e. e)
 
@@ -241,7 +258,8 @@ module _ (W : Answers) (header : List ℕ → Seen W) (judge : ℕ → Note → 
     note-right : segmentsOf f fut ≡ 0 → notes frames f (now ∷ past) ≡ frameNote fr
     note-right z =
         notes-all frames f (now ∷ past) (λ k t. real k (omega arith) .1)
-        (λ k l. let c : times f k (now ∷ past) + times f k fut ≡ 1 = cc (counts k, lt-ltb f (length frames) lf, lt-ltb k (length (fr .parts)) l) in omega (arith, times-le f k fut))
+        (λ k l. let c : times f k (now ∷ past) + times f k fut ≡ 1 = cc (counts k, lt-ltb f (length frames) lf, lt-ltb k (length (fr .parts)) l) in
+        omega (arith, times-le f k fut))
         (λ k l. cut .some-byte k l)
 
     -- another frame pending bears another identifier
@@ -274,7 +292,8 @@ module _ (W : Answers) (header : List ℕ → Seen W) (judge : ℕ → Note → 
         let w : complete ghost m′ (slotNo p s) (length (fr .content)) ≡ false = complete-is m′ (slotNo p s) (length (fr .content)) _ st ∙ complete-no u in
         rw w
         (record {
-          seats = settle p frames past fut f j s row m m′ v lf ls (cut .most) h others mine (λ g lg b u. near g lg b (omega arith)) st left (λ t. (vs, u)) (λ t. vs);
+          seats = settle p frames past fut f j s row m m′ v lf ls (cut .most) h others mine (λ g lg b u. near g lg b (omega arith)) st left (λ t. (vs, u))
+              (λ t. vs);
           waits = λ t. refl;
           slot = s;
           is-slot = ls;
@@ -286,7 +305,8 @@ module _ (W : Answers) (header : List ℕ → Seen W) (judge : ℕ → Note → 
         let w : complete ghost m′ (slotNo p s) (length (fr .content)) ≡ true = complete-is m′ (slotNo p s) (length (fr .content)) _ st ∙ complete-yes z in
         rw (w, set-set)
         (record {
-          seats = settle p frames past fut f j s row m m′ free lf ls (cut .most) h others mine (λ g lg b u. near g lg b (omega arith)) st left (λ t. clash (cc)) (λ t. absurd (omega arith));
+          seats = settle p frames past fut f j s row m m′ free lf ls (cut .most) h others mine (λ g lg b u. near g lg b (omega arith)) st left
+              (λ t. clash (cc)) (λ t. absurd (omega arith));
           waits = λ t. absurd (omega arith);
           slot = s;
           is-slot = ls;
@@ -344,7 +364,8 @@ module _ (W : Answers) (header : List ℕ → Seen W) (judge : ℕ → Note → 
           caseO (first (bears (fr .identifier)) row)
           (λ n. n)
           (λ t n. let b : First (bears (fr .identifier)) row t = first-some (bears (fr .identifier)) row t n in
-          absurd (strange t (b .is-slot) (bears-pending (fr .identifier) (getD row t free) (b .passes)) (bears-identifier (fr .identifier) (getD row t free) (b .passes))))
+          absurd (strange t (b .is-slot) (bears-pending (fr .identifier) (getD row t free) (b .passes))
+          (bears-identifier (fr .identifier) (getD row t free) (b .passes))))
 
       not-full : first isFree row ≡ none → ⊥
       not-full e =
@@ -396,7 +417,7 @@ module _ (W : Answers) (header : List ℕ → Seen W) (judge : ℕ → Note → 
           notes-none (given g j ∷ past) z = caseB (eqb g f) (λ e. absurd (omega (arith, rw e at z))) (λ e. rw e (notes-none past (omega (arith, rw e at z))))
           notes-none (other e ∷ past) z = notes-none past (omega arith)
 
-    pub take-step : (row : Row) (m : ℕ → List Piece) → Seats p frames past (now ∷ fut) (row .slots) m → Step (takeSegment ghost p row m (states fr j))
+    pub take-step : (row : Peer) (m : ℕ → List Piece) → Seats p frames past (now ∷ fut) (row .slots) m → Step (takeSegment ghost p row m (states fr j))
     unfolding takeSegment
     take-step row m h =
         caseB (ltb 0 (segmentsOf f past))
@@ -409,7 +430,12 @@ module _ (W : Answers) (header : List ℕ → Seen W) (judge : ℕ → Note → 
   young-by past fut is g a c =
       let e : items ≡ a .before ++ (given g (a .seg) ∷ ((a .middle ++ (other tick ∷ c .before)) ++ (given g (c .seg) ∷ c .after))) =
       split-here past (other tick) fut is ∙ rw (a .is, c .is) (simp append-assoc) in
-      omega (arith, mix .soon (a .before) (a .middle ++ (other tick ∷ c .before)) (c .after) g (a .seg) (c .seg) e, ticks-append (a .middle) (other tick ∷ c .before), a .aged)
+      omega (
+        arith,
+        mix .soon (a .before) (a .middle ++ (other tick ∷ c .before)) (c .after) g (a .seg) (c .seg) e,
+        ticks-append (a .middle) (other tick ∷ c .before),
+        a .aged,
+      )
 
   young : (past fut : List Item) → reverseAux past (other tick ∷ fut) ≡ items → (g : ℕ) → 0 < segmentsOf g past → 0 < segmentsOf g fut
       → age frames g past + 1 < lifetime
@@ -448,7 +474,8 @@ module _ (W : Answers) (header : List ℕ → Seen W) (judge : ℕ → Note → 
         row-ok =
             record {
               four = length-map row older ∙ h .row-ok .four;
-              sizes = λ s ls e. let o : Owner p frames (other tick ∷ past) fut (map older row) m s = now s ls e in rw (o .slot) (cuts (o .frame) (o .is-frame) .most);
+              sizes = λ s ls e. let o : Owner p frames (other tick ∷ past) fut (map older row) m s = now s ls e in
+                  rw (o .slot) (cuts (o .frame) (o .is-frame) .most);
             };
         owner = now;
         seat = λ g lg b u.
@@ -465,7 +492,14 @@ module _ (W : Answers) (header : List ℕ → Seen W) (judge : ℕ → Note → 
       record {
         row-ok = h .row-ok;
         owner = λ s ls e. let o : Owner p frames past (other (receive k) ∷ fut) row m s = h .owner s ls e in
-            record { frame = o .frame; is-frame = o .is-frame; begun = omega (arith, o .begun); unfinished = omega (arith, o .unfinished); slot = o .slot; store = o .store };
+            record {
+              frame = o .frame;
+              is-frame = o .is-frame;
+              begun = omega (arith, o .begun);
+              unfinished = omega (arith, o .unfinished);
+              slot = o .slot;
+              store = o .store;
+            };
         seat = λ g lg b u. let o : Seat p frames past row m g = h .seat g lg (omega arith) (omega arith) in
             record { at = o .at; is-slot = o .is-slot; slot = o .slot; store = o .store };
         alone = h .alone;

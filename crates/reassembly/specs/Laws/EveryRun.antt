@@ -3,7 +3,7 @@ use mathlib.Core.Path.{_≡_, refl, sym, ap, subst, _∙_}
 use mathlib.Core.Logic.{_≢_}
 use mathlib.Core.Bool.{Bool, true, false, cond}
 use mathlib.Core.List.{List, [], _∷_, _++_}
-use Prim.Native.Nat.{ℕ, _+_, _-_, _*_, _≤_, _<_}
+use Prim.Native.Nat.{ℕ, _+_, _*_, _≤_, _<_}
 use native.Mathlib.Omega.{arith}
 use lib.ListN.{length, getD, set}
 use lib.Seq.{getD-set-same, getD-set-other}
@@ -11,21 +11,26 @@ use lib.Dec.{eqb}
 use borrow.Author.Tests.{le-ltb, eq-eqb, ne-eqb, eqb-true, eqb-false}
 use Rattle.reassembly.specs.Base.{allBelow}
 use Rattle.reassembly.specs.Laws.Base.{caseB, either, clash, getD-table}
-use Rattle.reassembly.specs.Slots.{Slot, Row, Note, noRow, noteOf, noNote, free, emptyRows}
-use Rattle.reassembly.specs.Take.{slotNo, Seg, Rejection, Outcome, Rejected, Pending, Complete, NoMemory, AlreadyReceived, rejectionCode, Choice, reject, old, fresh, chosen, noteAfter, openedSlot, furtherSlot, Effect, overlaps, frameIn, placed, takeSegment, Fits}
+use Rattle.reassembly.specs.Slots.{Slot, Peer, Note, noRow, noteOf, noNote, free, emptyRows}
+use Rattle.reassembly.specs.Take.{slotNo, Seg, Rejection, Outcome, Rejected, Pending, Complete, NoMemory, AlreadyReceived, rejectionCode, Choice, reject}
+use Rattle.reassembly.specs.Take.{old, fresh, chosen, noteAfter, openedSlot, furtherSlot, Effect, overlaps, frameIn, placed, takeSegment, Fits}
 use Rattle.reassembly.specs.Laws.TakeFacts.{finish-mem, take-rejects}
 use Rattle.reassembly.specs.Store.{bytesOf, takeIn, putAt, clearAt, byteAt, slotStart}
-use Rattle.reassembly.specs.Receive.{Answers, Verdict, Seen, stranger, plain, segment, Event, receive, tick, told}
+use Rattle.reassembly.specs.Receive.{Answers, Verdict, Reading, otherSender, direct, segment, Event, receive, tick, takeAnswer}
 use Rattle.reassembly.specs.Laws.Runs.{State, react, after, rows-older}
-use Rattle.reassembly.specs.SetUp.{Layers, Promised, Endpoint, World, setUp, saidOf, receives, next, runs}
+use Rattle.reassembly.specs.SetUp.{Layers, Promised, Endpoint, World, setUp, receiveBy, receives, next, runs}
 use Rattle.reassembly.specs.Laws.NonInterference.{empty-at, empty-free, start, ghostStart}
 use Rattle.reassembly.specs.Laws.Ghost.{ghost}
 use Rattle.reassembly.specs.Laws.Claim.{set-up-rows, next-at}
-use Rattle.reassembly.specs.History.{OneOf, OfFrame, Log, writes, enters, entered, taking, logSeen, logNext, logRun, takenSince, frameComplete, framePending, History, Fifteen, Sixteen, Seventeen, Further, Opens, resets, restarts, restarted, clockSeen, clockNext, clockRun, ticksSince, historyOf}
+use Rattle.reassembly.specs.History.{OneOf, OfFrame, Log, writes, enters, entered, taking, logSeen, logNext, logRun, takenSince, frameComplete}
+use Rattle.reassembly.specs.History.{framePending, History, Fifteen, Sixteen, Seventeen, Further, Opens, resets, restarts, restarted, clockSeen}
+use Rattle.reassembly.specs.History.{clockNext, clockRun, ticksSince, historyOf}
 use Rattle.reassembly.specs.Laws.Log.{AllOf, all-of-at, apart-at, Logs, writes-same, writes-other}
-use Rattle.reassembly.specs.Laws.Carried.{came-at, completes, world, Inv, step, Reach, reached, begin, from, log-snoc, alike, in-memory, same-outcome, log-now}
+use Rattle.reassembly.specs.Laws.Carried.{came-at, completes, world, Inv, step, Reach, reached, begin, from, log-snoc, alike, in-memory, same-outcome}
+use Rattle.reassembly.specs.Laws.Carried.{log-now}
 use Rattle.reassembly.specs.EveryRun.{frameAt, Taken, Unchanged, Fourteen, Ruled, Stands, EveryRun}
-use Rattle.reassembly.specs.Laws.RulesTake.{covered-is, Stand, under-young, holds-one, chosen-unfit, chosen-old, chosen-new, take-stand, tick-stand, take-by, told-15, told-16, told-17, told-further, told-opens, OneCase, one-case}
+use Rattle.reassembly.specs.Laws.RulesTake.{covered-is, Stand, under-young, holds-one, chosen-unfit, chosen-old, chosen-new, take-stand, tick-stand}
+use Rattle.reassembly.specs.Laws.RulesTake.{take-by, told-15, told-16, told-17, told-further, told-opens, OneCase, one-case}
 use Rattle.reassembly.specs.Laws.RulesTouch.{touches-further, touches-opens}
 
 -- ---- one outcome is not another
@@ -51,7 +56,7 @@ restarted-taken C c false s = refl
 
 -- ---- the memory of a segment that is taken
 
-module _ (p : ℕ) (row : Row) (m : List ℕ) (g : Seg) where
+module _ (p : ℕ) (row : Peer) (m : List ℕ) (g : Seg) where
   mem-old : (s : ℕ) (b : Bool) → chosen (row .slots) g ≡ old s → takeSegment bytesOf p row m g .outcome ≡ cond b (Complete s) Pending
       → takeSegment bytesOf p row m g .mem ≡ putAt m (slotNo p s) (g .offset) (g .bytes)
   mem-old s b e o =
@@ -61,7 +66,8 @@ module _ (p : ℕ) (row : Row) (m : List ℕ) (g : Seg) where
       let y : 16 ≡ codeOf (cond b (Complete s) Pending) = sym (ap codeOf z) ∙ sym (ap (λ (x : Effect bytesOf). codeOf (x .outcome)) t) ∙ ap codeOf o in
       absurd (omega (arith, taken-code b s)))
       (λ q. ap (λ (x : Effect bytesOf). x .mem) t ∙ rw q
-      (finish-mem bytesOf p s (set (row .slots) s (furtherSlot (getD (row .slots) s free) g)) (putAt m (slotNo p s) (g .offset) (g .bytes)) g (noteAfter (noteOf (getD (row .slots) s free)) g)))
+      (finish-mem bytesOf p s (set (row .slots) s (furtherSlot (getD (row .slots) s free) g)) (putAt m (slotNo p s) (g .offset) (g .bytes)) g
+      (noteAfter (noteOf (getD (row .slots) s free)) g)))
 
   mem-new : (s : ℕ) → chosen (row .slots) g ≡ fresh s → takeSegment bytesOf p row m g .mem ≡ putAt (clearAt m (slotNo p s)) (slotNo p s) (g .offset) (g .bytes)
   mem-new s e =
@@ -79,7 +85,7 @@ module _ (W : Answers) (Config : Type 0) (U : Layers W Config) where
   runs-snoc (v ∷ es) w e = runs-snoc es (next W Config U w v) e
 
 module _ (W : Answers) (Config : Type 0) (U : Layers W Config) (p : ℕ) (p< : p < 8) (c : Config) (promise : Promised W Config U c) where
-  abbrev header : List ℕ → Seen W
+  abbrev header : List ℕ → Reading W
   header k = U .header c k
 
   abbrev judge : ℕ → Note → List ℕ → Verdict W
@@ -88,8 +94,8 @@ module _ (W : Answers) (Config : Type 0) (U : Layers W Config) (p : ℕ) (p< : p
   abbrev at : State bytesOf → World Config
   at s = world W Config U p p< c promise s
 
-  abbrev rowIn : State bytesOf → Row
-  rowIn s = getD (s .rows) p noRow
+  abbrev rowIn : State bytesOf → Peer
+  rowIn s = getD (s .peers) p noRow
 
   abbrev Holding : List Event → State bytesOf → State ghost → Log → Type 0
   Holding past s g L = Inv W Config U p p< c promise past s g L
@@ -102,33 +108,35 @@ module _ (W : Answers) (Config : Type 0) (U : Layers W Config) (p : ℕ) (p< : p
 
   -- ---- one event
 
-  seen-stand : (past : List Event) (s : State bytesOf) (g : State ghost) (L : Log) (C : ℕ → ℕ) (k : List ℕ) (x : Seen W) → header k ≡ x
+  seen-stand : (past : List Event) (s : State bytesOf) (g : State ghost) (L : Log) (C : ℕ → ℕ) (k : List ℕ) (x : Reading W) → header k ≡ x
       → Holding past s g L → Stand (rowIn s .slots) (told-of L C)
       → Stand (rowIn (react W judge bytesOf s x .state) .slots) (told-of (logSeen W Config U p (at s) L x) (clockSeen W Config U p (at s) C x))
-  seen-stand past s g L C k (stranger a) e h st = st
-  seen-stand past s g L C k (plain q a) e h st = st
+  seen-stand past s g L C k (otherSender a) e h st = st
+  seen-stand past s g L C k (direct q a) e h st = st
   seen-stand past s g L C k (segment q x) e h st =
       caseB (eqb q p)
       (λ m. let z : q ≡ p = eqb-true q p m in
       let o : Effect bytesOf = takeSegment bytesOf p (rowIn s) (s .mem) x in
       let e′ : header k ≡ segment p x = e ∙ ap (λ (n : ℕ). segment n x) z in
       let l = alike W Config U p p< c promise past s g L h k x e′ in
-      let r : getD (set (s .rows) p (o .row)) p noRow ≡ takeSegment ghost p (rowIn s) (g .mem) x .row = getD-set-same (s .rows) p (o .row) noRow (omega (arith, h .sim .eightA)) ∙ l .row in
+      let r : getD (set (s .peers) p (o .row)) p noRow ≡ takeSegment ghost p (rowIn s) (g .mem) x .row =
+      getD-set-same (s .peers) p (o .row) noRow (omega (arith, h .sim .eightA)) ∙ l .row in
       rw (m, z, same-outcome W Config U p p< c promise past s g L h k x e′) (rw r (take-stand p (rowIn s) (g .mem) (told-of L C) x (logs-in past s g L h) st)))
       (λ m. let n : p ≢ q = λ z. eqb-false q p m (sym z) in
-      let r : getD (set (s .rows) q (takeSegment bytesOf q (getD (s .rows) q noRow) (s .mem) x .row)) p noRow ≡ rowIn s = getD-set-other (s .rows) q p _ noRow n in
+      let r : getD (set (s .peers) q (takeSegment bytesOf q (getD (s .peers) q noRow) (s .mem) x .row)) p noRow ≡ rowIn s =
+      getD-set-other (s .peers) q p _ noRow n in
       rw (m, r) st)
 
   event-stand : (past : List Event) (s : State bytesOf) (g : State ghost) (L : Log) (C : ℕ → ℕ) (e : Event) → Holding past s g L
       → Stand (rowIn s .slots) (told-of L C)
       → Stand (rowIn (after W judge bytesOf header s e) .slots) (told-of (logNext W Config U p (at s) L e) (clockNext W Config U p (at s) C e))
-  event-stand past s g L C tick h st = rw (rows-older (s .rows) p) (tick-stand (rowIn s .slots) (told-of L C) st)
+  event-stand past s g L C tick h st = rw (rows-older (s .peers) p) (tick-stand (rowIn s .slots) (told-of L C) st)
   event-stand past s g L C (receive k) h st = seen-stand past s g L C k (header k) refl h st
 
   -- ---- a run
 
   abbrev StandAfter : World Config → Log → (ℕ → ℕ) → List Event → Type 0
-  StandAfter w L C es = Stand (getD (runs W Config U w es .ends .rows) p noRow .slots) (told-of (logRun W Config U p w L es) (clockRun W Config U p w C es))
+  StandAfter w L C es = Stand (getD (runs W Config U w es .ends .peers) p noRow .slots) (told-of (logRun W Config U p w L es) (clockRun W Config U p w C es))
 
   run-stand : (es past : List Event) (s : State bytesOf) (g : State ghost) (L : Log) (C : ℕ → ℕ) → Holding past s g L
       → Stand (rowIn s .slots) (told-of L C) → StandAfter (at s) L C es
@@ -162,7 +170,8 @@ module _ (W : Answers) (Config : Type 0) (U : Layers W Config) (p : ℕ) (p< : p
 
   -- ---- one more packet, which carries segment x of peer p's
 
-  module _ (past : List Event) (s : State bytesOf) (g : State ghost) (L : Log) (C : ℕ → ℕ) (h : Holding past s g L) (st : Stand (rowIn s .slots) (told-of L C)) (k : List ℕ) (x : Seg) (e : header k ≡ segment p x) where
+  module _ (past : List Event) (s : State bytesOf) (g : State ghost) (L : Log) (C : ℕ → ℕ) (h : Holding past s g L) (st : Stand (rowIn s .slots) (told-of L C))
+      (k : List ℕ) (x : Seg) (e : header k ≡ segment p x) where
     abbrev before : History
     before = told-of L C
 
@@ -250,13 +259,15 @@ module _ (W : Answers) (Config : Type 0) (U : Layers W Config) (p : ℕ) (p< : p
           let o : ghostTold ≡ cond (frameComplete (x ∷ L t)) (Complete t) Pending = told-further p (rowIn s) (g .mem) before lg st x f t w in
           let a : logNext W Config U p (at s) L (receive k) ≡ writes L t (x ∷ L t) = log-by (old t) (frameComplete (x ∷ L t)) t q o in
           let b : clockNext W Config U p (at s) C (receive k) ≡ C = clock-by (old t) (frameComplete (x ∷ L t)) t q o in
-          let r : takeSegment bytesOf p (rowIn s) (s .mem) x .outcome ≡ cond (frameComplete (x ∷ L t)) (Complete t) Pending = sym (ap (λ (y : Effect bytesOf). y .outcome) in-bytes) ∙ same ∙ o in
+          let r : takeSegment bytesOf p (rowIn s) (s .mem) x .outcome ≡ cond (frameComplete (x ∷ L t)) (Complete t) Pending =
+          sym (ap (λ (y : Effect bytesOf). y .outcome) in-bytes) ∙ same ∙ o in
           record {
             outcome = same ∙ o;
             segments = ap (λ (y : Log). y t) a ∙ writes-same L t (x ∷ L t);
             clock = ap (λ (y : ℕ → ℕ). y t) b;
             others = λ u n. (ap (λ (y : Log). y u) a ∙ writes-other L t (x ∷ L t) u n, ap (λ (y : ℕ → ℕ). y u) b);
-            touches = rw (left, mem-old p (rowIn s) (s .mem) x t (frameComplete (x ∷ L t)) q r) (touches-further p t p< (w .bears .is-slot) x f (s .mem) (h .sim .same .okA));
+            touches = rw (left, mem-old p (rowIn s) (s .mem) x t (frameComplete (x ∷ L t)) q r)
+                (touches-further p t p< (w .bears .is-slot) x f (s .mem) (h .sim .same .okA));
             of-frame = all-of-at (x .identifier) (x .frame-length) (x ∷ L t) (it-fits, of-pending t w);
             once = apart-at (x ∷ L t) ((λ i y. sym (covered-is (L t) i) ∙ w .apart i y), lg .all-apart t (w .bears .is-slot) (pending-at t w));
             bytes = bytes-now t (x ∷ L t) o (ap (λ (y : Log). y t) a ∙ writes-same L t (x ∷ L t));
@@ -332,35 +343,47 @@ module _ (W : Answers) (Config : Type 0) (U : Layers W Config) (p : ℕ) (p< : p
           }
 
   ruled-from : (m : List ℕ) → 55296 ≤ length m → (es : List Event) (k : List ℕ) (g : Seg) → header k ≡ segment p g → Fits g
-      → Ruled p g (historyOf W Config U p (begun m) es) (historyOf W Config U p (begun m) (es ++ (receive k ∷ []))) (taking W Config U p (runs W Config U (begun m) es) g .outcome)
+      → Ruled p g (historyOf W Config U p (begun m) es) (historyOf W Config U p (begun m) (es ++ (receive k ∷ [])))
+      (taking W Config U p (runs W Config U (begun m) es) g .outcome)
       (runs W Config U (begun m) es .mem) (runs W Config U (begun m) (es ++ (receive k ∷ [])) .mem)
   ruled-from m o es k g e f =
       let r : Reach W Config U p p< c promise [] es (start bytesOf m) (λ t. []) = reached W Config U p p< c promise m o es in
       let st : Stand (rowIn (r .state) .slots) (historyOf W Config U p (begun m) es) =
-      subst (λ (w : World Config). Stand (getD (w .ends .rows) p noRow .slots) (historyOf W Config U p (begun m) es)) (r .is) (stand-from m o es) in
-      rw (log-snoc W Config U p p< c promise es (begun m) (λ t. []) (receive k), clock-snoc es (begun m) (λ t. 0) (receive k), runs-snoc W Config U es (begun m) (receive k), r .is)
+      subst (λ (w : World Config). Stand (getD (w .ends .peers) p noRow .slots) (historyOf W Config U p (begun m) es)) (r .is) (stand-from m o es) in
+      rw (
+        log-snoc W Config U p p< c promise es (begun m) (λ t. []) (receive k),
+        clock-snoc es (begun m) (λ t. 0) (receive k),
+        runs-snoc W Config U es (begun m) (receive k),
+        r .is,
+      )
       (ruled-at es (r .state) (r .ghosts) (takenSince W Config U p (begun m) es) (ticksSince W Config U p (begun m) es) (r .inv) st k g e f)
 
   fourteen-from : (m : List ℕ) → 55296 ≤ length m → (es : List Event) (k : List ℕ) (g : Seg) → header k ≡ segment p g → (Fits g → ⊥)
-      → Fourteen (historyOf W Config U p (begun m) es) (historyOf W Config U p (begun m) (es ++ (receive k ∷ []))) (taking W Config U p (runs W Config U (begun m) es) g .outcome)
+      → Fourteen (historyOf W Config U p (begun m) es) (historyOf W Config U p (begun m) (es ++ (receive k ∷ [])))
+      (taking W Config U p (runs W Config U (begun m) es) g .outcome)
       (runs W Config U (begun m) es .mem) (runs W Config U (begun m) (es ++ (receive k ∷ [])) .mem)
   fourteen-from m o es k g e f =
       let r : Reach W Config U p p< c promise [] es (start bytesOf m) (λ t. []) = reached W Config U p p< c promise m o es in
       let st : Stand (rowIn (r .state) .slots) (historyOf W Config U p (begun m) es) =
-      subst (λ (w : World Config). Stand (getD (w .ends .rows) p noRow .slots) (historyOf W Config U p (begun m) es)) (r .is) (stand-from m o es) in
-      rw (log-snoc W Config U p p< c promise es (begun m) (λ t. []) (receive k), clock-snoc es (begun m) (λ t. 0) (receive k), runs-snoc W Config U es (begun m) (receive k), r .is)
+      subst (λ (w : World Config). Stand (getD (w .ends .peers) p noRow .slots) (historyOf W Config U p (begun m) es)) (r .is) (stand-from m o es) in
+      rw (
+        log-snoc W Config U p p< c promise es (begun m) (λ t. []) (receive k),
+        clock-snoc es (begun m) (λ t. 0) (receive k),
+        runs-snoc W Config U es (begun m) (receive k),
+        r .is,
+      )
       (fourteen-at es (r .state) (r .ghosts) (takenSince W Config U p (begun m) es) (ticksSince W Config U p (begun m) es) (r .inv) st k g e f)
 
   -- a packet that carries no segment of the peer's; no segment at all
-  seen-left : (s : State bytesOf) (L : Log) (C : ℕ → ℕ) (x : Seen W) → ((g : Seg) → x ≡ segment p g → ⊥)
+  seen-left : (s : State bytesOf) (L : Log) (C : ℕ → ℕ) (x : Reading W) → ((g : Seg) → x ≡ segment p g → ⊥)
       → (logSeen W Config U p (at s) L x ≡ L) × (clockSeen W Config U p (at s) C x ≡ C)
-  seen-left s L C (stranger a) n = (refl, refl)
-  seen-left s L C (plain q a) n = (refl, refl)
+  seen-left s L C (otherSender a) n = (refl, refl)
+  seen-left s L C (direct q a) n = (refl, refl)
   seen-left s L C (segment q g) n = caseB (eqb q p) (λ e. absurd (n g (ap (λ (y : ℕ). segment y g) (eqb-true q p e)))) (λ e. rw e (refl, refl))
 
-  said-left : (s : State bytesOf) (x : Seen W) → ((q : ℕ) (g : Seg) → x ≡ segment q g → ⊥) → saidOf W Config U (at s) x .world .mem ≡ s .mem
-  said-left s (stranger a) n = refl
-  said-left s (plain q a) n = refl
+  said-left : (s : State bytesOf) (x : Reading W) → ((q : ℕ) (g : Seg) → x ≡ segment q g → ⊥) → receiveBy W Config U (at s) x .world .mem ≡ s .mem
+  said-left s (otherSender a) n = refl
+  said-left s (direct q a) n = refl
   said-left s (segment q g) n = absurd (n q g refl)
 
   told-left : (m : List ℕ) → 55296 ≤ length m → (es : List Event) (k : List ℕ) → ((g : Seg) → header k ≡ segment p g → ⊥)
@@ -369,10 +392,13 @@ module _ (W : Answers) (Config : Type 0) (U : Layers W Config) (p : ℕ) (p< : p
       let r : Reach W Config U p p< c promise [] es (start bytesOf m) (λ t. []) = reached W Config U p p< c promise m o es in
       let x = seen-left (r .state) (takenSince W Config U p (begun m) es) (ticksSince W Config U p (begun m) es) (header k) n in
       let a : logRun W Config U p (begun m) (λ t. []) (es ++ (receive k ∷ [])) ≡ takenSince W Config U p (begun m) es =
-      log-snoc W Config U p p< c promise es (begun m) (λ t. []) (receive k) ∙ ap (λ (w : World Config). logNext W Config U p w (takenSince W Config U p (begun m) es) (receive k)) (r .is) ∙ x .0 in
+      log-snoc W Config U p p< c promise es (begun m) (λ t. []) (receive k)
+      ∙ ap (λ (w : World Config). logNext W Config U p w (takenSince W Config U p (begun m) es) (receive k)) (r .is) ∙ x .0 in
       let b : clockRun W Config U p (begun m) (λ t. 0) (es ++ (receive k ∷ [])) ≡ ticksSince W Config U p (begun m) es =
-      clock-snoc es (begun m) (λ t. 0) (receive k) ∙ ap (λ (w : World Config). clockNext W Config U p w (ticksSince W Config U p (begun m) es) (receive k)) (r .is) ∙ x .1 in
-      ap (λ (y : Log). told-of y (clockRun W Config U p (begun m) (λ t. 0) (es ++ (receive k ∷ [])))) a ∙ ap (λ (y : ℕ → ℕ). told-of (takenSince W Config U p (begun m) es) y) b
+      clock-snoc es (begun m) (λ t. 0) (receive k) ∙ ap (λ (w : World Config). clockNext W Config U p w (ticksSince W Config U p (begun m) es) (receive k))
+      (r .is) ∙ x .1 in
+      ap (λ (y : Log). told-of y (clockRun W Config U p (begun m) (λ t. 0) (es ++ (receive k ∷ [])))) a
+      ∙ ap (λ (y : ℕ → ℕ). told-of (takenSince W Config U p (begun m) es) y) b
 
   memory-left : (m : List ℕ) → 55296 ≤ length m → (es : List Event) (k : List ℕ) → ((q : ℕ) (g : Seg) → header k ≡ segment q g → ⊥)
       → runs W Config U (begun m) (es ++ (receive k ∷ [])) .mem ≡ runs W Config U (begun m) es .mem
@@ -384,17 +410,19 @@ module _ (W : Answers) (Config : Type 0) (U : Layers W Config) (p : ℕ) (p< : p
 
   answered-from : (m : List ℕ) → 55296 ≤ length m → (es : List Event) (k : List ℕ) (g : Seg) → header k ≡ segment p g
       → receives W Config U (runs W Config U (begun m) es) k .reply
-      ≡ told W judge bytesOf p g (taking W Config U p (runs W Config U (begun m) es) g) (taking W Config U p (runs W Config U (begun m) es) g .outcome) .reply
+      ≡ takeAnswer W judge bytesOf p g (taking W Config U p (runs W Config U (begun m) es) g)
+      (taking W Config U p (runs W Config U (begun m) es) g .outcome) .reply
   answered-from m o es k g e =
       let r : Reach W Config U p p< c promise [] es (start bytesOf m) (λ t. []) = reached W Config U p p< c promise m o es in
       rw (r .is) (rw (le-ltb (length (r .state .mem)) 55296 (r .inv .sim .same .okA), e) refl)
 
-  every-from : EveryRun W Config U p (record { config = c; rows = emptyRows })
+  every-from : EveryRun W Config U p (record { config = c; peers = emptyRows })
   every-from =
       record {
         begins = λ m s. refl;
         stands = λ m o es s l. stand-from m o es .stands s l;
-        distinct = λ m o es id s t a b. holds-one (getD (runs W Config U (begun m) es .ends .rows) p noRow .slots) (historyOf W Config U p (begun m) es) (stand-from m o es) id s t a b;
+        distinct = λ m o es id s t a b. holds-one (getD (runs W Config U (begun m) es .ends .peers) p noRow .slots) (historyOf W Config U p (begun m) es)
+            (stand-from m o es) id s t a b;
         came = λ m o es s j l. came-at W Config U p c es (takenSince W Config U p (begun m) es s) (reached W Config U p p< c promise m o es .inv .came s) j l;
         ruled = ruled-from;
         answered = answered-from;
@@ -404,18 +432,19 @@ module _ (W : Answers) (Config : Type 0) (U : Layers W Config) (p : ℕ) (p< : p
             record { taken = λ t. ap (λ (y : History). y .taken t) q; ticks = λ t. ap (λ (y : History). y .ticks t) q; memory = memory-left m o es k n };
         another's = λ m o es k q g e n. told-left m o es k (λ x y. n (peer-is q p g x (sym e ∙ y)));
         ticked = λ m o es. (
-          ap (λ (y : Log). told-of y (clockRun W Config U p (begun m) (λ t. 0) (es ++ (tick ∷ [])))) (log-snoc W Config U p p< c promise es (begun m) (λ t. []) tick)
+          ap (λ (y : Log). told-of y (clockRun W Config U p (begun m) (λ t. 0) (es ++ (tick ∷ []))))
+              (log-snoc W Config U p p< c promise es (begun m) (λ t. []) tick)
               ∙ ap (λ (y : ℕ → ℕ). told-of (takenSince W Config U p (begun m) es) y) (clock-snoc es (begun m) (λ t. 0) tick),
           ap (λ (w : World Config). w .mem) (runs-snoc W Config U es (begun m) tick),
         );
       }
     where
-      peerOr : ℕ → Seen W → ℕ
-      peerOr d (stranger a) = d
-      peerOr d (plain q a) = d
+      peerOr : ℕ → Reading W → ℕ
+      peerOr d (otherSender a) = d
+      peerOr d (direct q a) = d
       peerOr d (segment q g) = q
 
-      peer-is : (q p : ℕ) (g x : Seg) → _≡_ {A = Seen W} (segment q g) (segment p x) → q ≡ p
+      peer-is : (q p : ℕ) (g x : Seg) → _≡_ {A = Reading W} (segment q g) (segment p x) → q ≡ p
       peer-is q p g x e = ap (peerOr 0) e
 
 -- ---- what `Stands` comes to: three ticks at most, and at the fourth the frame is gone, whatever came between
@@ -429,7 +458,8 @@ given-up v gs t w l = caseB (v .pending) (λ e. absurd (omega (arith, young v gs
 module _ (W : Answers) (Config : Type 0) (U : Layers W Config) (p : ℕ) (Adding : Type 0) (adds : Config → Adding → Config) where
   pub every-run : (c : Config) (as′ : List Adding) → Promised W Config U (setUp Config Adding adds c as′ .config) → p < 8
       → EveryRun W Config U p (setUp Config Adding adds c as′)
-  every-run c as′ promised p< = of (setUp Config Adding adds c as′) (set-up-rows Config Adding adds as′ (record { config = c; rows = emptyRows })) promised
+  every-run c as′ promised p< = of (setUp Config Adding adds c as′) (set-up-rows Config Adding adds as′ (record { config = c; peers = emptyRows })) promised
     where
-      of : (e : Endpoint Config) → e .rows ≡ emptyRows → Promised W Config U (e .config) → EveryRun W Config U p e
-      of e q promise = subst (λ (r : List Row). EveryRun W Config U p (record { config = e .config; rows = r })) (sym q) (every-from W Config U p p< (e .config) promise)
+      of : (e : Endpoint Config) → e .peers ≡ emptyRows → Promised W Config U (e .config) → EveryRun W Config U p e
+      of e q promise = subst (λ (r : List Peer). EveryRun W Config U p (record { config = e .config; peers = r })) (sym q)
+          (every-from W Config U p p< (e .config) promise)

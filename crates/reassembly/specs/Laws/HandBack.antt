@@ -8,13 +8,13 @@ use lib.ListN.{length}
 use lib.Dec.{leb}
 use borrow.Author.Tests.{le-leb}
 use Rattle.reassembly.specs.Laws.Base.{caseB}
-use Rattle.reassembly.specs.Slots.{Row, Note}
+use Rattle.reassembly.specs.Slots.{Peer, Note}
 use Rattle.reassembly.specs.Take.{slotNo, Seg, Outcome, Rejected, Pending, Complete, NoMemory, Effect, frameIn, takeSegment, Fits}
 use Rattle.reassembly.specs.Laws.TakeFacts.{take-complete}
 use Rattle.reassembly.specs.Laws.Sim.{RowOk, take-apart}
 use Rattle.reassembly.specs.Store.{slotStart, bytesOf}
 use Rattle.reassembly.specs.Laws.Store.{bytes-laws, handed, slot-inside}
-use Rattle.reassembly.specs.Receive.{Place, nowhere, viewOf, Answers, Answer, bare, Verdict, bad, good, spoken, told}
+use Rattle.reassembly.specs.Receive.{Place, nowhere, viewOf, Answers, Answer, bare, Verdict, bad, good, frameAnswer, takeAnswer}
 use Rattle.reassembly.specs.Laws.Runs.{fill}
 
 -- the empty place gives nothing
@@ -29,13 +29,14 @@ module _ (W : Answers) (judge : ℕ → Note → List ℕ → Verdict W) where
   bare-back : (packet m : List ℕ) (a : W .A) → W .place a ≡ nowhere → Backs packet m (bare W a)
   bare-back packet m a e = record { is = nowhere-back packet m (W .place a) e }
 
-  spoken-back : (v : Verdict W) (packet m : List ℕ) (k n : ℕ) → 18 ≤ n → slotStart k + n ≤ length m → Backs packet m (spoken W v k n (frameIn bytesOf m k n))
+  spoken-back : (v : Verdict W) (packet m : List ℕ) (k n : ℕ) → 18 ≤ n → slotStart k + n ≤ length m
+      → Backs packet m (frameAnswer W v k n (frameIn bytesOf m k n))
   spoken-back (bad b) packet m k n l f = bare-back packet m (W .refused b) (W .refused-place b)
   spoken-back (good v) packet m k n l f =
       record { is = rw (W .gives-place v (slotStart k + 18) (n - 18), le-leb (slotStart k + 18 + (n - 18)) (length m) (omega arith)) (sym (handed m k n l f)) }
 
   told-back : (p : ℕ) (packet : List ℕ) (g : Seg) (o : Effect bytesOf) (x : Outcome) → p < 8 → bytesOf .Ok (o .mem)
-      → ((s : ℕ) → x ≡ Complete s → (s < 4) × Fits g) → Backs packet (o .mem) (told W judge bytesOf p g o x)
+      → ((s : ℕ) → x ≡ Complete s → (s < 4) × Fits g) → Backs packet (o .mem) (takeAnswer W judge bytesOf p g o x)
   told-back p packet g o (Rejected r) lp ok f = bare-back packet (o .mem) (W .rejected r) (W .rejected-place r)
   told-back p packet g o Pending lp ok f = bare-back packet (o .mem) (W .pending) (W .pending-place)
   told-back p packet g o (Complete s) lp ok f =
@@ -44,8 +45,9 @@ module _ (W : Answers) (judge : ℕ → Note → List ℕ → Verdict W) where
       (omega (arith, q .1 .least)) (slot-inside (o .mem) p s (g .frame-length) ok lp (q .0) (omega (arith, q .1 .most)))
   told-back p packet g o NoMemory lp ok f = bare-back packet (o .mem) (W .tooSmall) (W .tooSmall-place)
 
-  pub take-back : (p : ℕ) (row : Row) (packet m : List ℕ) (g : Seg) → p < 8 → RowOk (row .slots) → bytesOf .Ok m
-      → Backs packet (takeSegment bytesOf p row m g .mem) (told W judge bytesOf p g (takeSegment bytesOf p row m g) (takeSegment bytesOf p row m g .outcome))
+  pub take-back : (p : ℕ) (row : Peer) (packet m : List ℕ) (g : Seg) → p < 8 → RowOk (row .slots) → bytesOf .Ok m
+      → Backs packet (takeSegment bytesOf p row m g .mem) (takeAnswer W judge bytesOf p g (takeSegment bytesOf p row m g)
+      (takeSegment bytesOf p row m g .outcome))
   take-back p row packet m g lp r o =
       told-back p packet g (takeSegment bytesOf p row m g) (takeSegment bytesOf p row m g .outcome) lp (take-apart bytesOf bytes-laws p lp row m g r o .0 .ok)
       (λ s e. take-complete bytesOf p s row m g e)

@@ -11,9 +11,10 @@ use lib.Dec.{eqb}
 use borrow.Author.Tests.{eqb-true, eqb-false, eq-eqb, ne-eqb}
 use Rattle.reassembly.specs.Base.{someBelow, table}
 use Rattle.reassembly.specs.Laws.Base.{caseB, either, clash, below-suc, or-false-l, or-false-r, allBelow-at, getD-table}
-use Rattle.reassembly.specs.Slots.{Slot, Row, Note, noNote, noteOf, free, older}
+use Rattle.reassembly.specs.Slots.{Slot, Peer, Note, noNote, noteOf, free, older}
 use Rattle.reassembly.specs.Laws.Slots.{older-pending}
-use Rattle.reassembly.specs.Take.{slotNo, Seg, Rejected, Pending, Complete, AlreadyReceived, Choice, reject, old, fresh, chosen, testedBytes, storedBytes, noteAfter, openedSlot, furtherSlot, Effect, complete, overlaps, frameIn, finish, placed, takeSegment}
+use Rattle.reassembly.specs.Take.{slotNo, Seg, Rejected, Pending, Complete, AlreadyReceived, Choice, reject, old, fresh, chosen, testedBytes, storedBytes}
+use Rattle.reassembly.specs.Take.{noteAfter, openedSlot, furtherSlot, Effect, complete, overlaps, frameIn, finish, placed, takeSegment}
 use Rattle.reassembly.specs.Laws.TakeFacts.{Tells, chosen-tells, not-complete, complete-slot}
 use Rattle.reassembly.specs.Laws.Memory.{within-low, within-high}
 use Rattle.reassembly.specs.Laws.Sim.{set-cases}
@@ -107,7 +108,8 @@ apart-from m k g gs e o i c =
     let lo : g .offset ≤ i = within-low (g .offset) (length (g .bytes)) i c in
     let hi : i < g .offset + length (g .bytes) = within-high (g .offset) (length (g .bytes)) i c in
     let z : g .offset + (i - g .offset) ≡ i = omega arith in
-    let f : receivedIn (m k) (g .offset + (i - g .offset)) ≡ false = someBelow-at (testedBytes g) (λ i. receivedIn (m k) (g .offset + i)) o (i - g .offset) (omega arith) in
+    let f : receivedIn (m k) (g .offset + (i - g .offset)) ≡ false =
+    someBelow-at (testedBytes g) (λ i. receivedIn (m k) (g .offset + i)) o (i - g .offset) (omega arith) in
     ap (λ (x : List Piece). receivedIn x i) (sym e) ∙ ap (λ (x : ℕ). receivedIn (m k) x) (sym z) ∙ f
 
 module _ (p : ℕ) where
@@ -139,7 +141,8 @@ module _ (p : ℕ) where
       record {
         four = length-set row s free ∙ h .four;
         pieces = h .pieces;
-        all-of = λ t lt e. either (set-cases row s free free t (omega (arith, h .four))) (λ c. clash (cc (c .1))) (λ c. rw (c .1) (h .all-of t lt (rw (c .1) at e)));
+        all-of = λ t lt e. either (set-cases row s free free t (omega (arith, h .four))) (λ c. clash (cc (c .1)))
+            (λ c. rw (c .1) (h .all-of t lt (rw (c .1) at e)));
         all-apart = λ t lt e. either (set-cases row s free free t (omega (arith, h .four))) (λ c. clash (cc (c .1))) (λ c. h .all-apart t lt (rw (c .1) at e));
       }
 
@@ -182,8 +185,10 @@ module _ (p : ℕ) where
       let all-of : AllOf (g .identifier) (g .frame-length) (g ∷ L s) = (of-it, rw (q .identifier, q .size) at (h .all-of s ls (q .pending))) in
       let all-apart : AllApart (g ∷ L s) = (apart-from m (slotNo p s) g (L s) (h .pieces s ls) e, h .all-apart s ls (q .pending)) in
       let logs : Logs p (set row s v) m′ (writes L s (g ∷ L s)) =
-      put-logs row m m′ L s v (g ∷ L s) ls h (λ t n. upd-other m (slotNo p s) _ (slotNo p t) (λ z. n (omega arith))) pieces (λ t. (rw (q .identifier, q .size) all-of, all-apart)) in
-      let w : Pieced p s g m′ (writes L s (g ∷ L s) s) = rw (writes-same L s (g ∷ L s)) (record { earlier = L s; latest = refl; pieces = pieces; all-of = all-of; all-apart = all-apart }) in
+      put-logs row m m′ L s v (g ∷ L s) ls h (λ t n. upd-other m (slotNo p s) _ (slotNo p t) (λ z. n (omega arith))) pieces
+      (λ t. (rw (q .identifier, q .size) all-of, all-apart)) in
+      let w : Pieced p s g m′ (writes L s (g ∷ L s) s) = rw (writes-same L s (g ∷ L s))
+      (record { earlier = L s; latest = refl; pieces = pieces; all-of = all-of; all-apart = all-apart }) in
       let n : Note = noteAfter (noteOf (getD row s free)) g in
       rw e
       (subst (λ (x : Log). Logged g (finish ghost p s (set row s v) m′ g n) x) (finish-enters L (old s) (set row s v) m′ s g n)
@@ -199,12 +204,15 @@ module _ (p : ℕ) where
       let all-apart : AllApart (g ∷ []) = ((λ i e. refl), tt) in
       let logs : Logs p (set row s v) m′ (writes L s (g ∷ [])) =
       put-logs row m m′ L s v (g ∷ []) ls h
-      (λ t n. upd-other m₁ (slotNo p s) _ (slotNo p t) (λ z. n (omega arith)) ∙ upd-other m (slotNo p s) [] (slotNo p t) (λ z. n (omega arith))) pieces (λ t. (all-of, all-apart)) in
-      let w : Pieced p s g m′ (writes L s (g ∷ []) s) = rw (writes-same L s (g ∷ [])) (record { earlier = []; latest = refl; pieces = pieces; all-of = all-of; all-apart = all-apart }) in
-      subst (λ (x : Log). Logged g (finish ghost p s (set row s v) m′ g (noteAfter noNote g)) x) (finish-enters L (fresh s) (set row s v) m′ s g (noteAfter noNote g))
+      (λ t n. upd-other m₁ (slotNo p s) _ (slotNo p t) (λ z. n (omega arith)) ∙ upd-other m (slotNo p s) [] (slotNo p t) (λ z. n (omega arith))) pieces
+      (λ t. (all-of, all-apart)) in
+      let w : Pieced p s g m′ (writes L s (g ∷ []) s) = rw (writes-same L s (g ∷ []))
+      (record { earlier = []; latest = refl; pieces = pieces; all-of = all-of; all-apart = all-apart }) in
+      subst (λ (x : Log). Logged g (finish ghost p s (set row s v) m′ g (noteAfter noNote g)) x)
+      (finish-enters L (fresh s) (set row s v) m′ s g (noteAfter noNote g))
       (finish-logs (set row s v) m′ (writes L s (g ∷ [])) s g (noteAfter noNote g) ls logs w)
 
-  pub take-logs : (row : Row) (m : ℕ → List Piece) (L : Log) (g : Seg) → Logs p (row .slots) m L
+  pub take-logs : (row : Peer) (m : ℕ → List Piece) (L : Log) (g : Seg) → Logs p (row .slots) m L
       → Logged g (takeSegment ghost p row m g) (logged L (row .slots) g (takeSegment ghost p row m g .outcome))
   unfolding takeSegment
   take-logs row m L g h = placed-logs (row .slots) m L g (chosen (row .slots) g) (chosen-tells (row .slots) g) h
@@ -231,6 +239,8 @@ module _ (p : ℕ) where
   unfolding complete frameIn
   pieced-byte s g m gs w c i l =
       let n : ℕ = g .frame-length in
-      let z : getD (table n (λ i. byteIn (m (slotNo p s)) i)) i 0 ≡ byteIn (map pieceOf gs) i = getD-table n (λ i. byteIn (m (slotNo p s)) i) 0 i l ∙ ap (λ (x : List Piece). byteIn x i) (w .pieces) in
-      let r : receivedIn (map pieceOf gs) i ≡ true = ap (λ (x : List Piece). receivedIn x i) (sym (w .pieces)) ∙ allBelow-at n (λ i. receivedIn (m (slotNo p s)) i) c i l in
+      let z : getD (table n (λ i. byteIn (m (slotNo p s)) i)) i 0 ≡ byteIn (map pieceOf gs) i = getD-table n (λ i. byteIn (m (slotNo p s)) i) 0 i l
+      ∙ ap (λ (x : List Piece). byteIn x i) (w .pieces) in
+      let r : receivedIn (map pieceOf gs) i ≡ true = ap (λ (x : List Piece). receivedIn x i) (sym (w .pieces))
+      ∙ allBelow-at n (λ i. receivedIn (m (slotNo p s)) i) c i l in
       subst (λ (b : ℕ). OneOf gs i b) (sym z) (one-of gs i (w .all-apart) r)

@@ -4,7 +4,7 @@ use mathlib.Core.Path.{_≡_, refl, sym, ap, subst, _∙_}
 use mathlib.Core.Logic.{inl, inr}
 use mathlib.Core.Bool.{Bool, true, false, cond}
 use mathlib.Core.List.{List, [], _∷_, _++_}
-use Prim.Native.Nat.{ℕ, zero, suc, _+_, _-_, _≤_, _<_}
+use Prim.Native.Nat.{ℕ, zero, suc, _+_, _≤_, _<_}
 use native.Mathlib.Omega.{arith}
 use lib.ListN.{length, getD}
 use lib.Seq.{ext-getD}
@@ -18,9 +18,10 @@ use Rattle.reassembly.specs.Laws.TakeFacts.{length-frame, not-complete, 
 use Rattle.reassembly.specs.Laws.TakeIn.{take-whole, take-length}
 use Rattle.reassembly.specs.Laws.Memory.{within-high}
 use Rattle.reassembly.specs.Store.{bytesOf}
-use Rattle.reassembly.specs.Receive.{Answers, Seen, stranger, plain, segment, Event, receive, tick, rowOf}
-use Rattle.reassembly.specs.SetUp.{Layers, Endpoint, World, saidOf, receives, next, runs}
-use Rattle.reassembly.specs.History.{Gathers, MakesUp, carries, carried, noSeg, OneOf, taking, covered, lengthOf, frameComplete, framePending, History, historyOf}
+use Rattle.reassembly.specs.Receive.{Answers, Reading, otherSender, direct, segment, Event, receive, tick, rowOf}
+use Rattle.reassembly.specs.SetUp.{Layers, Endpoint, World, receiveBy, receives, next, runs}
+use Rattle.reassembly.specs.History.{Gathers, MakesUp, carries, carried, noSeg, OneOf, taking, covered, lengthOf, frameComplete, framePending, History}
+use Rattle.reassembly.specs.History.{historyOf}
 use Rattle.reassembly.specs.Laws.EveryRun.{frame-byte, runs-snoc}
 use Rattle.reassembly.specs.EveryRun.{frameAt, EveryRun, Taken, Ruled}
 
@@ -83,11 +84,11 @@ complete-is false s t e = not-complete Pending s refl (sym e)
 -- ---- what a run never changes: the configuration, and the memory's length
 
 module _ (W : Answers) (Config : Type 0) (U : Layers W Config) where
-  said-keeps : (w : World Config) (x : Seen W)
-      → (saidOf W Config U w x .world .ends .config ≡ w .ends .config) × (length (saidOf W Config U w x .world .mem) ≡ length (w .mem))
-  said-keeps w (stranger a) = (refl, refl)
-  said-keeps w (plain q a) = (refl, refl)
-  said-keeps w (segment q g) = (refl, take-length q (getD (w .ends .rows) (rowOf q) noRow) (w .mem) g)
+  said-keeps : (w : World Config) (x : Reading W)
+      → (receiveBy W Config U w x .world .ends .config ≡ w .ends .config) × (length (receiveBy W Config U w x .world .mem) ≡ length (w .mem))
+  said-keeps w (otherSender a) = (refl, refl)
+  said-keeps w (direct q a) = (refl, refl)
+  said-keeps w (segment q g) = (refl, take-length q (getD (w .ends .peers) (rowOf q) noRow) (w .mem) g)
 
   receive-keeps : (w : World Config) (k : List ℕ)
       → (receives W Config U w k .world .ends .config ≡ w .ends .config) × (length (receives W Config U w k .world .mem) ≡ length (w .mem))
@@ -110,7 +111,8 @@ module _ (W : Answers) (Config : Type 0) (U : Layers W Config) where
       → receives W Config U w k .world .mem ≡ taking W Config U p w g .mem
   segment-memory p w k g o e = rw (le-ltb (length (w .mem)) 55296 o, e) refl
 
-module _ (W : Answers) (Config : Type 0) (U : Layers W Config) (p : ℕ) (e : Endpoint Config) (every : EveryRun W Config U p e) (m : List ℕ) (enough : 55296 ≤ length m) (es : List Event) (k : List ℕ) (g : Seg) (sound : U .header (e .config) k ≡ segment p g) where
+module _ (W : Answers) (Config : Type 0) (U : Layers W Config) (p : ℕ) (e : Endpoint Config) (every : EveryRun W Config U p e) (m : List ℕ)
+    (enough : 55296 ≤ length m) (es : List Event) (k : List ℕ) (g : Seg) (sound : U .header (e .config) k ≡ segment p g) where
   abbrev world : World Config
   world = record { ends = e; mem = m }
 
@@ -143,7 +145,8 @@ module _ (W : Answers) (Config : Type 0) (U : Layers W Config) (p : ℕ) (e : En
         of-frame = t .of-frame;
         bytes = λ i l.
             let li : i < g .frame-length = omega arith in
-            subst (λ (b : ℕ). OneOf gs i b) (ap (λ (m : List ℕ). getD m (frameAt p s + i) 0) same-memory ∙ sym (frame-byte (effect .mem) p s (g .frame-length) i li)) (t .bytes c i li);
+            subst (λ (b : ℕ). OneOf gs i b) (ap (λ (m : List ℕ). getD m (frameAt p s + i) 0) same-memory
+            ∙ sym (frame-byte (effect .mem) p s (g .frame-length) i li)) (t .bytes c i li);
       }
 
   ruled : Fits g → Ruled p g before behind (effect .outcome) (runs W Config U world es .mem) (runs W Config U world (es ++ (receive k ∷ [])) .mem)
@@ -152,7 +155,7 @@ module _ (W : Answers) (Config : Type 0) (U : Layers W Config) (p : ℕ) (e : En
   -- a segment that completes a frame: these make it up
   pub complete-gathers : (s : ℕ) → effect .outcome ≡ Complete s → (gs : List Seg) × (Gathers before g gs × MakesUp g gs (frameTaken s))
   complete-gathers s o =
-      let r = ruled (take-whole p s (getD (runs W Config U world es .ends .rows) p noRow) (runs W Config U world es .mem) g o .fits) in
+      let r = ruled (take-whole p s (getD (runs W Config U world es .ends .peers) p noRow) (runs W Config U world es .mem) g o .fits) in
       either (r .one-of)
       (λ x. not-complete (Rejected OtherLength) s refl (sym (r .fifteen .all x) ∙ o))
       (λ y. either y
@@ -165,7 +168,8 @@ module _ (W : Answers) (Config : Type 0) (U : Layers W Config) (p : ℕ) (e : En
         g ∷ before .taken (x .0),
         (
           inl (x .0, (x .1 .bears, refl)),
-          subst (λ (n : ℕ). MakesUp g (g ∷ before .taken (x .0)) (frameTaken n)) (z .1) (taken-makes (x .0) (before .ticks (x .0)) false (g ∷ before .taken (x .0)) (z .0) t),
+          subst (λ (n : ℕ). MakesUp g (g ∷ before .taken (x .0)) (frameTaken n)) (z .1)
+              (taken-makes (x .0) (before .ticks (x .0)) false (g ∷ before .taken (x .0)) (z .0) t),
         ),
       ))
       (λ x. let t = r .opens (x .0) (x .1) in

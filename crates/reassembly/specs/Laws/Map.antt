@@ -250,7 +250,8 @@ any-turn m a q lo hi found y h1 h2 h3 e d =
     or-none found y
     ∙ rw (e, d) (not-or (someBelow (q * 8 + lo - a) (λ i. bitAt m 0 (a + i))) (someBelow (hi - lo) (λ i. isOn (getD m q 0) (lo + i))))
     ∙ ap (λ (b : Bool). not (someBelow (q * 8 + lo - a) (λ i. bitAt m 0 (a + i)) || b))
-    (someBelow-ext (hi - lo) (λ i. isOn (getD m q 0) (lo + i)) (λ i. bitAt m 0 (a + (q * 8 + lo - a + i))) (λ i l. sym (bits-of m a (q * 8 + lo - a) q lo i s (omega arith))))
+    (someBelow-ext (hi - lo) (λ i. isOn (getD m q 0) (lo + i)) (λ i. bitAt m 0 (a + (q * 8 + lo - a + i)))
+    (λ i l. sym (bits-of m a (q * 8 + lo - a) q lo i s (omega arith))))
     ∙ ap not (sym (some-add (q * 8 + lo - a) (hi - lo) (λ i. bitAt m 0 (a + i))))
     ∙ ap (λ (j : ℕ). not (someBelow j (λ i. bitAt m 0 (a + i)))) t
 
@@ -280,7 +281,8 @@ any-whole m a q found h l e =
     let t : q * 8 + 8 - a ≡ (q + 1) * 8 - a = omega arith in
     let w : getD m q 0 % 256 ≡ getD m q 0 = mod-eq-of-lt l in
     any-turn m a q 0 8 found (getD m q 0) (omega arith) (omega arith) (omega arith) (rw z e)
-    (ap (λ (x : ℕ). eqb x 0) (sym w) ∙ none-on (getD m q 0) 8 ∙ ap not (someBelow-ext 8 (λ i. isOn (getD m q 0) i) (λ i. isOn (getD m q 0) (0 + i)) (λ i _. ap (λ (j : ℕ). isOn (getD m q 0) j) (sym (zero-add i)))))
+    (ap (λ (x : ℕ). eqb x 0) (sym w) ∙ none-on (getD m q 0) 8
+    ∙ ap not (someBelow-ext 8 (λ i. isOn (getD m q 0) i) (λ i. isOn (getD m q 0) (0 + i)) (λ i _. ap (λ (j : ℕ). isOn (getD m q 0) j) (sym (zero-add i)))))
     ∙ ap (λ (j : ℕ). not (someBelow j (λ i. bitAt m 0 (a + i)))) t
 
 -- A turn of the test whether every bit is set: the first hi bits of byte q, all bits before it being set or not.
@@ -331,7 +333,8 @@ module _ (m : List ℕ) (a n r : ℕ) where
   any-only h e =
       let t : a / 8 * 8 + (a + n) % 8 - a ≡ n = omega arith in
       not-not (eqb (bitAnd (getD m (a / 8) 0) r) 0) (someBelow n (λ i. bitAt m 0 (a + i)))
-      (rw e (any-first m a (a / 8) (a % 8) ((a + n) % 8) (omega arith) (omega arith) (omega arith)) ∙ ap (λ (j : ℕ). not (someBelow j (λ i. bitAt m 0 (a + i)))) t)
+      (rw e (any-first m a (a / 8) (a % 8) ((a + n) % 8) (omega arith) (omega arith) (omega arith))
+      ∙ ap (λ (j : ℕ). not (someBelow j (λ i. bitAt m 0 (a + i)))) t)
 
   -- the first of several bytes
   pub set-start : a / 8 < length m → r ≡ 2 ^ 8 - 2 ^ (a % 8) → set m (a / 8) (bitOr (getD m (a / 8) 0) r) ≡ setBits m 0 a ((a / 8 + 1) * 8 - a)
@@ -364,7 +367,8 @@ module _ (m : List ℕ) (a n r : ℕ) where
       let z : b * 8 + 0 - a ≡ b * 8 - a = omega arith in
       let t : b * 8 + (a + n) % 8 - a ≡ n = omega arith in
       not-not (eqb (bitOr found (bitAnd (getD m ((a + n) / 8) 0) r)) 0) (someBelow n (λ i. bitAt m 0 (a + i)))
-      (rw (er, ← h2) (any-masked m a b 0 ((a + n) % 8) found (omega arith) (omega arith) (omega arith) (rw z e) ∙ ap (λ (j : ℕ). not (someBelow j (λ i. bitAt m 0 (a + i)))) t))
+      (rw (er, ← h2) (any-masked m a b 0 ((a + n) % 8) found (omega arith) (omega arith) (omega arith) (rw z e)
+      ∙ ap (λ (j : ℕ). not (someBelow j (λ i. bitAt m 0 (a + i)))) t))
 
 -- a whole byte between
 pub set-whole : (m M : List ℕ) (b b₀ : ℕ) → b₀ ≤ b → b < length m → M ≡ setBits m 0 (b₀ * 8) (b * 8 - b₀ * 8)
@@ -380,7 +384,8 @@ module _ (m : List ℕ) (n b kept : ℕ) (at : b ≡ n / 8) (known : eqb kept 25
   all-not ne =
       let t : b * 8 + n % 8 ≡ n = omega arith in
       let f : allBelow (b * 8) (λ i. bitAt m 0 i) ≡ false = sym known ∙ ne-eqb kept 255 ne in
-      sym (ap (λ (j : ℕ). allBelow j (λ i. bitAt m 0 i)) (sym t) ∙ all-turn m b (n % 8) (omega arith) ∙ ap (λ (x : Bool). x && eqb (getD m b 0 % 2 ^ (n % 8)) (2 ^ (n % 8) - 1)) f)
+      sym (ap (λ (j : ℕ). allBelow j (λ i. bitAt m 0 i)) (sym t) ∙ all-turn m b (n % 8) (omega arith)
+      ∙ ap (λ (x : Bool). x && eqb (getD m b 0 % 2 ^ (n % 8)) (2 ^ (n % 8) - 1)) f)
 
   pub all-end : (r : ℕ) → kept ≡ 255 → r ≡ 2 ^ (n % 8) - 2 ^ 0 → eqb (bitAnd (getD m (n / 8) 0) r) r ≡ allBelow n (λ i. bitAt m 0 i)
   all-end r k er =

@@ -4,7 +4,7 @@ use mathlib.Core.Path.{_≡_, refl, sym, ap, _∙_}
 use mathlib.Core.Logic.{_≢_}
 use mathlib.Core.Bool.{Bool, true, false, cond, not, _&&_, _||_}
 use mathlib.Core.List.{List, [], _∷_, _++_, reverse, reverseAux, reverse-cons, append-assoc}
-use Prim.Native.Nat.{ℕ, zero, suc, _+_, _-_, _≤_, _<_}
+use Prim.Native.Nat.{ℕ, zero, suc, _+_, _≤_, _<_}
 use native.Mathlib.Omega.{arith}
 use lib.ListN.{length, getD}
 use lib.Dec.{ltb, eqb}
@@ -15,7 +15,8 @@ use Rattle.reassembly.specs.Laws.Ghost.{Piece, covers, receivedIn, byteI
 use Rattle.reassembly.specs.Slots.{Note, noNote}
 use Rattle.reassembly.specs.Laws.Slots.{noted-swap}
 use Rattle.reassembly.specs.Take.{noteAfter}
-use Rattle.reassembly.specs.Mix.{Frame, joined, offsetOf, partOf, states, noteTo, frameNote, Item, given, other, frameOf, times, timesItem, segmentsOf, ofItem, ticks, tickItem, howMany}
+use Rattle.reassembly.specs.Mix.{Frame, joined, offsetOf, partOf, states, noteTo, frameNote, Item, given, other, frameOf, times, timesItem, segmentsOf}
+use Rattle.reassembly.specs.Mix.{ofItem, ticks, tickItem, howMany}
 use Rattle.reassembly.specs.Laws.CutFacts.{size, part-byte, part-differ}
 
 -- ---- counting
@@ -299,7 +300,12 @@ less-one zero t g l e = absurd (omega arith)
 less-one (suc n) t g l e =
     either (below-suc l)
     (λ m. omega (arith, less-one n t g m e, ap {B = ℕ} (λ (b : Bool). cond b 1 0) (but-same t g n (λ q. absurd (omega arith)))))
-    (λ q. rw (← q) (omega (arith, but-above g t g (omega arith), ap {B = ℕ} (λ (b : Bool). cond b 1 0) (but-gone t g), ap {B = ℕ} (λ (b : Bool). cond b 1 0) e)))
+    (λ q. rw (← q) (omega (
+      arith,
+      but-above g t g (omega arith),
+      ap {B = ℕ} (λ (b : Bool). cond b 1 0) (but-gone t g),
+      ap {B = ℕ} (λ (b : Bool). cond b 1 0) e,
+    )))
 
 -- five different numbers below n
 pub five : (n : ℕ) (t : ℕ → Bool) (a b c d e : ℕ) → a < n → b < n → c < n → d < n → e < n → t a ≡ true → t b ≡ true → t c ≡ true → t d ≡ true → t e ≡ true

@@ -2,14 +2,14 @@
 use mathlib.Core.Path.{_≡_, refl}
 use mathlib.Core.Bool.{Bool, true, false, not, _&&_, _||_}
 use mathlib.Core.List.{List, [], _∷_, _++_, append-assoc, append-nil}
-use Prim.Native.Nat.{ℕ, _+_, _-_}
+use Prim.Native.Nat.{ℕ}
 use native.Mathlib.Omega.{arith}
 use lib.ListN.{length}
 use lib.Dec.{ltb, leb, eqb}
 use borrow.Author.Tests.{ltb-true, leb-true, eqb-true, eq-eqb}
 use Rattle.reassembly.specs.Laws.Base.{caseB, clash, and-l, and-r, allBelow-at}
 use Rattle.reassembly.specs.Base.{allBelow}
-use Rattle.reassembly.specs.Receive.{Answers, Seen}
+use Rattle.reassembly.specs.Receive.{Answers, Reading}
 use Rattle.reassembly.specs.Mix.{Frame, frameOf, Item, given, other, isSegment, times, ticks, pendingAt, howMany, AllFree, Mixing}
 
 -- ---- a test of every place of a list
@@ -35,7 +35,8 @@ everywhere-at c (x ∷ xs) before e (y ∷ b) now a is =
 
 module _ (frames : List Frame) where
   abbrev pub apartAt : List Item → Item → List Item → Bool
-  apartAt b now a = allBelow (length frames) (λ f. allBelow (length frames) (λ g. not (pendingAt b now a f && (pendingAt b now a g && eqb (frameOf frames f .identifier) (frameOf frames g .identifier))) || eqb f g))
+  apartAt b now a = allBelow (length frames) (λ f. allBelow (length frames)
+      (λ g. not (pendingAt b now a f && (pendingAt b now a g && eqb (frameOf frames f .identifier) (frameOf frames g .identifier))) || eqb f g))
 
   abbrev pub fourAt : List Item → Item → List Item → Bool
   fourAt b now a = leb (howMany (length frames) (pendingAt b now a)) 4
@@ -76,7 +77,7 @@ module _ (frames : List Frame) where
   implies true y h e = h
   implies false y h e = clash (cc)
 
-  pub mixing : (W : Answers) (header : List ℕ → Seen W) (p : ℕ) (items : List Item) → mixes items ≡ true → AllFree W header p items
+  pub mixing : (W : Answers) (header : List ℕ → Reading W) (p : ℕ) (items : List Item) → mixes items ≡ true → AllFree W header p items
       → Mixing W header p frames items
   mixing W header p items t free =
       let t₁ = and-r (everywhere labelled [] items) _ t in
@@ -92,9 +93,13 @@ module _ (frames : List Frame) where
             (λ e. rw e (unlabelled f j e items [] (and-l (everywhere labelled [] items) _ t)));
         rest = free;
         apart = λ before now after is f g lf lg wf wg q.
-            eqb-true f g (implies (pendingAt before now after f && (pendingAt before now after g && eqb (frameOf frames f .identifier) (frameOf frames g .identifier))) (eqb f g)
-            (allBelow-at (length frames) (λ g. not (pendingAt before now after f && (pendingAt before now after g && eqb (frameOf frames f .identifier) (frameOf frames g .identifier))) || eqb f g)
-            (allBelow-at (length frames) (λ f. allBelow (length frames) (λ g. not (pendingAt before now after f && (pendingAt before now after g && eqb (frameOf frames f .identifier) (frameOf frames g .identifier))) || eqb f g))
+            eqb-true f g (implies (pendingAt before now after f
+            && (pendingAt before now after g && eqb (frameOf frames f .identifier) (frameOf frames g .identifier))) (eqb f g)
+            (allBelow-at (length frames) (λ g. not (pendingAt before now after f
+            && (pendingAt before now after g && eqb (frameOf frames f .identifier) (frameOf frames g .identifier))) || eqb f g)
+            (allBelow-at (length frames) (λ f. allBelow (length frames)
+            (λ g. not (pendingAt before now after f && (pendingAt before now after g && eqb (frameOf frames f .identifier) (frameOf frames g .identifier)))
+            || eqb f g))
             (everywhere-at apartAt items [] (and-l (everywhere apartAt [] items) _ t₂) before now after is) f lf) g lg)
             (rw (wf, wg, eq-eqb (frameOf frames f .identifier) (frameOf frames g .identifier) q)));
         four = λ before now after is. leb-true _ _ (everywhere-at fourAt items [] (and-l (everywhere fourAt [] items) _ t₃) before now after is);

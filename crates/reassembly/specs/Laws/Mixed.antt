@@ -13,22 +13,23 @@ use Rattle.reassembly.specs.Slots.{Note, noRow, free, emptyRow, emptyRow
 use Rattle.reassembly.specs.Take.{slotNo, Ops, Effect, takeSegment}
 use Rattle.reassembly.specs.Store.{slotStart}
 use Rattle.reassembly.specs.Laws.Memory.{Laws}
-use Rattle.reassembly.specs.Receive.{Answers, Answer, Verdict, told, Seen, stranger, plain, segment, receive, tick}
+use Rattle.reassembly.specs.Receive.{Answers, Answer, Verdict, takeAnswer, Reading, otherSender, direct, segment, receive, tick}
 use Rattle.reassembly.specs.Laws.Runs.{State, react, run, mine, Listed, own, run-sim, mine-sim, rows-older}
 use Rattle.reassembly.specs.SetUp.{keeps, strike}
 use Rattle.reassembly.specs.Laws.Ghost.{ghost, ghost-laws}
 use Rattle.reassembly.specs.Laws.NonInterference.{empty-at, empty-free, start, ghostStart, start-sim}
-use Rattle.reassembly.specs.Mix.{Frame, partOf, states, Cut, Item, given, other, frameOf, event, segmentsOf, times, isSegment, notSegment, AllFree, Mixing, Right}
+use Rattle.reassembly.specs.Mix.{Frame, partOf, states, Cut, Item, given, other, frameOf, event, segmentsOf, times, isSegment, notSegment, AllFree}
+use Rattle.reassembly.specs.Mix.{Mixing, Right}
 use Rattle.reassembly.specs.Laws.MixFacts.{times-append}
 use Rattle.reassembly.specs.Laws.Deliver.{Seats, Step, take-step, lf, lj, tick-seats, other-seats}
 
-module _ (W : Answers) (header : List ℕ → Seen W) (judge : ℕ → Note → List ℕ → Verdict W) (p : ℕ) (p< : p < 8) (frames : List Frame) (items : List Item)
+module _ (W : Answers) (header : List ℕ → Reading W) (judge : ℕ → Note → List ℕ → Verdict W) (p : ℕ) (p< : p < 8) (frames : List Frame) (items : List Item)
     (cuts : (f : ℕ) → f < length frames → Cut W header judge p (frameOf frames f)) (mix : Mixing W header p frames items) where
   record Inv (past fut : List Item) (e : State ghost) : Type 0 where
     is : reverseAux past fut ≡ items
     left : AllFree W header p fut
-    eight : length (e .rows) ≡ 8
-    seats : Seats p frames past fut (getD (e .rows) p noRow .slots) (e .mem)
+    eight : length (e .peers) ≡ 8
+    seats : Seats p frames past fut (getD (e .peers) p noRow .slots) (e .mem)
 
   -- the packet of a segment reads as the segment
   reads : (past fut : List Item) (f j : ℕ) → reverseAux past (given f j ∷ fut) ≡ items
@@ -37,37 +38,38 @@ module _ (W : Answers) (header : List ℕ → Seen W) (judge : ℕ → Note → 
       cuts f (lf W header judge p p< frames items cuts mix past fut f j is) .sound j (lj W header judge p p< frames items cuts mix past fut f j is)
 
   -- a packet that is no segment of the peer's leaves the state
-  leaves : (e : State ghost) (x : Seen W) → notSegment W p x → mine W p x ≡ true → react W judge ghost e x .state ≡ e
-  leaves e (stranger a) s m = refl
-  leaves e (plain q a) s m = refl
+  leaves : (e : State ghost) (x : Reading W) → notSegment W p x → mine W p x ≡ true → react W judge ghost e x .state ≡ e
+  leaves e (otherSender a) s m = refl
+  leaves e (direct q a) s m = refl
   leaves e (segment q g) s m = absurd (s (eqb-true q p m))
 
   step : (past fut : List Item) (f j : ℕ) (e : State ghost) (h : Inv past (given f j ∷ fut) e)
-      → Step W header judge p p< frames items cuts mix past fut f j (h .is) (takeSegment ghost p (getD (e .rows) p noRow) (e .mem) (states (frameOf frames f) j))
+      → Step W header judge p p< frames items cuts mix past fut f j (h .is)
+      (takeSegment ghost p (getD (e .peers) p noRow) (e .mem) (states (frameOf frames f) j))
   step past fut f j e h = take-step W header judge p p< frames items cuts mix past fut f j (h .is) _ _ (h .seats)
 
   item-step : (past fut : List Item) (x : Item) (e : State ghost) → Inv past (x ∷ fut) e
       → Inv (x ∷ past) fut (run W judge ghost header e (cond (keeps (own W header p) (event frames x)) (event frames x ∷ []) []))
   item-step past fut (given f j) e h =
       let r = reads past fut f j (h .is) in
-      let o : Effect ghost = takeSegment ghost p (getD (e .rows) p noRow) (e .mem) (states (frameOf frames f) j) in
-      let q : react W judge ghost e (header (partOf (frameOf frames f) j .packet)) .state ≡ record { rows = set (e .rows) p (o .row); mem = o .mem } =
-      ap (λ (x : Seen W). react W judge ghost e x .state) r in
+      let o : Effect ghost = takeSegment ghost p (getD (e .peers) p noRow) (e .mem) (states (frameOf frames f) j) in
+      let q : react W judge ghost e (header (partOf (frameOf frames f) j .packet)) .state ≡ record { peers = set (e .peers) p (o .row); mem = o .mem } =
+      ap (λ (x : Reading W). react W judge ghost e x .state) r in
       let m : mine W p (header (partOf (frameOf frames f) j .packet)) ≡ true = rw r (eq-eqb p p refl) in
       rw m
       (rw q
       (record {
         is = h .is;
         left = h .left .1;
-        eight = length-set (e .rows) p (o .row) ∙ h .eight;
-        seats = rw (getD-set-same (e .rows) p (o .row) noRow (omega (arith, h .eight))) (step past fut f j e h .seats);
+        eight = length-set (e .peers) p (o .row) ∙ h .eight;
+        seats = rw (getD-set-same (e .peers) p (o .row) noRow (omega (arith, h .eight))) (step past fut f j e h .seats);
       }))
   item-step past fut (other tick) e h =
       record {
         is = h .is;
         left = h .left .1;
-        eight = length-map (e .rows) _ ∙ h .eight;
-        seats = rw (rows-older (e .rows) p) (tick-seats W header judge p p< frames items cuts mix past fut _ _ (h .is) (h .seats));
+        eight = length-map (e .peers) _ ∙ h .eight;
+        seats = rw (rows-older (e .peers) p) (tick-seats W header judge p p< frames items cuts mix past fut _ _ (h .is) (h .seats));
       }
   item-step past fut (other (receive k)) e h =
       let kept : Inv (other (receive k) ∷ past) fut e =
@@ -79,16 +81,21 @@ module _ (W : Answers) (header : List ℕ → Seen W) (judge : ℕ → Note → 
   -- the answer to a segment, wherever it stands
   ghost-right : (before past after′ : List Item) (f j : ℕ) (lf′ : f < length frames) (e : State ghost) → Inv past (before ++ (given f j ∷ after′)) e
       → Right W p (frameOf frames f) (cuts f lf′ .verdict) (segmentsOf f after′)
-      (react W judge ghost (run W judge ghost header e (strike (own W header p) (map (event frames) before))) (header (partOf (frameOf frames f) j .packet)) .answer)
+      (react W judge ghost (run W judge ghost header e (strike (own W header p) (map (event frames) before)))
+      (header (partOf (frameOf frames f) j .packet)) .answer)
   ghost-right [] past after′ f j lf′ e h =
       let s = step past after′ f j e h in
-      let o : Effect ghost = takeSegment ghost p (getD (e .rows) p noRow) (e .mem) (states (frameOf frames f) j) in
-      let full : segmentsOf f after′ ≡ 0 → told W judge ghost p (states (frameOf frames f) j) o (o .outcome)
-      ≡ record { reply = W .gives (cuts f lf′ .verdict) (slotStart (slotNo p (s .slot)) + 18) (length (frameOf frames f .content) - 18); bytes = drop 18 (frameOf frames f .content) } =
-      λ z. ap (told W judge ghost p (states (frameOf frames f) j) o) (s .done z) ∙ rw (s .note z, s .frame z, cuts f lf′ .is-good) in
+      let o : Effect ghost = takeSegment ghost p (getD (e .peers) p noRow) (e .mem) (states (frameOf frames f) j) in
+      let full : segmentsOf f after′ ≡ 0 → takeAnswer W judge ghost p (states (frameOf frames f) j) o (o .outcome)
+      ≡ record {
+        reply = W .gives (cuts f lf′ .verdict) (slotStart (slotNo p (s .slot)) + 18) (length (frameOf frames f .content) - 18);
+        bytes =
+            drop 18 (frameOf frames f .content);
+      } =
+      λ z. ap (takeAnswer W judge ghost p (states (frameOf frames f) j) o) (s .done z) ∙ rw (s .note z, s .frame z, cuts f lf′ .is-good) in
       rw (reads past after′ f j (h .is))
       (record {
-        waits = λ l. ap (told W judge ghost p (states (frameOf frames f) j) o) (s .waits l);
+        waits = λ l. ap (takeAnswer W judge ghost p (states (frameOf frames f) j) o) (s .waits l);
         slot = s .slot;
         is-slot = s .is-slot;
         delivers = λ z. ap (λ (x : Answer W). x .reply) (full z);

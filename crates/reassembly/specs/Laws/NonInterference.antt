@@ -8,7 +8,7 @@ use Rattle.reassembly.specs.Slots.{Note, noRow, free, emptyRows, emptyRo
 use Rattle.reassembly.specs.Laws.Slots.{slotsOf}
 use Rattle.reassembly.specs.Take.{Ops}
 use Rattle.reassembly.specs.Laws.Memory.{Laws}
-use Rattle.reassembly.specs.Receive.{Answers, Event, Verdict, Seen}
+use Rattle.reassembly.specs.Receive.{Answers, Event, Verdict, Reading}
 use Rattle.reassembly.specs.Laws.Runs.{State, Listed, own, answers, Sim, answers-sim}
 use Rattle.reassembly.specs.Laws.Sim.{RowOk}
 use Rattle.reassembly.specs.SetUp.{strike}
@@ -22,10 +22,10 @@ empty-free s l = getD-replicate 4 s free free l
 
 -- the state that a set-up leaves: every slot free, over a memory of any contents
 abbrev pub start : (O : Ops) → O .S → State O
-start O m = record { rows = emptyRows; mem = m }
+start O m = record { peers = emptyRows; mem = m }
 
 abbrev pub ghostStart : State ghost
-ghostStart = record { rows = emptyRows; mem = λ k. [] }
+ghostStart = record { peers = emptyRows; mem = λ k. [] }
 
 empty-row : RowOk emptyRow
 empty-row = record { four = refl; sizes = λ s l t. let z : getD emptyRow s free ≡ free = empty-free s l in clash (cc) }
@@ -37,10 +37,17 @@ start-sim O p p< m o =
       eightA = refl;
       eightB = refl;
       row = refl;
-      same = rw (empty-at p p<) (record { row-ok = empty-row; okA = o; okB = tt; agree = λ s l t. let z : getD emptyRow s free ≡ free = empty-free s l in clash (cc) });
+      same = rw (empty-at p p<) (record {
+        row-ok = empty-row;
+        okA = o;
+        okB = tt;
+        agree = λ s l t. let z : getD emptyRow s free ≡ free = empty-free s l in
+            clash (cc);
+      });
     }
 
-module _ (W : Answers) (judge : ℕ → Note → List ℕ → Verdict W) (O : Ops) (L : Laws O) (header : List ℕ → Seen W) (listed : (k : List ℕ) → Listed W (header k)) (p : ℕ) (p< : p < 8) where
+module _ (W : Answers) (judge : ℕ → Note → List ℕ → Verdict W) (O : Ops) (L : Laws O) (header : List ℕ → Reading W)
+    (listed : (k : List ℕ) → Listed W (header k)) (p : ℕ) (p< : p < 8) where
   pub non-interference : (m m′ : O .S) → O .Ok m → O .Ok m′ → (es es′ : List Event) → strike (own W header p) es ≡ strike (own W header p) es′
       → answers W header p judge O (start O m) es ≡ answers W header p judge O (start O m′) es′
   non-interference m m′ o o′ es es′ alike =

@@ -3,7 +3,7 @@ use mathlib.Core.Path.{_≡_, refl, sym, ap, subst, _∙_}
 use mathlib.Core.Logic.{_≢_}
 use mathlib.Core.Bool.{Bool, true, cond, _&&_}
 use mathlib.Core.List.{List, [], _∷_, _++_, append-assoc}
-use Prim.Native.Nat.{ℕ, zero, suc, _+_, _-_, _≤_, _<_}
+use Prim.Native.Nat.{ℕ, zero, suc, _-_, _≤_, _<_}
 use native.Mathlib.Omega.{arith}
 use native.Mathlib.Nat.{zero-add, sub-zero}
 use lib.ListN.{length, getD}
@@ -106,7 +106,8 @@ rising-block lo (suc n) xs r = rw append-assoc (rising-block lo n (given lo n �
 
 rising-turns : (lo : ℕ) (frs : List Frame) → Rising lo (turns lo frs)
 rising-turns lo [] = tt
-rising-turns lo (fr ∷ frs) = rising-block lo (length (fr .parts)) (turns (suc lo) frs) (rising-weaken lo (suc lo) (turns (suc lo) frs) (omega arith) (rising-turns (suc lo) frs))
+rising-turns lo (fr ∷ frs) = rising-block lo (length (fr .parts)) (turns (suc lo) frs)
+    (rising-weaken lo (suc lo) (turns (suc lo) frs) (omega arith) (rising-turns (suc lo) frs))
 
 rising-only : (lo : ℕ) (xs : List Item) → Rising lo xs → Only xs
 rising-only lo [] r = tt
@@ -116,8 +117,10 @@ rising-only lo (other e ∷ xs) r = absurd r
 -- a frame pending at a segment of frame h is h
 under-is : (h j : ℕ) (before after : List Item) → At h before after → (f : ℕ) → pendingAt before (given h j) after f ≡ true → f ≡ h
 under-is h j before after a f w =
-    let b : 0 < segmentsOf f (before ++ (given h j ∷ [])) = ltb-true _ _ (and-l (ltb 0 (segmentsOf f (before ++ (given h j ∷ [])))) (ltb 0 (segmentsOf f (given h j ∷ after))) w) in
-    let c : 0 < segmentsOf f (given h j ∷ after) = ltb-true _ _ (and-r (ltb 0 (segmentsOf f (before ++ (given h j ∷ [])))) (ltb 0 (segmentsOf f (given h j ∷ after))) w) in
+    let b : 0 < segmentsOf f (before ++ (given h j ∷ [])) =
+    ltb-true _ _ (and-l (ltb 0 (segmentsOf f (before ++ (given h j ∷ [])))) (ltb 0 (segmentsOf f (given h j ∷ after))) w) in
+    let c : 0 < segmentsOf f (given h j ∷ after) = ltb-true _ _
+    (and-r (ltb 0 (segmentsOf f (before ++ (given h j ∷ [])))) (ltb 0 (segmentsOf f (given h j ∷ after))) w) in
     caseB (eqb h f)
     (λ e. sym (eqb-true h f e))
     (λ e. let d : h ≢ f = eqb-false h f e in
@@ -128,12 +131,14 @@ under-is h j before after a f w =
 pub turns-in-turn : (frames : List Frame) → InTurn frames (turns 0 frames)
 turns-in-turn frames =
     record {
-      once = λ f j. turns-times frames 0 f j (omega arith) ∙ ap {B = ℕ} (λ (n : ℕ). cond (ltb n (length frames) && ltb j (length (getD frames n noFrame .parts))) 1 0) (sub-zero f);
+      once = λ f j. turns-times frames 0 f j (omega arith) ∙ ap {B = ℕ}
+          (λ (n : ℕ). cond (ltb n (length frames) && ltb j (length (getD frames n noFrame .parts))) 1 0) (sub-zero f);
       only = rising-only 0 (turns 0 frames) (rising-turns 0 frames);
       one = λ before now after is f g lf lg wf wg. alone before now after (subst (λ (t : List Item). Rising 0 t) is (rising-turns 0 frames)) f g wf wg;
     }
   where
     alone : (before : List Item) (now : Item) (after : List Item) → Rising 0 (before ++ (now ∷ after)) → (f g : ℕ) → pendingAt before now after f ≡ true
         → pendingAt before now after g ≡ true → f ≡ g
-    alone before (given h j) after r f g wf wg = let a = rising-at 0 h j before after r .1 in under-is h j before after a f wf ∙ sym (under-is h j before after a g wg)
+    alone before (given h j) after r f g wf wg = let a = rising-at 0 h j before after r .1 in under-is h j before after a f wf
+        ∙ sym (under-is h j before after a g wg)
     alone before (other e) after r f g wf wg = absurd (rising-other 0 before after e r)

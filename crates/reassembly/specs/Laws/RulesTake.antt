@@ -11,17 +11,20 @@ use lib.ListN.{length, getD, set, length-set, length-map}
 use lib.Seq.{set-set}
 use lib.Dec.{ltb, eqb}
 use borrow.Author.Tests.{ltb-true, ltb-false, lt-ltb, le-ltb, eqb-true, eqb-false, eq-eqb, ne-eqb}
-use Rattle.reassembly.specs.Base.{someBelow, allBelow}
-use Rattle.reassembly.specs.Laws.Base.{caseB, caseO, either, clash, below-suc, allBelow-ext, someBelow-some, someBelow-none, or-true-r, or-false-l, or-false-r, and-l, and-r}
-use Rattle.reassembly.specs.Slots.{Slot, Row, Note, noNote, noteOf, free, first, bears, isFree, older, lifetime}
+use Rattle.reassembly.specs.Base.{someBelow}
+use Rattle.reassembly.specs.Laws.Base.{caseB, caseO, either, clash, allBelow-ext, someBelow-some, someBelow-none, or-false-l, or-false-r, and-l, and-r}
+use Rattle.reassembly.specs.Slots.{Slot, Peer, Note, noNote, noteOf, free, first, bears, isFree, older, lifetime}
 use Rattle.reassembly.specs.Laws.Slots.{First, first-some, first-none, first-is, first-not, older-pending}
-use Rattle.reassembly.specs.Take.{slotNo, Seg, Ops, Rejection, rejectionCode, Empty, FrameLength, PastEnd, Outcome, Rejected, Pending, Complete, NoMemory, OtherLength, AlreadyReceived, NoSlot, Choice, reject, old, fresh, choose, chosen, testedBytes, storedBytes, noteAfter, openedSlot, furtherSlot, Effect, complete, overlaps, finish, placed, takeSegment, Fits}
-use Rattle.reassembly.specs.Laws.TakeFacts.{Fits, Old, Fresh, Tells, chosen-tells, chosen-fits, bears-is, bears-pending, bears-identifier, is-free-false, not-free}
-use Rattle.reassembly.specs.Laws.Memory.{within, within-low, within-high, within-is}
+use Rattle.reassembly.specs.Take.{slotNo, Seg, Ops, Rejection, rejectionCode, Empty, FrameLength, PastEnd, Outcome, Rejected, Pending, Complete}
+use Rattle.reassembly.specs.Take.{OtherLength, AlreadyReceived, NoSlot, Choice, reject, old, fresh, choose, chosen, testedBytes, storedBytes, noteAfter}
+use Rattle.reassembly.specs.Take.{openedSlot, furtherSlot, Effect, complete, overlaps, finish, placed, takeSegment, Fits}
+use Rattle.reassembly.specs.Laws.TakeFacts.{Fits, Tells, chosen-tells, chosen-fits, bears-is, bears-pending, bears-identifier, is-free-false, not-free}
+use Rattle.reassembly.specs.Laws.Memory.{within-low, within-high, within-is}
 use Rattle.reassembly.specs.Laws.Sim.{set-cases}
 use Rattle.reassembly.specs.Laws.Runs.{older-at}
 use Rattle.reassembly.specs.Laws.Ghost.{Piece, receivedIn, ghost, upd-same}
-use Rattle.reassembly.specs.History.{enters, entered, carries, covered, lengthOf, frameComplete, framePending, History, pendingIn, Bears, NoneBears, Lowest, Fifteen, Sixteen, Seventeen, Further, Opens, resets, restarts, restarted, onceMore}
+use Rattle.reassembly.specs.History.{enters, entered, carries, covered, lengthOf, frameComplete, framePending, History, pendingIn, Bears, NoneBears}
+use Rattle.reassembly.specs.History.{Lowest, Fifteen, Sixteen, Seventeen, Further, Opens, resets, restarts, restarted, onceMore}
 use Rattle.reassembly.specs.Laws.Log.{pieceOf, Logs, writes-same, writes-other}
 use Rattle.reassembly.specs.EveryRun.{Stands}
 
@@ -33,20 +36,21 @@ covered-is (g ∷ gs) i = ap (λ (b : Bool). carries g i || b) (covered-is gs i)
 
 pub whole-is : (m : ℕ → List Piece) (k : ℕ) (gs : List Seg) → m k ≡ map pieceOf gs → complete ghost m k (lengthOf gs) ≡ frameComplete gs
 unfolding complete frameComplete
-whole-is m k gs e = allBelow-ext (lengthOf gs) (λ i. receivedIn (m k) i) (λ i. covered gs i) (λ i l. ap (λ (x : List Piece). receivedIn x i) e ∙ sym (covered-is gs i))
+whole-is m k gs e = allBelow-ext (lengthOf gs) (λ i. receivedIn (m k) i) (λ i. covered gs i)
+    (λ i l. ap (λ (x : List Piece). receivedIn x i) e ∙ sym (covered-is gs i))
 
-pub record Found (n : ℕ) (f : ℕ → Bool) : Type 0 where
+pub record FoundSlot (n : ℕ) (f : ℕ → Bool) : Type 0 where
   pub at : ℕ
   pub is-below : at < n
   pub passes : f at ≡ true
 
-some-finds : (n : ℕ) (f : ℕ → Bool) → someBelow n f ≡ true → Found n f
+some-finds : (n : ℕ) (f : ℕ → Bool) → someBelow n f ≡ true → FoundSlot n f
 unfolding someBelow
 some-finds zero f e = clash (cc)
 some-finds (suc n) f e =
     caseB (f n)
     (λ q. record { at = n; is-below = omega arith; passes = q })
-    (λ q. let r : Found n f = some-finds n f (rw q at e) in record { at = r .at; is-below = omega (arith, r .is-below); passes = r .passes })
+    (λ q. let r : FoundSlot n f = some-finds n f (rw q at e) in record { at = r .at; is-below = omega (arith, r .is-below); passes = r .passes })
 
 some-not : (n : ℕ) (f : ℕ → Bool) → someBelow n f ≡ false → (i : ℕ) → i < n → f i ≡ false
 some-not n f e i l = caseB (f i) (λ q. clash (cc (someBelow-some n f i l q))) (λ q. q)
@@ -67,7 +71,8 @@ pub apart-overlaps : (m : ℕ → List Piece) (k : ℕ) (g : Seg) (gs : List Seg
 unfolding overlaps
 apart-overlaps m k g gs e a =
     someBelow-none (testedBytes g) (λ j. receivedIn (m k) (g .offset + j))
-    (λ j l. ap (λ (x : List Piece). receivedIn x (g .offset + j)) e ∙ sym (covered-is gs (g .offset + j)) ∙ a (g .offset + j) (within-is (g .offset) (length (g .bytes)) (g .offset + j) (omega arith) (omega arith)))
+    (λ j l. ap (λ (x : List Piece). receivedIn x (g .offset + j)) e ∙ sym (covered-is gs (g .offset + j))
+    ∙ a (g .offset + j) (within-is (g .offset) (length (g .bytes)) (g .offset + j) (omega arith) (omega arith)))
 
 pub record Overlap (g : Seg) (gs : List Seg) : Type 0 where
   pub byte : ℕ
@@ -77,7 +82,7 @@ pub record Overlap (g : Seg) (gs : List Seg) : Type 0 where
 pub overlaps-covered : (m : ℕ → List Piece) (k : ℕ) (g : Seg) (gs : List Seg) → m k ≡ map pieceOf gs → overlaps ghost m k g ≡ true → Overlap g gs
 unfolding overlaps
 overlaps-covered m k g gs e o =
-    let f : Found (testedBytes g) (λ j. receivedIn (m k) (g .offset + j)) = some-finds (testedBytes g) (λ j. receivedIn (m k) (g .offset + j)) o in
+    let f : FoundSlot (testedBytes g) (λ j. receivedIn (m k) (g .offset + j)) = some-finds (testedBytes g) (λ j. receivedIn (m k) (g .offset + j)) o in
     record {
       byte = g .offset + f .at;
       its = within-is (g .offset) (length (g .bytes)) (g .offset + f .at) (omega arith) (omega (arith, f .is-below));
@@ -116,7 +121,8 @@ module _ (row : List Slot) (h : History) (st : Stand row h) where
   holds-one id s t a b =
       let x : bears id (slotOf s) ≡ true = holds-bears id s a in
       let y : bears id (slotOf t) ≡ true = holds-bears id t b in
-      st .distinct s t (a .is-slot) (b .is-slot) (bears-pending id (slotOf s) x) (bears-pending id (slotOf t) y) (bears-identifier id (slotOf s) x ∙ sym (bears-identifier id (slotOf t) y))
+      st .distinct s t (a .is-slot) (b .is-slot) (bears-pending id (slotOf s) x) (bears-pending id (slotOf t) y)
+      (bears-identifier id (slotOf s) x ∙ sym (bears-identifier id (slotOf t) y))
 
   holds-first : (id s : ℕ) → Bears h id s → first (bears id) row ≡ some s
   holds-first id s w =
@@ -137,7 +143,8 @@ module _ (row : List Slot) (h : History) (st : Stand row h) where
   idle-free s l b e = free-is (slotOf s) b (st .stands s l .pending ∙ e)
 
   lowest-first : (s : ℕ) → Lowest h s → first isFree row ≡ some s
-  lowest-first s w = first-is isFree row s (w .is-slot) (λ t l. idle-free t (omega (arith, w .is-slot)) true (w .below t l)) (idle-free s (w .is-slot) false (w .idle))
+  lowest-first s w = first-is isFree row s (w .is-slot) (λ t l. idle-free t (omega (arith, w .is-slot)) true (w .below t l))
+      (idle-free s (w .is-slot) false (w .idle))
 
   module _ (g : Seg) (f : Fits g) where
     -- ---- the history decides
@@ -238,7 +245,8 @@ module _ (p : ℕ) where
       let h′ : History = record { taken = enters (h .taken) g c; ticks = restarts (h .ticks) c } in
       caseB (complete ghost m (slotNo p s) (g .frame-length))
       (λ e. rw e (rw (set-set row s v free)
-      (put-stand row h h′ s free ls st (rw here (free-stands (g ∷ earlier) (restarts (h .ticks) c s) (under-whole (g ∷ earlier) (restarts (h .ticks) c s) (sym w ∙ e)))) others (λ q. clash (cc)))))
+      (put-stand row h h′ s free ls st (rw here (free-stands (g ∷ earlier) (restarts (h .ticks) c s)
+      (under-whole (g ∷ earlier) (restarts (h .ticks) c s) (sym w ∙ e)))) others (λ q. clash (cc)))))
       (λ e. rw e
       (put-stand row h h′ s v ls st
       (rw here
@@ -276,7 +284,7 @@ module _ (p : ℕ) where
       (λ t n. (writes-other (h .taken) s (g ∷ []) t n, rw (ne-eqb t s n))) refl refl refl (sym zero-now) (omega (arith, zero-now))
       (λ t lt n e′ z. clash (cc (q .strange t lt, bears-is (g .identifier) (getD row t free) e′ z)))
 
-  pub take-stand : (row : Row) (m : ℕ → List Piece) (h : History) (g : Seg) → Logs p (row .slots) m (h .taken) → Stand (row .slots) h
+  pub take-stand : (row : Peer) (m : ℕ → List Piece) (h : History) (g : Seg) → Logs p (row .slots) m (h .taken) → Stand (row .slots) h
       → Stand (takeSegment ghost p row m g .row .slots) (afterwards h g (chosen (row .slots) g) (takeSegment ghost p row m g .outcome))
   unfolding takeSegment
   take-stand row m h g lg st = placed-stand (row .slots) m h g (chosen (row .slots) g) (chosen-tells (row .slots) g) lg st
@@ -329,27 +337,29 @@ tick-stand row h st =
 
 -- ---- one segment that passes 14: exactly one case, and what is told in it
 
-pub take-by : (O : Ops) (p : ℕ) (row : Row) (m : O .S) (g : Seg) (c : Choice) → chosen (row .slots) g ≡ c
+pub take-by : (O : Ops) (p : ℕ) (row : Peer) (m : O .S) (g : Seg) (c : Choice) → chosen (row .slots) g ≡ c
     → takeSegment O p row m g ≡ placed O p (row .slots) m g c
 unfolding takeSegment
 take-by O p row m g c e = ap (placed O p (row .slots) m g) e
 
-module _ (p : ℕ) (row : Row) (m : ℕ → List Piece) (h : History) (lg : Logs p (row .slots) m (h .taken)) (st : Stand (row .slots) h) (g : Seg) (f : Fits g) where
-  abbrev told : Outcome
-  told = takeSegment ghost p row m g .outcome
+module _ (p : ℕ) (row : Peer) (m : ℕ → List Piece) (h : History) (lg : Logs p (row .slots) m (h .taken)) (st : Stand (row .slots) h) (g : Seg)
+    (f : Fits g) where
+  abbrev takeAnswer : Outcome
+  takeAnswer = takeSegment ghost p row m g .outcome
 
-  told-by : (c : Choice) → chosen (row .slots) g ≡ c → told ≡ placed ghost p (row .slots) m g c .outcome
+  told-by : (c : Choice) → chosen (row .slots) g ≡ c → takeAnswer ≡ placed ghost p (row .slots) m g c .outcome
   told-by c e = ap (λ (x : Effect ghost). x .outcome) (take-by ghost p row m g c e)
 
-  pub told-15 : Fifteen h g → told ≡ Rejected OtherLength
+  pub told-15 : Fifteen h g → takeAnswer ≡ Rejected OtherLength
   told-15 x = told-by (reject OtherLength) (chosen-other (row .slots) h st g f x)
 
-  pub told-16 : Sixteen h g → told ≡ Rejected AlreadyReceived
+  pub told-16 : Sixteen h g → takeAnswer ≡ Rejected AlreadyReceived
   told-16 x =
-      let o : overlaps ghost m (slotNo p (x .slot)) g ≡ true = covered-overlaps m (slotNo p (x .slot)) g (h .taken (x .slot)) (x .byte) (lg .pieces (x .slot) (x .bears .is-slot)) (x .its) (x .already) in
+      let o : overlaps ghost m (slotNo p (x .slot)) g ≡ true =
+      covered-overlaps m (slotNo p (x .slot)) g (h .taken (x .slot)) (x .byte) (lg .pieces (x .slot) (x .bears .is-slot)) (x .its) (x .already) in
       told-by (old (x .slot)) (chosen-old (row .slots) h st g f (x .slot) (x .bears) (x .same)) ∙ rw o
 
-  pub told-17 : Seventeen h g → told ≡ Rejected NoSlot
+  pub told-17 : Seventeen h g → takeAnswer ≡ Rejected NoSlot
   told-17 x = told-by (reject NoSlot) (chosen-full (row .slots) h st g f x)
 
   finish-told : (s : ℕ) (r : List Slot) (m′ : ℕ → List Piece) (note : Note) (earlier : List Seg) → m′ (slotNo p s) ≡ map pieceOf (g ∷ earlier)
@@ -358,7 +368,7 @@ module _ (p : ℕ) (row : Row) (m : ℕ → List Piece) (h : History) (lg : Logs
       let w : complete ghost m′ (slotNo p s) (g .frame-length) ≡ frameComplete (g ∷ earlier) = whole-is m′ (slotNo p s) (g ∷ earlier) e in
       caseB (frameComplete (g ∷ earlier)) (λ q. rw (w, q)) (λ q. rw (w, q))
 
-  pub told-further : (s : ℕ) → Further h g s → told ≡ cond (frameComplete (g ∷ h .taken s)) (Complete s) Pending
+  pub told-further : (s : ℕ) → Further h g s → takeAnswer ≡ cond (frameComplete (g ∷ h .taken s)) (Complete s) Pending
   told-further s x =
       let ls : s < 4 = x .bears .is-slot in
       let m′ : ℕ → List Piece = ghost .put m (slotNo p s) (g .offset) (storedBytes g) in
@@ -367,7 +377,7 @@ module _ (p : ℕ) (row : Row) (m : ℕ → List Piece) (h : History) (lg : Logs
       ∙ rw (apart-overlaps m (slotNo p s) g (h .taken s) (lg .pieces s ls) (x .apart))
       (finish-told s (set (row .slots) s (furtherSlot (getD (row .slots) s free) g)) m′ (noteAfter (noteOf (getD (row .slots) s free)) g) (h .taken s) pieces)
 
-  pub told-opens : (s : ℕ) → Opens h g s → told ≡ cond (frameComplete (g ∷ [])) (Complete s) Pending
+  pub told-opens : (s : ℕ) → Opens h g s → takeAnswer ≡ cond (frameComplete (g ∷ [])) (Complete s) Pending
   told-opens s x =
       let m₁ : ℕ → List Piece = ghost .clear m (slotNo p s) in
       let m′ : ℕ → List Piece = ghost .put m₁ (slotNo p s) (g .offset) (g .bytes) in
@@ -382,9 +392,14 @@ module _ (p : ℕ) (row : Row) (m : ℕ → List Piece) (h : History) (lg : Logs
     where
       strange : first (bears (g .identifier)) (row .slots) ≡ none → OneCase
       strange e =
-          let n : NoneBears h (g .identifier) = λ s w. clash (cc (first-none (bears (g .identifier)) (row .slots) e s (w .is-slot), holds-bears (row .slots) h st (g .identifier) s w)) in
+          let n : NoneBears h (g .identifier) = λ s w. clash
+          (cc (first-none (bears (g .identifier)) (row .slots) e s (w .is-slot), holds-bears (row .slots) h st (g .identifier) s w)) in
           caseO (first isFree (row .slots))
-          (λ q. inr (inr (inl (record { none-bears = n; four = λ s l. sym (st .stands s l .pending) ∙ not-free (getD (row .slots) s free) (first-none isFree (row .slots) q s l) }))))
+          (λ q. inr (inr (inl (record {
+            none-bears = n;
+            four = λ s l. sym (st .stands s l .pending)
+                ∙ not-free (getD (row .slots) s free) (first-none isFree (row .slots) q s l);
+          }))))
           (λ s q. let b : First isFree (row .slots) s = first-some isFree (row .slots) s q in
           inr (inr (inr (inr (
             s,

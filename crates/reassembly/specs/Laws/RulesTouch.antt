@@ -57,7 +57,9 @@ module _ (p s : ℕ) (p< : p < 8) (s< : s < 4) (g : Seg) (f : Fits g) where
         bits = λ i l.
             bit-is (putAt m (slotNo p s) (g .offset) (g .bytes)) (mapAt p s) i
             ∙ bits-set m₁ (mapAt p s) (g .offset) (length (g .bytes)) i (omega arith) (omega arith)
-            ∙ ap (λ (b : Bool). within (g .offset) (length (g .bytes)) i || b) (bit-of m₁ m (mapAt p s) i (sets-out (g .bytes) m (frameAt p s + g .offset) (mapAt p s + i / 8) (inr (omega arith))) ∙ sym (bit-is m (mapAt p s) i));
+            ∙ ap (λ (b : Bool). within (g .offset) (length (g .bytes)) i || b)
+            (bit-of m₁ m (mapAt p s) i (sets-out (g .bytes) m (frameAt p s + g .offset) (mapAt p s + i / 8) (inr (omega arith)))
+            ∙ sym (bit-is m (mapAt p s) i));
         others = λ j a b.
             bits-out m₁ (mapAt p s) (g .offset) (length (g .bytes)) j (omega arith) b
             ∙ sets-out (g .bytes) m (frameAt p s + g .offset) j a;

@@ -34,32 +34,34 @@ too-old : (gs : List Seg) → framePending gs 4 ≡ false
 unfolding framePending
 too-old gs = refl
 
-module _ (W : Answers) (Config : Type 0) (U : Layers W Config) (p : ℕ) (e : Endpoint Config) (rules : EveryRun W Config U p e) (m : List ℕ) (enough : 55296 ≤ length m) (k : List ℕ) (g : Seg) (sound : U .header (e .config) k ≡ segment p g) (f : Fits g) (a-part : frameComplete (g ∷ []) ≡ false) where
+module _ (W : Answers) (Config : Type 0) (U : Layers W Config) (p : ℕ) (e : Endpoint Config) (rules : EveryRun W Config U p e) (m : List ℕ)
+    (enough : 55296 ≤ length m) (k : List ℕ) (g : Seg) (sound : U .header (e .config) k ≡ segment p g) (f : Fits g)
+    (a-part : frameComplete (g ∷ []) ≡ false) where
   abbrev world : World Config
   world = record { ends = e; mem = m }
 
-  abbrev told : List Event → History
-  told es = historyOf W Config U p world es
+  abbrev takeAnswer : List Event → History
+  takeAnswer es = historyOf W Config U p world es
 
   abbrev outcome : List Event → Outcome
   outcome es = taking W Config U p (runs W Config U world es) g .outcome
 
   -- it opens slot 0
-  pub opens-first : Opens (told []) g 0
+  pub opens-first : Opens (takeAnswer []) g 0
   opens-first =
       record {
         none-bears = λ s w. clash (cc (nothing 0, w .pending));
         lowest = record { is-slot = omega arith; idle = nothing 0; below = λ t l. absurd (omega arith) };
       }
 
-  pub first : (outcome [] ≡ Pending) × ((told (receive k ∷ []) .taken 0 ≡ g ∷ []) × (told (receive k ∷ []) .ticks 0 ≡ 0))
+  pub first : (outcome [] ≡ Pending) × ((takeAnswer (receive k ∷ []) .taken 0 ≡ g ∷ []) × (takeAnswer (receive k ∷ []) .ticks 0 ≡ 0))
   first = let t = rules .ruled m enough [] k g sound f .opens 0 opens-first in (t .outcome ∙ rw a-part, (t .segments, t .clock))
 
   -- and again: 16
   pub again : outcome (receive k ∷ []) ≡ Rejected AlreadyReceived
   again =
-      let s : told (receive k ∷ []) .taken 0 ≡ g ∷ [] = first .1 .0 in
-      let c : told (receive k ∷ []) .ticks 0 ≡ 0 = first .1 .1 in
+      let s : takeAnswer (receive k ∷ []) .taken 0 ≡ g ∷ [] = first .1 .0 in
+      let c : takeAnswer (receive k ∷ []) .ticks 0 ≡ 0 = first .1 .1 in
       let b : carries g (g .offset) ≡ true = within-is (g .offset) (length (g .bytes)) (g .offset) (omega arith) (omega (arith, f .some-byte)) in
       rules .ruled m enough (receive k ∷ []) k g sound f .sixteen .all
       (record {
@@ -72,23 +74,23 @@ module _ (W : Answers) (Config : Type 0) (U : Layers W Config) (p : ℕ) (e : En
       })
 
   -- three ticks later it is pending; four, and it is not
-  pub third : pendingIn (told (receive k ∷ tick ∷ tick ∷ tick ∷ [])) 0 ≡ true
+  pub third : pendingIn (takeAnswer (receive k ∷ tick ∷ tick ∷ tick ∷ [])) 0 ≡ true
   third = rw (first .1 .0, first .1 .1) (alone g 3 a-part (omega arith))
 
-  pub fourth : pendingIn (told (receive k ∷ tick ∷ tick ∷ tick ∷ tick ∷ [])) 0 ≡ false
+  pub fourth : pendingIn (takeAnswer (receive k ∷ tick ∷ tick ∷ tick ∷ tick ∷ [])) 0 ≡ false
   fourth = rw (first .1 .0, first .1 .1) (too-old (g ∷ []))
 
   -- and the same packet opens slot 0 anew
-  pub anew : Opens (told (receive k ∷ tick ∷ tick ∷ tick ∷ tick ∷ [])) g 0
+  pub anew : Opens (takeAnswer (receive k ∷ tick ∷ tick ∷ tick ∷ tick ∷ [])) g 0
   anew =
       record {
         none-bears = λ s w. clash (cc (idle s, w .pending));
         lowest = record { is-slot = omega arith; idle = fourth; below = λ t l. absurd (omega arith) };
       }
     where
-      idle : (s : ℕ) → pendingIn (told (receive k ∷ tick ∷ tick ∷ tick ∷ tick ∷ [])) s ≡ false
+      idle : (s : ℕ) → pendingIn (takeAnswer (receive k ∷ tick ∷ tick ∷ tick ∷ tick ∷ [])) s ≡ false
       idle s =
           let t = rules .ruled m enough [] k g sound f .opens 0 opens-first in
           caseB (eqb s 0)
           (λ q. rw (eqb-true s 0 q) fourth)
-          (λ q. let o = t .others s (eqb-false s 0 q) in rw (o .0) (nothing (told (receive k ∷ tick ∷ tick ∷ tick ∷ tick ∷ []) .ticks s)))
+          (λ q. let o = t .others s (eqb-false s 0 q) in rw (o .0) (nothing (takeAnswer (receive k ∷ tick ∷ tick ∷ tick ∷ tick ∷ []) .ticks s)))

@@ -4,7 +4,7 @@ use mathlib.Core.Path.{_≡_, refl, sym, _∙_}
 use mathlib.Core.Logic.{_⊎_, inl, inr, _≢_}
 use mathlib.Core.Bool.{true, false, _||_}
 use mathlib.Core.List.{List}
-use Prim.Native.Nat.{ℕ, _+_, _-_, _≤_, _<_}
+use Prim.Native.Nat.{ℕ, _+_, _≤_, _<_}
 use native.Mathlib.Omega.{arith}
 use lib.ListN.{length, getD, set, length-set}
 use lib.Seq.{getD-set-same, getD-set-other}
@@ -12,8 +12,10 @@ use lib.Dec.{eqb}
 use borrow.Author.Tests.{eqb-true, eqb-false}
 use Rattle.reassembly.specs.Base.{within}
 use Rattle.reassembly.specs.Laws.Base.{caseB, either, clash, someBelow-ext, allBelow-ext, table-ext, allBelow-at}
-use Rattle.reassembly.specs.Slots.{Slot, Row, Note, noNote, noteOf, free}
-use Rattle.reassembly.specs.Take.{slotNo, Seg, Ops, Outcome, Rejected, Pending, Complete, AlreadyReceived, Choice, reject, old, fresh, chosen, testedBytes, storedBytes, noteAfter, openedSlot, furtherSlot, Effect, complete, overlaps, frameIn, finish, placed, takeSegment}
+use Rattle.reassembly.specs.Slots.{Slot, Peer, Note, noNote, noteOf, free}
+use Rattle.reassembly.specs.Take.{slotNo, Seg, Ops, Outcome, Rejected, Pending, Complete, AlreadyReceived, Choice, reject, old, fresh, chosen}
+use Rattle.reassembly.specs.Take.{testedBytes, storedBytes, noteAfter, openedSlot, furtherSlot, Effect, complete, overlaps, frameIn, finish, placed}
+use Rattle.reassembly.specs.Take.{takeSegment}
 use Rattle.reassembly.specs.Laws.TakeFacts.{stored-length, Tells, chosen-tells, isComplete, not-complete, complete-slot, finish-mem}
 use Rattle.reassembly.specs.Laws.Memory.{Laws}
 
@@ -75,7 +77,8 @@ module _ (A B : Ops) (k n : ℕ) (a : A .S) (b : B .S) (h : Agree A B k n a b) w
 
 module _ (A B : Ops) (LA : Laws A) (LB : Laws B) (p : ℕ) (p< : p < 8) where
   rejects-alike : (n : ℕ) (row : List Slot) (a : A .S) (b : B .S) (r : Outcome) → isComplete r ≡ false → Same A B p row a b
-      → Alike A B p n (record { row = record { slots = row }; outcome = r; note = noNote; mem = a }) (record { row = record { slots = row }; outcome = r; note = noNote; mem = b })
+      → Alike A B p n (record { row = record { slots = row }; outcome = r; note = noNote; mem = a })
+      (record { row = record { slots = row }; outcome = r; note = noNote; mem = b })
   rejects-alike n row a b r e h = record { outcome = refl; row = refl; note = refl; frame = λ s q. not-complete r s e q; same = h }
 
   -- a put keeps the agreement at its own slot
@@ -84,14 +87,22 @@ module _ (A B : Ops) (LA : Laws A) (LB : Laws B) (p : ℕ) (p< : p < 8) where
   put-agree s n at bs a b l nl f oa ob h =
       let k : ℕ = slotNo p s in
       let hA : (i : ℕ) → i < n
-      → A .received (A .put a k at bs) k i ≡ (within at (length bs) i || A .received a k i) = λ i j. LA .received-put a k at bs oa (omega arith) (omega arith) i (omega arith) in
+      → A .received (A .put a k at bs) k i ≡ (within at (length bs) i || A .received a k i) =
+      λ i j. LA .received-put a k at bs oa (omega arith) (omega arith) i (omega arith) in
       record {
         received = λ i j. cc (hA i j, LB .received-put b k at bs ob (omega arith) (omega arith) i (omega arith), h .received i j);
         byte = λ i j e.
             caseB (within at (length bs) i)
-            (λ w. cc (LA .byte-put a k at bs oa (omega arith) (omega arith) i (omega arith), LB .byte-put b k at bs ob (omega arith) (omega arith) i (omega arith)))
+            (λ w. cc (
+              LA .byte-put a k at bs oa (omega arith) (omega arith) i (omega arith),
+              LB .byte-put b k at bs ob (omega arith) (omega arith) i (omega arith),
+            ))
             (λ w. let e′ : A .received a k i ≡ true = cc (hA i j) in
-            cc (LA .byte-put a k at bs oa (omega arith) (omega arith) i (omega arith), LB .byte-put b k at bs ob (omega arith) (omega arith) i (omega arith), h .byte i j e′));
+            cc (
+              LA .byte-put a k at bs oa (omega arith) (omega arith) i (omega arith),
+              LB .byte-put b k at bs ob (omega arith) (omega arith) i (omega arith),
+              h .byte i j e′,
+            ));
       }
 
   finish-alike : (s : ℕ) (row : List Slot) (a : A .S) (b : B .S) (g : Seg) (note : Note) → s < 4 → Same A B p row a b
@@ -99,9 +110,11 @@ module _ (A B : Ops) (LA : Laws A) (LB : Laws B) (p : ℕ) (p< : p < 8) where
       → Alike A B p (g .frame-length) (finish A p s row a g note) (finish B p s row b g note)
   finish-alike s row a b g note l h t z =
       let ag : Agree A B (slotNo p s) (g .frame-length) a b = rw z at (h .agree s l t) in
-      let w : complete A a (slotNo p s) (g .frame-length) ≡ complete B b (slotNo p s) (g .frame-length) = complete-same A B (slotNo p s) (g .frame-length) a b ag in
+      let w : complete A a (slotNo p s) (g .frame-length) ≡ complete B b (slotNo p s) (g .frame-length) =
+      complete-same A B (slotNo p s) (g .frame-length) a b ag in
       caseB (complete A a (slotNo p s) (g .frame-length))
-      (λ e. let f : frameIn A a (slotNo p s) (g .frame-length) ≡ frameIn B b (slotNo p s) (g .frame-length) = frame-same A B (slotNo p s) (g .frame-length) a b ag e in
+      (λ e. let f : frameIn A a (slotNo p s) (g .frame-length) ≡ frameIn B b (slotNo p s) (g .frame-length) =
+      frame-same A B (slotNo p s) (g .frame-length) a b ag e in
       rw (← w, e) (record { outcome = refl; row = refl; note = refl; frame = λ t q. rw (← complete-slot s t q) f; same = keep free (λ e′. clash (cc)) }))
       (λ e. rw (← w, e) (rejects-alike (g .frame-length) row a b Pending refl h))
     where
@@ -159,8 +172,10 @@ module _ (A B : Ops) (LA : Laws A) (LB : Laws B) (p : ℕ) (p< : p < 8) where
       caseB (overlaps A a (slotNo p s) g)
       (λ t. rw (← w, t) (rejects-alike (g .frame-length) row a b (Rejected AlreadyReceived) refl h))
       (λ t. rw (← w, t)
-      (finish-alike s (set row s v) (A .put a (slotNo p s) (g .offset) (storedBytes g)) (B .put b (slotNo p s) (g .offset) (storedBytes g)) g (noteAfter (noteOf (getD row s free)) g) l
-      (slot-same s row v a (A .put a (slotNo p s) (g .offset) (storedBytes g)) b (B .put b (slotNo p s) (g .offset) (storedBytes g)) l h (omega (arith, q .size))
+      (finish-alike s (set row s v) (A .put a (slotNo p s) (g .offset) (storedBytes g)) (B .put b (slotNo p s) (g .offset) (storedBytes g)) g
+      (noteAfter (noteOf (getD row s free)) g) l
+      (slot-same s row v a (A .put a (slotNo p s) (g .offset) (storedBytes g)) b (B .put b (slotNo p s) (g .offset) (storedBytes g)) l h
+      (omega (arith, q .size))
       (LA .ok-put a _ _ _ (h .okA) (omega arith) (omega arith))
       (LB .ok-put b _ _ _ (h .okB) (omega arith) (omega arith))
       (rw (q .size) (put-agree s (g .frame-length) (g .offset) (storedBytes g) a b l z f′ (h .okA) (h .okB) ag))
@@ -193,7 +208,7 @@ module _ (A B : Ops) (LA : Laws A) (LB : Laws B) (p : ℕ) (p< : p < 8) where
       (λ j i n k. LB .byte-put-other b₁ _ _ _ ob₁ (omega arith) (omega arith) j i n k ∙ LB .byte-clear-other b _ (h .okB) (omega arith) j i n k))
       (rw sv) (rw sv)
 
-  pub take-alike : (row : Row) (a : A .S) (b : B .S) (g : Seg) → Same A B p (row .slots) a b
+  pub take-alike : (row : Peer) (a : A .S) (b : B .S) (g : Seg) → Same A B p (row .slots) a b
       → Alike A B p (g .frame-length) (takeSegment A p row a g) (takeSegment B p row b g)
   unfolding takeSegment
   take-alike row a b g h = placed-alike (row .slots) a b g (chosen (row .slots) g) (chosen-tells (row .slots) g) h
@@ -234,13 +249,14 @@ module _ (A : Ops) (LA : Laws A) (q : ℕ) (q< : q < 8) where
       rw (finish-mem A q) (
         record {
           ok = LA .ok-put _ _ _ _ o₁ (omega arith) (omega arith);
-          received = λ j i n k. LA .received-put-other _ _ _ _ o₁ (omega arith) (omega arith) j i (n s l) k ∙ LA .received-clear-other a _ o (omega arith) j i (n s l) k;
+          received = λ j i n k. LA .received-put-other _ _ _ _ o₁ (omega arith) (omega arith) j i (n s l) k
+              ∙ LA .received-clear-other a _ o (omega arith) j i (n s l) k;
           byte = λ j i n k. LA .byte-put-other _ _ _ _ o₁ (omega arith) (omega arith) j i (n s l) k ∙ LA .byte-clear-other a _ o (omega arith) j i (n s l) k;
         },
         finish-row s _ _ g _ l (row-set row s _ l r (λ t. z)),
       )
 
-  pub take-apart : (row : Row) (a : A .S) (g : Seg) → RowOk (row .slots) → A .Ok a
+  pub take-apart : (row : Peer) (a : A .S) (g : Seg) → RowOk (row .slots) → A .Ok a
       → Apart a (takeSegment A q row a g .mem) × RowOk (takeSegment A q row a g .row .slots)
   unfolding takeSegment
   take-apart row a g r o = placed-apart (row .slots) a g (chosen (row .slots) g) (chosen-tells (row .slots) g) r o

@@ -10,7 +10,7 @@ use lib.ListN.{getD}
 use lib.Dec.{ltb}
 use borrow.Author.Tests.{lt-ltb}
 use Rattle.reassembly.specs.Laws.Base.{caseB, clash}
-use Rattle.reassembly.specs.Slots.{Slot, Row, Note, Mark, noNote, noted, free, pendingSlot, noteOf, lifetime, older, first}
+use Rattle.reassembly.specs.Slots.{Slot, Peer, Note, Mark, noNote, noted, free, pendingSlot, noteOf, lifetime, older, first}
 
 -- the order of segments at different offsets does not matter
 pub noted-swap : (n : Note) (a b : ℕ) (j k : Mark) → a ≢ b → noted (noted n a j) b k ≡ noted (noted n b k) a j
@@ -21,7 +21,7 @@ pub noteOf-pending : (i n a : ℕ) (t : Note) → noteOf (pendingSlot i n a t) �
 unfolding Note noNote noteOf
 noteOf-pending i n a t = refl
 
-abbrev pub slotsOf : Row → List Slot
+abbrev pub slotsOf : Peer → List Slot
 slotsOf r = r .slots
 
 pub older-pending : (s : Slot) → older s .pending ≡ true

@@ -13,10 +13,11 @@ use lib.Bits.{bitOr, or-shr, or-mod}
 use borrow.Author.Tests.{ltb-true, ltb-false, eqb-true, eqb-false, lt-ltb, eq-eqb, ne-eqb, le-leb}
 use Rattle.reassembly.specs.Laws.Base.{caseB, either, clash, allBelow-at, length-table, getD-table, same-test, or-cases, or-true-r}
 use Rattle.reassembly.specs.Base.{allBelow, table, within}
-use Rattle.reassembly.specs.Slots.{Row}
+use Rattle.reassembly.specs.Slots.{Peer}
 use Rattle.reassembly.specs.Take.{slotNo, frameIn, Seg, takeSegment}
 use Rattle.reassembly.specs.Laws.Memory.{Laws, within-low, within-high, within-is}
-use Rattle.reassembly.specs.Store.{isOn, bitAt, setBit, setBits, slotStart, mapStart, mapSize, zeros, clearAt, putAt, receivedAt, byteAt, bytesOf, hasSlots, takeIn}
+use Rattle.reassembly.specs.Store.{isOn, bitAt, setBit, setBits, slotStart, mapStart, mapSize, zeros, clearAt, putAt, receivedAt, byteAt, bytesOf}
+use Rattle.reassembly.specs.Store.{hasSlots, takeIn}
 
 -- ---- a run of stores, read back
 
@@ -69,7 +70,8 @@ unfolding allBelow isOn sameB
 powers = refl
 
 on-power : (j k : ℕ) → j < 8 → k < 8 → isOn (2 ^ j) k ≡ eqb k j
-on-power j k lj lk = sameB-eq (isOn (2 ^ j) k) (eqb k j) (allBelow-at 8 (λ k. sameB (isOn (2 ^ j) k) (eqb k j)) (allBelow-at 8 (λ j. allBelow 8 (λ k. sameB (isOn (2 ^ j) k) (eqb k j))) powers j lj) k lk)
+on-power j k lj lk = sameB-eq (isOn (2 ^ j) k) (eqb k j) (allBelow-at 8 (λ k. sameB (isOn (2 ^ j) k) (eqb k j))
+    (allBelow-at 8 (λ j. allBelow 8 (λ k. sameB (isOn (2 ^ j) k) (eqb k j))) powers j lj) k lk)
 
 on-set : (x j k : ℕ) → j < 8 → k < 8 → isOn (bitOr x (2 ^ j)) k ≡ (isOn x k || eqb k j)
 on-set x j k lj lk = cc (on-or x (2 ^ j) k, on-power j k lj lk)
@@ -115,7 +117,8 @@ bits-set m b a (suc n) j l f =
     (λ e. either (or-cases (eqb j (a + n)) (within a n j) e)
     (λ q. let z : j ≡ a + n = eqb-true j (a + n) q in within-is a (suc n) j (omega arith) (omega arith))
     (λ q. within-is a (suc n) j (within-low a n j q) (omega (arith, within-high a n j q)))) in
-    bit-set (setBits m b a n) b (a + n) j (omega (arith, length-setBits m b a n)) ∙ rw (w, bits-set m b a n j l (omega arith)) (or-assoc′ (eqb j (a + n)) (within a n j) (bitAt m b j))
+    bit-set (setBits m b a n) b (a + n) j (omega (arith, length-setBits m b a n))
+    ∙ rw (w, bits-set m b a n j l (omega arith)) (or-assoc′ (eqb j (a + n)) (within a n j) (bitAt m b j))
   where
     or-assoc′ : (x y z : Bool) → (x || (y || z)) ≡ ((x || y) || z)
     or-assoc′ true y z = refl
@@ -171,7 +174,8 @@ bytes-laws =
           (caseB (ltb j k) (λ e. inl (omega (arith, ltb-true j k e))) (λ e. inr (omega (arith, ltb-false j k e))));
       received-clear = λ m k o l i h.
           let z : getD (sets m (mapStart k) zeros) (mapStart k + i / 8) 0 ≡ 0 =
-          sets-in zeros m (mapStart k) (mapStart k + i / 8) (omega (arith, length-replicate {A = ℕ} mapSize 0)) (omega arith) (omega (arith, length-replicate {A = ℕ} mapSize 0))
+          sets-in zeros m (mapStart k) (mapStart k + i / 8) (omega (arith, length-replicate {A = ℕ} mapSize 0)) (omega arith)
+          (omega (arith, length-replicate {A = ℕ} mapSize 0))
           ∙ getD-replicate {A = ℕ} mapSize (mapStart k + i / 8 - (mapStart k)) 0 0 (omega arith) in
           rw (z, zero-div (2 ^ (i % 8)));
       received-clear-other = λ m k o l j i n h. ap (λ (x : ℕ). isOn x (i % 8)) (map-out m k j i n h);
@@ -217,6 +221,6 @@ setBits-behind p x b a (suc n) l =
     rw (setBits-behind p x b a n l, getD-behind p (setBits x 0 a n) ((a + n) / 8) b l, zero-add)
     (set-behind p (setBits x 0 a n) ((a + n) / 8) _ b l)
 
-pub take-in : (p : ℕ) (row : Row) (m : List ℕ) (g : Seg) → p < 8 → 55296 ≤ length m → takeIn p row m g ≡ takeSegment bytesOf p row m g
+pub take-in : (p : ℕ) (row : Peer) (m : List ℕ) (g : Seg) → p < 8 → 55296 ≤ length m → takeIn p row m g ≡ takeSegment bytesOf p row m g
 unfolding hasSlots takeIn
 take-in p row m g l o = rw (lt-ltb p 8 l, le-leb 55296 (length m) o)

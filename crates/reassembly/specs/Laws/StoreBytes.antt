@@ -8,7 +8,7 @@ use lib.Pow.{pow-lt}
 use lib.Bits.{bitOr, or-lt}
 use Rattle.wire.specs.Bytes.{Bytes}
 use Rattle.reassembly.specs.Laws.Base.{caseB}
-use Rattle.reassembly.specs.Slots.{Slot, Row, free, noNote, noteOf}
+use Rattle.reassembly.specs.Slots.{Slot, Peer, free, noNote, noteOf}
 use Rattle.reassembly.specs.Take.{slotNo, Seg, Choice, reject, old, fresh, chosen, noteAfter, openedSlot, furtherSlot, overlaps, placed, takeSegment}
 use Rattle.reassembly.specs.Laws.TakeFacts.{finish-mem}
 use Rattle.reassembly.specs.Store.{setBit, setBits, slotStart, mapStart, zeros, clearAt, putAt, bytesOf, hasSlots, takeIn}
@@ -54,11 +54,15 @@ bytes-placed p row m g (reject r) b h = b
 bytes-placed p row m g (old s) b h =
     caseB (overlaps bytesOf m (slotNo p s) g)
     (λ e. rw e b)
-    (λ e. rw (e, finish-mem bytesOf p s (set row s (furtherSlot (getD row s free) g)) (putAt m (slotNo p s) (g .offset) (g .bytes)) g (noteAfter (noteOf (getD row s free)) g)) (bytes-put m (slotNo p s) (g .offset) (g .bytes) b h))
+    (λ e. rw (
+      e,
+      finish-mem bytesOf p s (set row s (furtherSlot (getD row s free) g)) (putAt m (slotNo p s) (g .offset) (g .bytes)) g
+          (noteAfter (noteOf (getD row s free)) g),
+    ) (bytes-put m (slotNo p s) (g .offset) (g .bytes) b h))
 bytes-placed p row m g (fresh s) b h =
     rw (finish-mem bytesOf p s (set row s (openedSlot g)) (putAt (clearAt m (slotNo p s)) (slotNo p s) (g .offset) (g .bytes)) g (noteAfter noNote g))
     (bytes-put (clearAt m (slotNo p s)) (slotNo p s) (g .offset) (g .bytes) (bytes-clear m (slotNo p s) b) h)
 
-pub take-bytes : (p : ℕ) (row : Row) (m : List ℕ) (g : Seg) → Bytes m → Bytes (g .bytes) → Bytes (takeIn p row m g .mem)
+pub take-bytes : (p : ℕ) (row : Peer) (m : List ℕ) (g : Seg) → Bytes m → Bytes (g .bytes) → Bytes (takeIn p row m g .mem)
 unfolding takeIn takeSegment
 take-bytes p row m g b h = caseB (hasSlots p m) (λ e. rw e (bytes-placed p (row .slots) m g (chosen (row .slots) g) b h)) (λ e. rw e b)

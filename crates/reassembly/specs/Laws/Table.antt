@@ -16,9 +16,10 @@ use Rattle.reassembly.specs.Laws.Base.{caseB, caseO, clash, or-false-l, 
 use Rattle.reassembly.specs.Base.{someBelow, allBelow, within}
 use Rattle.reassembly.specs.Search.{from, lowest, found}
 use Rattle.reassembly.specs.Laws.Search.{lowest-some, found-some, found-none}
-use Rattle.reassembly.specs.Slots.{Slot, Row, Note, noNote, noteOf, free, first, bears, isFree}
+use Rattle.reassembly.specs.Slots.{Slot, Peer, Note, noNote, noteOf, free, first, bears, isFree}
 use Rattle.reassembly.specs.Laws.Slots.{first-some, first-none}
-use Rattle.reassembly.specs.Take.{Seg, Effect, Choice, reject, old, chosen, chooseNew, choose, slotNo, furtherSlot, openedSlot, noteAfter, overlaps, frameIn, finish, placed, takeSegment}
+use Rattle.reassembly.specs.Take.{Seg, Effect, Choice, reject, old, chosen, chooseNew, choose, slotNo, furtherSlot, openedSlot, noteAfter, overlaps}
+use Rattle.reassembly.specs.Take.{frameIn, finish, placed, takeSegment}
 use Rattle.reassembly.specs.Take as K
 use Rattle.reassembly.specs.Store.{isOn, bitAt, slotStart, mapStart, clearAt, putAt, receivedAt, byteAt, bytesOf, takeIn}
 use Rattle.reassembly.specs.Laws.Store.{take-in, bytes-laws}
@@ -61,7 +62,7 @@ chosen-is h row g =
     caseB (ltb 1532 (g .frame-length)) (λ c. rw (a, b, c)) (λ c.
     caseB (ltb (g .frame-length) (g .offset + length (g .bytes))) (λ d. rw (a, b, c, d)) (λ d. rw (a, b, c, d)))))
 
-module _ (f : List ℕ → ℕ) (p : ℕ) (row : Row) (m : List ℕ) (g : Seg) where
+module _ (f : List ℕ → ℕ) (p : ℕ) (row : Peer) (m : List ℕ) (g : Seg) where
   -- the words of the page, of this segment
   abbrev slots : List Slot
   slots = row .slots
@@ -239,7 +240,7 @@ reassembly-table = record { segment = λ f p row m g small enough. taken-number 
 
 -- ---- for what is made of a complete frame: behind these rows it has at least 32 bytes
 
-module _ (p : ℕ) (row : Row) (m : List ℕ) (g : Seg) where
+module _ (p : ℕ) (row : Peer) (m : List ℕ) (g : Seg) where
   pub complete-length : length (completeFrame p row m g) ≡ g .frame-length
   unfolding completeFrame
   complete-length = length-table (g .frame-length) _

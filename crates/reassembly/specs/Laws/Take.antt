@@ -9,14 +9,16 @@ use Prim.Native.Nat.{ℕ, _+_, _*_, _≤_, _<_}
 use native.Mathlib.Omega.{arith}
 use lib.ListN.{length, getD, set}
 use borrow.Author.Tests.{lt-ltb, le-ltb, lt-leb, eq-eqb, ne-eqb}
-use Rattle.reassembly.specs.declared.slot.Found.the-variants.{At, Nothing}
+use Rattle.reassembly.specs.declared.slot.FoundSlot.the-variants.{At, Nothing}
 use Rattle.reassembly.specs.declared.take.Decision.the-variants.{Reject, Further, Open}
 use Rattle.reassembly.specs.declared.take.Taken.{Taken}
 use Rattle.reassembly.specs.Base.{someBelow, allBelow}
 use Rattle.reassembly.specs.Laws.Base.{caseB, clash}
-use Rattle.reassembly.specs.Slots.{Slot, Row, free, first, bears, isFree, Note, noNote, noteOf, foundOf}
+use Rattle.reassembly.specs.Slots.{Slot, Peer, free, first, bears, isFree, Note, noNote, noteOf, foundOf}
 use Rattle.reassembly.specs.Laws.Slots.{first-some, first-is, first-not}
-use Rattle.reassembly.specs.Take.{Seg, Choice, reject, old, fresh, chosen, Effect, finish, placed, rejects, takeSegment, complete, overlaps, furtherSlot, openedSlot, noteAfter, Rejection, Empty, FrameLength, PastEnd, OtherLength, AlreadyReceived, NoSlot, Rejected, Pending, Complete, NoMemory, Fits, Old, Fresh, decisionOf}
+use Rattle.reassembly.specs.Take.{Seg, Choice, reject, old, fresh, chosen, Effect, finish, placed, rejects, takeSegment, complete, overlaps, furtherSlot}
+use Rattle.reassembly.specs.Take.{openedSlot, noteAfter, Rejection, Empty, FrameLength, PastEnd, OtherLength, AlreadyReceived, NoSlot, Rejected, Pending}
+use Rattle.reassembly.specs.Take.{Complete, NoMemory, Fits, Old, Fresh, decisionOf}
 use Rattle.reassembly.specs.Laws.TakeFacts.{chosen-tells, chosen-fits, finish-mem}
 use Rattle.reassembly.specs.Store.{bytesOf, takeIn, hasSlots, receivedAt, clearAt, putAt, takenOf, finished}
 use Rattle.reassembly.specs.Laws.Store.{take-in}
@@ -68,7 +70,12 @@ module _ (row : List Slot) (g : Seg) where
   pub decide-past : length (g .bytes) ≢ 0 → 32 ≤ g .frame-length → g .frame-length ≤ 1532 → g .frame-length < g .offset + length (g .bytes)
       → Reject PastEnd ≡ decisionOf (chosen row g)
   unfolding decisionOf chosen
-  decide-past n h l p = rw (ne-eqb (length (g .bytes)) 0 n, le-ltb (g .frame-length) 32 h, le-ltb 1532 (g .frame-length) l, lt-ltb (g .frame-length) (g .offset + length (g .bytes)) p)
+  decide-past n h l p = rw (
+    ne-eqb (length (g .bytes)) 0 n,
+    le-ltb (g .frame-length) 32 h,
+    le-ltb 1532 (g .frame-length) l,
+    lt-ltb (g .frame-length) (g .offset + length (g .bytes)) p,
+  )
 
   pub decide-other : Fits g → (s : ℕ) → At s ≡ foundOf (first (bears (g .identifier)) row) → getD row s free .«frame_length» ≢ g .frame-length
       → Reject OtherLength ≡ decisionOf (chosen row g)
@@ -78,7 +85,11 @@ module _ (row : List Slot) (g : Seg) where
   pub decide-further : Fits g → (s : ℕ) → At s ≡ foundOf (first (bears (g .identifier)) row) → getD row s free .«frame_length» ≡ g .frame-length
       → Further s ≡ decisionOf (chosen row g)
   unfolding decisionOf
-  decide-further f s e d = rw (chosen-fits row g f, from-at (first (bears (g .identifier)) row) s e, eq-eqb (getD row s free .«frame_length») (g .frame-length) d)
+  decide-further f s e d = rw (
+    chosen-fits row g f,
+    from-at (first (bears (g .identifier)) row) s e,
+    eq-eqb (getD row s free .«frame_length») (g .frame-length) d,
+  )
 
   pub decide-full : Fits g → Nothing ≡ foundOf (first (bears (g .identifier)) row) → Nothing ≡ foundOf (first isFree row)
       → Reject NoSlot ≡ decisionOf (chosen row g)
@@ -98,7 +109,7 @@ finish-taken : (p s : ℕ) (row : List Slot) (m : List ℕ) (g : Seg) (note : No
 unfolding takenOf finished
 finish-taken p s row m g note = caseB (complete bytesOf m (4 * p + s) (g .frame-length)) (λ e. rw e) (λ e. rw e)
 
-module _ (p s : ℕ) (row : Row) (m : List ℕ) where
+module _ (p s : ℕ) (row : Peer) (m : List ℕ) where
   pub finish-complete : (n : ℕ) (x : Slot) (b : Bool) → b ≡ allBelow n (λ i. receivedAt m (4 * p + s) i) → b ≡ true → x ≡ free
       → _≡_ {A = Taken} (record { row = record { slots = set (row .slots) s x }; outcome = Complete s }) (finished p s row m n)
   unfolding finished complete
@@ -110,7 +121,8 @@ module _ (p s : ℕ) (row : Row) (m : List ℕ) where
   finish-pending n b e t = rw (← e, t)
 
   pub further-refused : (g : Seg) (b : Bool) → b ≡ someBelow (length (g .bytes)) (λ i. receivedAt m (4 * p + s) (g .offset + i)) → b ≡ true
-      → (_≡_ {A = Taken} (record { row = row; outcome = Rejected AlreadyReceived }) (takenOf (placed bytesOf p (row .slots) m g (old s)))) × (m ≡ placed bytesOf p (row .slots) m g (old s) .mem)
+      → (_≡_ {A = Taken} (record { row = row; outcome = Rejected AlreadyReceived }) (takenOf (placed bytesOf p (row .slots) m g (old s))))
+      × (m ≡ placed bytesOf p (row .slots) m g (old s) .mem)
   unfolding takenOf overlaps
   further-refused g b e t = (rw (← e, t), rw (← e, t))
 
@@ -131,7 +143,8 @@ module _ (p s : ℕ) (row : Row) (m : List ℕ) where
       → r ≡ finished p s (record { slots = set (row .slots) s (openedSlot g) }) m₂ (g .frame-length)
       → (r ≡ takenOf (placed bytesOf p (row .slots) m g (fresh s))) × (m₂ ≡ placed bytesOf p (row .slots) m g (fresh s) .mem)
   open-stored g m₁ m₂ r e₁ e₂ er =
-      let at : putAt (clearAt m (4 * p + s)) (4 * p + s) (g .offset) (g .bytes) ≡ m₂ = ap (λ (t : List ℕ). putAt t (4 * p + s) (g .offset) (g .bytes)) (sym e₁) ∙ sym e₂ in (
+      let at : putAt (clearAt m (4 * p + s)) (4 * p + s) (g .offset) (g .bytes) ≡ m₂ = ap (λ (t : List ℕ). putAt t (4 * p + s) (g .offset) (g .bytes)) (sym e₁)
+      ∙ sym e₂ in (
         er ∙ rw at (sym (finish-taken p s (set (row .slots) s (openedSlot g)) m₂ g (noteAfter noNote g))),
         rw at (sym (finish-mem bytesOf p s (set (row .slots) s (openedSlot g)) m₂ g (noteAfter noNote g))),
       )
@@ -167,7 +180,7 @@ further-is row g s e = rw (chosen-is-old (chosen row g) s e) at (chosen-tells ro
 pub open-is : (row : List Slot) (g : Seg) (s : ℕ) → Open s ≡ decisionOf (chosen row g) → Fresh row g s
 open-is row g s e = rw (chosen-is-fresh (chosen row g) s e) at (chosen-tells row g)
 
-module _ (p : ℕ) (row : Row) (m : List ℕ) (g : Seg) where
+module _ (p : ℕ) (row : Peer) (m : List ℕ) (g : Seg) where
   pub no-peer : 8 ≤ p → (_≡_ {A = Taken} (record { row = row; outcome = NoMemory }) (takenOf (takeIn p row m g))) × (m ≡ takeIn p row m g .mem)
   unfolding takenOf takeIn hasSlots
   no-peer h = (rw (le-ltb p 8 h), rw (le-ltb p 8 h))

@@ -1,5 +1,5 @@
 -- What the decision on a segment tells of the segment and the row, and an outcome of the segment.
-use mathlib.Core.Path.{_≡_, refl, ap, subst, _∙_}
+use mathlib.Core.Path.{_≡_, refl, ap, _∙_}
 use mathlib.Core.Logic.{_≢_}
 use mathlib.Core.Bool.{Bool, true, false, _||_}
 use mathlib.Core.List.{List}
@@ -10,9 +10,11 @@ use lib.ListN.{length, getD, set}
 use lib.Dec.{ltb, eqb}
 use borrow.Author.Tests.{ltb-false, eqb-true, eqb-false, le-ltb, eq-eqb, ne-eqb}
 use Rattle.reassembly.specs.Laws.Base.{length-table, caseB, clash, and-l, and-r, or-false-l, or-false-r}
-use Rattle.reassembly.specs.Slots.{Slot, Row, Note, noNote, noteOf, free, first, bears, isFree}
+use Rattle.reassembly.specs.Slots.{Slot, Peer, Note, noNote, noteOf, free, first, bears, isFree}
 use Rattle.reassembly.specs.Laws.Slots.{First, first-some, first-none}
-use Rattle.reassembly.specs.Take.{slotNo, Seg, Ops, Rejection, Empty, FrameLength, PastEnd, OtherLength, AlreadyReceived, NoSlot, rejectionCode, Outcome, Rejected, Pending, Complete, NoMemory, storedBytes, noteAfter, openedSlot, furtherSlot, complete, overlaps, frameIn, finish, placed, takeSegment, Choice, reject, old, fresh, choose, chooseNew, chosen}
+use Rattle.reassembly.specs.Take.{slotNo, Seg, Ops, Rejection, Empty, FrameLength, PastEnd, OtherLength, AlreadyReceived, NoSlot, rejectionCode, Outcome}
+use Rattle.reassembly.specs.Take.{Rejected, Pending, Complete, NoMemory, storedBytes, noteAfter, openedSlot, furtherSlot, complete, overlaps, frameIn}
+use Rattle.reassembly.specs.Take.{finish, placed, takeSegment, Choice, reject, old, fresh, choose, chooseNew, chosen}
 pub use Rattle.reassembly.specs.Take.{Fits, Old, Fresh}
 
 pub stored-length : (g : Seg) → length (storedBytes g) ≡ length (g .bytes)
@@ -146,10 +148,12 @@ module _ (O : Ops) where
   placed-tells p t row m g (old s) q e =
       caseB (overlaps O m (slotNo p s) g)
       (λ c. not-complete (Rejected AlreadyReceived) t refl (rw c at e))
-      (λ c. let z : s ≡ t = finish-tells p s t (set row s (furtherSlot (getD row s free) g)) (O .put m (slotNo p s) (g .offset) (storedBytes g)) g (noteAfter (noteOf (getD row s free)) g) (rw c at e) in (rw z at (q .is-slot), q .fits))
-  placed-tells p t row m g (fresh s) q e = let z : s ≡ t = finish-tells p s t (set row s (openedSlot g)) (O .put (O .clear m (slotNo p s)) (slotNo p s) (g .offset) (g .bytes)) g (noteAfter noNote g) e in (rw z at (q .is-slot), q .fits)
+      (λ c. let z : s ≡ t = finish-tells p s t (set row s (furtherSlot (getD row s free) g)) (O .put m (slotNo p s) (g .offset) (storedBytes g)) g
+      (noteAfter (noteOf (getD row s free)) g) (rw c at e) in (rw z at (q .is-slot), q .fits))
+  placed-tells p t row m g (fresh s) q e = let z : s ≡ t = finish-tells p s t (set row s (openedSlot g))
+      (O .put (O .clear m (slotNo p s)) (slotNo p s) (g .offset) (g .bytes)) g (noteAfter noNote g) e in (rw z at (q .is-slot), q .fits)
 
-  pub take-complete : (p t : ℕ) (row : Row) (m : O .S) (g : Seg) → takeSegment O p row m g .outcome ≡ Complete t → (t < 4) × Fits g
+  pub take-complete : (p t : ℕ) (row : Peer) (m : O .S) (g : Seg) → takeSegment O p row m g .outcome ≡ Complete t → (t < 4) × Fits g
   unfolding takeSegment
   take-complete p t row m g e = placed-tells p t (row .slots) m g (chosen (row .slots) g) (chosen-tells (row .slots) g) e
 
@@ -167,11 +171,12 @@ module _ (O : Ops) where
   placed-rejects p row m g (old s) r e =
       caseB (overlaps O m (slotNo p s) g)
       (λ c. rw c (refl, refl))
-      (λ c. finish-takes p s (set row s (furtherSlot (getD row s free) g)) (O .put m (slotNo p s) (g .offset) (storedBytes g)) g (noteAfter (noteOf (getD row s free)) g) r (rw c at e))
+      (λ c. finish-takes p s (set row s (furtherSlot (getD row s free) g)) (O .put m (slotNo p s) (g .offset) (storedBytes g)) g
+      (noteAfter (noteOf (getD row s free)) g) r (rw c at e))
   placed-rejects p row m g (fresh s) r e =
       finish-takes p s (set row s (openedSlot g)) (O .put (O .clear m (slotNo p s)) (slotNo p s) (g .offset) (g .bytes)) g (noteAfter noNote g) r e
 
-  pub take-rejects : (p : ℕ) (row : Row) (m : O .S) (g : Seg) (r : Rejection) → takeSegment O p row m g .outcome ≡ Rejected r
+  pub take-rejects : (p : ℕ) (row : Peer) (m : O .S) (g : Seg) (r : Rejection) → takeSegment O p row m g .outcome ≡ Rejected r
       → (takeSegment O p row m g .row ≡ row) × (takeSegment O p row m g .mem ≡ m)
   unfolding takeSegment
   take-rejects p row m g r e = placed-rejects p (row .slots) m g (chosen (row .slots) g) r e

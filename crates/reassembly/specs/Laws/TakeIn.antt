@@ -3,7 +3,7 @@
 use mathlib.Core.Path.{_≡_, refl, sym, _∙_}
 use mathlib.Core.Bool.{_&&_}
 use mathlib.Core.List.{List}
-use Prim.Native.Nat.{ℕ, _+_, _-_, _*_, _≤_, _<_}
+use Prim.Native.Nat.{ℕ, _+_, _*_, _≤_, _<_}
 use native.Mathlib.Omega.{arith}
 use lib.ListN.{length, getD, set, take, drop, replicate, length-drop, length-take}
 use lib.Seq.{sets, length-sets, ext-getD, getD-drop, getD-take}
@@ -11,8 +11,9 @@ use lib.Dec.{ltb, leb}
 use borrow.Author.Tests.{ltb-true, leb-true}
 use Rattle.reassembly.specs.Laws.Base.{caseB, and-l, and-r, length-table, getD-table}
 use Rattle.reassembly.specs.Base.{table}
-use Rattle.reassembly.specs.Slots.{Slot, Row, Note, noNote, noteOf, free}
-use Rattle.reassembly.specs.Take.{Seg, slotNo, storedBytes, AlreadyReceived, Rejection, Rejected, Pending, Complete, NoMemory, Choice, reject, old, fresh, chosen, Effect, complete, overlaps, frameIn, finish, placed, furtherSlot, openedSlot, noteAfter, takeSegment, Fits}
+use Rattle.reassembly.specs.Slots.{Slot, Peer, Note, noNote, noteOf, free}
+use Rattle.reassembly.specs.Take.{Seg, slotNo, storedBytes, AlreadyReceived, Rejection, Rejected, Pending, Complete, NoMemory, Choice, reject, old, fresh}
+use Rattle.reassembly.specs.Take.{chosen, Effect, complete, overlaps, frameIn, finish, placed, furtherSlot, openedSlot, noteAfter, takeSegment, Fits}
 use Rattle.reassembly.specs.Laws.TakeFacts.{not-complete, take-complete, take-rejects}
 use Rattle.reassembly.specs.Store.{bytesOf, hasSlots, takeIn, putAt, clearAt, slotStart, mapStart, byteAt, takenOf}
 use Rattle.reassembly.specs.Laws.Store.{length-setBits}
@@ -40,7 +41,7 @@ placed-length p row m g (fresh s) =
     let l : length (putAt (clearAt m k) k (g .offset) (g .bytes)) ≡ length m = length-put (clearAt m k) k (g .offset) (g .bytes) ∙ length-clear m k in
     caseB (complete bytesOf (putAt (clearAt m k) k (g .offset) (g .bytes)) k (g .frame-length)) (λ d. rw d l) (λ d. rw d l)
 
-pub take-length : (p : ℕ) (row : Row) (m : List ℕ) (g : Seg) → length (takeIn p row m g .mem) ≡ length m
+pub take-length : (p : ℕ) (row : Peer) (m : List ℕ) (g : Seg) → length (takeIn p row m g .mem) ≡ length m
 unfolding takeIn takeSegment
 take-length p row m g =
     caseB (hasSlots p m)
@@ -55,7 +56,7 @@ pub record Whole (p s : ℕ) (m : List ℕ) (g : Seg) : Type 0 where
   pub fits : Fits g
   pub memory : 55296 ≤ length m
 
-pub take-whole : (p s : ℕ) (row : Row) (m : List ℕ) (g : Seg) → takeIn p row m g .outcome ≡ Complete s → Whole p s m g
+pub take-whole : (p s : ℕ) (row : Peer) (m : List ℕ) (g : Seg) → takeIn p row m g .outcome ≡ Complete s → Whole p s m g
 unfolding takeIn hasSlots
 take-whole p s row m g e =
     caseB (ltb p 8 && leb 55296 (length m))
@@ -96,7 +97,7 @@ taken-outcome e = refl
 
 -- ---- what is not taken changes nothing
 
-pub take-refused : (p : ℕ) (row : Row) (m : List ℕ) (g : Seg) (r : Rejection) → takeIn p row m g .outcome ≡ Rejected r
+pub take-refused : (p : ℕ) (row : Peer) (m : List ℕ) (g : Seg) (r : Rejection) → takeIn p row m g .outcome ≡ Rejected r
     → (takeIn p row m g .row ≡ row) × (takeIn p row m g .mem ≡ m)
 unfolding takeIn
 take-refused p row m g r e =
@@ -115,11 +116,12 @@ some-placed p row m g (reject r) e = let y : _≡_ {A = ℕ} 0 1 = cc in omega a
 some-placed p row m g (old s) e =
     caseB (overlaps bytesOf m (slotNo p s) g)
     (λ d. let z : Rejected AlreadyReceived ≡ NoMemory = rw d at e in let y : _≡_ {A = ℕ} 0 1 = cc (z) in omega arith)
-    (λ d. some-finish p s (set row s (furtherSlot (getD row s free) g)) (putAt m (slotNo p s) (g .offset) (storedBytes g)) g (noteAfter (noteOf (getD row s free)) g) (rw d at e))
+    (λ d. some-finish p s (set row s (furtherSlot (getD row s free) g)) (putAt m (slotNo p s) (g .offset) (storedBytes g)) g
+    (noteAfter (noteOf (getD row s free)) g) (rw d at e))
 some-placed p row m g (fresh s) e =
     some-finish p s (set row s (openedSlot g)) (putAt (clearAt m (slotNo p s)) (slotNo p s) (g .offset) (g .bytes)) g (noteAfter noNote g) e
 
-pub take-no-memory : (p : ℕ) (row : Row) (m : List ℕ) (g : Seg) → takeIn p row m g .outcome ≡ NoMemory
+pub take-no-memory : (p : ℕ) (row : Peer) (m : List ℕ) (g : Seg) → takeIn p row m g .outcome ≡ NoMemory
     → (takeIn p row m g .row ≡ row) × (takeIn p row m g .mem ≡ m)
 unfolding takeIn takeSegment
 take-no-memory p row m g e =

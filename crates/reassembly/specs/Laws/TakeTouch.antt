@@ -10,8 +10,9 @@ use lib.ListN.{getD, set}
 use lib.Seq.{set-set}
 use borrow.Author.Tests.{lt-ltb, le-ltb}
 use Rattle.reassembly.specs.Laws.Base.{caseB, allBelow-at}
-use Rattle.reassembly.specs.Slots.{Slot, Row, Note, noNote, noteOf, free, noRow, lifetime, older, olderRow}
-use Rattle.reassembly.specs.Take.{slotNo, Seg, Rejected, Pending, Complete, NoMemory, AlreadyReceived, Choice, reject, old, fresh, chosen, noteAfter, openedSlot, furtherSlot, Effect, complete, overlaps, finish, placed, takeSegment}
+use Rattle.reassembly.specs.Slots.{Slot, Peer, Note, noNote, noteOf, free, lifetime, older}
+use Rattle.reassembly.specs.Take.{slotNo, Seg, Rejected, Pending, Complete, NoMemory, AlreadyReceived, Choice, reject, old, fresh, chosen, noteAfter}
+use Rattle.reassembly.specs.Take.{openedSlot, furtherSlot, complete, overlaps, finish, placed, takeSegment}
 use Rattle.reassembly.specs.Laws.TakeFacts.{not-complete}
 use Rattle.reassembly.specs.Store.{isOn, bitAt, mapStart, receivedAt, bytesOf, hasSlots, takeIn, putAt, clearAt}
 use Rattle.reassembly.specs.Laws.TakeIn.{Whole, take-whole}
@@ -55,7 +56,7 @@ module _ (p : ℕ) (row : List Slot) (m : List ℕ) (g : Seg) where
       finished s t (openedSlot g) (putAt (clearAt m (slotNo p t)) (slotNo p t) (g .offset) (g .bytes)) (noteAfter noNote g) true
       (λ q. touches-opens p t (w .is-peer) (rw q (w .is-slot)) g (w .fits) m (w .memory)) e
 
-pub take-completes : (p s : ℕ) (row : Row) (m : List ℕ) (g : Seg) → takeIn p row m g .outcome ≡ Complete s
+pub take-completes : (p s : ℕ) (row : Peer) (m : List ℕ) (g : Seg) → takeIn p row m g .outcome ≡ Complete s
     → Completes p s g (row .slots) (takeIn p row m g .row .slots) m (takeIn p row m g .mem)
 unfolding takeIn takeSegment
 take-completes p s row m g e =

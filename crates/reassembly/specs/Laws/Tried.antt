@@ -12,9 +12,10 @@ use borrow.Author.Tests.{ltb-true}
 use Rattle.reassembly.specs.Laws.Base.{caseB, below-two}
 use Rattle.reassembly.specs.Base.{someBelow, allBelow, table, within}
 use Rattle.reassembly.specs.Slots.{Note, noMark, older, olderRow, first, bears, isFree}
-use Rattle.reassembly.specs.Take.{Seg, Rejection, Empty, FrameLength, PastEnd, OtherLength, AlreadyReceived, NoSlot, rejectionCode, chosen, complete, overlaps, frameIn, takeSegment}
+use Rattle.reassembly.specs.Take.{Seg, Rejection, Empty, FrameLength, PastEnd, OtherLength, AlreadyReceived, NoSlot, rejectionCode, chosen, complete}
+use Rattle.reassembly.specs.Take.{overlaps, frameIn, takeSegment}
 use Rattle.reassembly.specs.Store.{isOn, bitAt, setBit, setBits, slotStart, mapStart, clearAt, putAt, receivedAt, byteAt, bytesOf}
-use Rattle.reassembly.specs.Receive.{Place, nowhere, Answers, Answer, Verdict, good, bad, Seen, stranger, segment, Event, receive, tick}
+use Rattle.reassembly.specs.Receive.{Place, nowhere, Answers, Answer, Verdict, good, bad, Reading, otherSender, segment, Event, receive, tick}
 use Rattle.reassembly.specs.Laws.Runs.{answers}
 use Rattle.reassembly.specs.Laws.NonInterference.{start, ghostStart}
 use Rattle.reassembly.specs.Laws.Ghost.{ghost}
@@ -69,9 +70,9 @@ toyAnswers =
 abbrev segIn : List ℕ → Seg
 segIn k = record { identifier = getD k 0 0; frame-length = getD k 1 0; offset = getD k 2 0; bytes = drop 3 k; mark = noMark }
 
-abbrev toy : List ℕ → Seen toyAnswers
-toy [] = stranger (empty 3)
-toy (p ∷ k) = cond (ltb p 8) (segment p (segIn k)) (stranger (empty 7))
+abbrev toy : List ℕ → Reading toyAnswers
+toy [] = otherSender (empty 3)
+toy (p ∷ k) = cond (ltb p 8) (segment p (segIn k)) (otherSender (empty 7))
 
 abbrev toySource : List ℕ → Option ℕ
 toySource [] = none
@@ -98,7 +99,8 @@ unfolding takeSegment chosen first bears isFree complete overlaps frameIn allBel
 case10 = refl
 
 -- another length, a byte already received, past the end, too short, empty; then a bad frame, whose slot is free again
-rejections : codes (seg 1 40 0 8 ∷ seg 1 41 8 8 ∷ seg 1 40 7 8 ∷ seg 1 40 8 33 ∷ seg 1 31 0 8 ∷ seg 1 40 8 0 ∷ seg 9 32 0 32 ∷ seg 9 33 0 8 ∷ []) ≡ 1 ∷ 15 ∷ 16 ∷ 14 ∷ 14 ∷ 14 ∷ 13 ∷ 1 ∷ []
+rejections : codes (seg 1 40 0 8 ∷ seg 1 41 8 8 ∷ seg 1 40 7 8 ∷ seg 1 40 8 33 ∷ seg 1 31 0 8 ∷ seg 1 40 8 0 ∷ seg 9 32 0 32 ∷ seg 9 33 0 8 ∷ []) ≡ 1 ∷ 15 ∷ 16
+    ∷ 14 ∷ 14 ∷ 14 ∷ 13 ∷ 1 ∷ []
 unfolding takeSegment chosen first bears isFree complete overlaps frameIn allBelow someBelow table within
 rejections = refl
 
@@ -106,8 +108,10 @@ rejections = refl
 abbrev seg0 : ℕ → ℕ → ℕ → ℕ → Event
 seg0 id size at n = receive (0 ∷ id ∷ size ∷ at ∷ replicate n (id + at))
 
-bytes10 : map (λ (a : Answer toyAnswers). a .reply .code) (answers toyAnswers toy 0 toyJudge bytesOf (start bytesOf (replicate 1728 255)) (seg0 1 32 0 8 ∷ tick ∷ seg0 1 32 8 24 ∷ seg0 1 32 0 8 ∷ [])) ≡ 1 ∷ 0 ∷ 1 ∷ []
-unfolding takeSegment chosen first bears isFree complete overlaps frameIn allBelow someBelow table isOn bitAt setBit setBits slotStart mapStart clearAt putAt receivedAt byteAt older olderRow
+bytes10 : map (λ (a : Answer toyAnswers). a .reply .code) (answers toyAnswers toy 0 toyJudge bytesOf (start bytesOf (replicate 1728 255))
+    (seg0 1 32 0 8 ∷ tick ∷ seg0 1 32 8 24 ∷ seg0 1 32 0 8 ∷ [])) ≡ 1 ∷ 0 ∷ 1 ∷ []
+unfolding takeSegment chosen first bears isFree complete overlaps frameIn allBelow someBelow table isOn bitAt setBit setBits slotStart mapStart clearAt putAt
+    receivedAt byteAt older olderRow
 bytes10 = refl
 
 -- ---- the claim of the toy, and a mixing
@@ -146,7 +150,8 @@ abbrev two : List Frame
 two = frame-a ∷ frame-b ∷ []
 
 abbrev mixture : List Item
-mixture = given 0 1 ∷ given 1 0 ∷ other tick ∷ other (receive (3 ∷ 7 ∷ 36 ∷ 0 ∷ 1 ∷ [])) ∷ other tick ∷ other (receive []) ∷ other tick ∷ given 0 0 ∷ given 1 1 ∷ other tick ∷ []
+mixture = given 0 1 ∷ given 1 0 ∷ other tick ∷ other (receive (3 ∷ 7 ∷ 36 ∷ 0 ∷ 1 ∷ [])) ∷ other tick ∷ other (receive []) ∷ other tick ∷ given 0 0 ∷ given 1 1
+    ∷ other tick ∷ []
 
 is-mixing : Mixing toyAnswers toy 2 two mixture
 unfolding allBelow

@@ -9,7 +9,8 @@ use Rattle.roundtrip.proofs.sizes.Statement.{statement}
 use Rattle.roundtrip.proofs.sizes.Tie as tie
 
 abbrev Inv-loop : tie.InvT-loop
-Inv-loop mtu binding frame₀ out₀ memory₀ sender t₀ size₀ frame out memory t size = (size ≤ 1515) × ((length frame ≡ length frame₀) × ((length out ≡ length out₀) × (length memory ≡ length memory₀)))
+Inv-loop mtu binding frame₀ out₀ memory₀ sender t₀ size₀ frame out memory t size = (size ≤ 1515)
+    × ((length frame ≡ length frame₀) × ((length out ≡ length out₀) × (length memory ≡ length memory₀)))
 
 abbrev μ-loop : tie.MeasureT-loop
 μ-loop mtu binding frame₀ out₀ memory₀ sender t₀ size₀ frame out memory t size = 1515 - size

@@ -1,6 +1,6 @@
 -- The reader of an IP payload is sound and complete for the formats.
 -- Assumes nothing.
-use Prim.Native.Nat.{ℕ, _+_, _≤_}
+use Prim.Native.Nat.{ℕ, _≤_}
 use mathlib.Core.Path.{_≡_, refl, sym, ap, _∙_}
 use mathlib.Core.Logic.{inl, inr}
 use mathlib.Core.List.{List}
@@ -18,12 +18,11 @@ use Rattle.wire.specs.Nvgre.{IsNvgre, nvgreOf}
 use Rattle.wire.specs.Laws.Nvgre as N
 use Rattle.wire.specs.Segment.{header, IsSegment, segmentOf}
 use Rattle.wire.specs.Laws.Segment as S
-use Rattle.wire.specs.Carriage.{IsVxlanUdp, Tunnels, carriageOf, Found, ReadsCarriage}
+use Rattle.wire.specs.Carriage.{IsVxlanUdp, Tunnels, carriageOf, TunnelRead, ReadsCarriage}
 use Rattle.wire.specs.declared.refusal.Refusal.{Refusal}
 use Rattle.wire.specs.declared.refusal.Refusal.the-variants as R
 use Rattle.wire.specs.declared.segment.Segment.{Segment}
 use Rattle.wire.specs.declared.carriage.Tunnel.{Tunnel}
-use Rattle.wire.specs.declared.carriage.Carried.{Carried}
 use Rattle.wire.specs.declared.carriage.Carried.the-variants as C
 
 -- ---- the ways out, by the protocol
@@ -47,7 +46,8 @@ module _ (protocol source destination port : ℕ) (s : List ℕ) where
 
 -- ---- complete
 
-vxlan-complete : (source destination vni : ℕ) (frame s : List ℕ) → IsVxlanUdp source destination vni frame s → Found (udpOf source destination s) 1 vni frame s
+vxlan-complete : (source destination vni : ℕ) (frame s : List ℕ) → IsVxlanUdp source destination vni frame s
+    → TunnelRead (udpOf source destination s) 1 vni frame s
 vxlan-complete source destination vni frame s w =
     let v = X.complete (w .vxlan) in
     let u = U.complete (w .udp) (omega (arith, v .2)) in
@@ -58,13 +58,13 @@ vxlan-complete source destination vni frame s w =
       long = omega (arith, u .2, v .2);
     }
 
-nvgre-complete : (vsid : ℕ) (frame s : List ℕ) → IsNvgre vsid frame s → Found (nvgreOf s) 2 vsid frame s
+nvgre-complete : (vsid : ℕ) (frame s : List ℕ) → IsNvgre vsid frame s → TunnelRead (nvgreOf s) 2 vsid frame s
 nvgre-complete vsid frame s w =
     let n = N.complete w in
     record { start = 8; is = n .0; frame-is = n .1; long = n .2 }
 
 pub complete : (kind protocol source destination port id : ℕ) (frame payload : List ℕ) → Tunnels kind protocol source destination id frame payload
-    → Found (carriageOf protocol source destination port payload) kind id frame payload
+    → TunnelRead (carriageOf protocol source destination port payload) kind id frame payload
 unfolding carriageOf
 complete kind protocol source destination port id frame payload (inl w) = rw (w .0, w .1) (vxlan-complete source destination id frame payload (w .2))
 complete kind protocol source destination port id frame payload (inr w) = rw (w .0, w .1) (nvgre-complete id frame payload (w .2))
@@ -146,7 +146,8 @@ segment-sound protocol source destination port s b g e =
 
 -- ---- where the inner frame of what is accepted lies, for any list
 
-pub tunnel-within : (protocol source destination port : ℕ) (s : List ℕ) (t : Tunnel) → carriageOf protocol source destination port s ≡ C.Tunnel t → t .start ≤ length s
+pub tunnel-within : (protocol source destination port : ℕ) (s : List ℕ) (t : Tunnel) → carriageOf protocol source destination port s ≡ C.Tunnel t → t .start
+    ≤ length s
 tunnel-within protocol source destination port s t e =
     tunnel-by protocol source destination port s t e
     (λ a q.
@@ -154,7 +155,8 @@ tunnel-within protocol source destination port s t e =
     rw (X.vxlan-start (drop 8 s) t (u .1)) (u .0))
     (λ a q. N.nvgre-room s t q)
 
-pub segment-within : (protocol source destination port : ℕ) (s : List ℕ) (g : Segment) → carriageOf protocol source destination port s ≡ C.Segment g → g .start ≤ length s
+pub segment-within : (protocol source destination port : ℕ) (s : List ℕ) (g : Segment) → carriageOf protocol source destination port s ≡ C.Segment g → g .start
+    ≤ length s
 segment-within protocol source destination port s g e =
     segment-by protocol source destination port s g e (λ a q. S.segment-room source destination port s g q)
 

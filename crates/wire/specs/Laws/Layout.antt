@@ -17,9 +17,11 @@ use Rattle.wire.specs.Vxlan.{vxlan}
 use Rattle.wire.specs.Nvgre.{gre}
 use Rattle.wire.specs.Stt.{stt}
 use Rattle.wire.specs.Segment as S
-use Rattle.wire.specs.Write.{ipv4With, outer, ipv4Head, packet, sourcePort, vxlanBody, nvgreBody, sttFrame, flagsOf, tcpWith, segmentHeader, segmentBytes, segmentBody, vxlanPacket, nvgrePacket, segmentPacket}
+use Rattle.wire.specs.Write.{ipv4With, outer, ipv4Head, packet, sourcePort, vxlanBody, nvgreBody, sttFrame, flagsOf, tcpWith, segmentHeader, segmentBytes}
+use Rattle.wire.specs.Write.{segmentBody, vxlanPacket, nvgrePacket, segmentPacket}
 use Rattle.wire.specs.Laws.Write.{port-is, segment-bytes-length, segment-bytes-is, stt-length}
-use Rattle.wire.specs.Layout.{Field, field, LaidOut, portOf, vxlanFields, nvgreFields, segmentFields, sttFields, VxlanLaidOut, NvgreLaidOut, SttLaidOut, SegmentLaidOut, Layouts}
+use Rattle.wire.specs.Layout.{Field, field, LaidOut, portOf, vxlanFields, nvgreFields, segmentFields, sttFields, VxlanLaidOut, NvgreLaidOut, SttLaidOut}
+use Rattle.wire.specs.Layout.{SegmentLaidOut, Layouts}
 
 -- ---- bytes that were written field by field are laid out so
 

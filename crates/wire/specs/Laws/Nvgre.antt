@@ -44,7 +44,8 @@ unfolding nvgreOf nvgreChecks nvgreAt
 complete {vsid} {frame} {s} w =
     let r : ReadsBack (w .high) (w .low) vsid frame s =
     rw (w .whole) (reads-back (w .high) (w .low) vsid (w .flow) frame (w .high-fits) (w .low-fits) (w .vsid-fits)) in (
-      pass C.Refused (nvgreChecks s) (C.Tunnel (nvgreAt s)) (omega (arith, passing, r .first, r .second, r .type-high, r .type-low, r .long, w .high-fits)) ∙ rw (r .vsid-is),
+      pass C.Refused (nvgreChecks s) (C.Tunnel (nvgreAt s)) (omega (arith, passing, r .first, r .second, r .type-high, r .type-low, r .long, w .high-fits))
+          ∙ rw (r .vsid-is),
       r .frame-is,
       r .long,
     )

@@ -39,9 +39,11 @@ reads-back f w rest = record {
   words = be-value 1 ((5 + f .words) * 16 + f .reserved) (omega (arith, w .words, w .reserved));
 }
 
-pub complete : {source destination port frameLength offset identifier : ℕ} {bytes s : List ℕ} (w : IsSegment source destination port frameLength offset identifier bytes s)
+pub complete : {source destination port frameLength offset identifier : ℕ} {bytes s : List ℕ}
+    (w : IsSegment source destination port frameLength offset identifier bytes s)
     → let n = length (header (w .f)) in
-    (segmentOf source destination port s ≡ C.Segment (record { start = n; identifier = identifier; «frame_length» = frameLength; offset = offset })) × (drop n s ≡ bytes)
+    (segmentOf source destination port s ≡ C.Segment (record { start = n; identifier = identifier; «frame_length» = frameLength; offset = offset }))
+    × (drop n s ≡ bytes)
 unfolding segmentOf segmentChecks segmentAt
 complete {source} {destination} {port} {frameLength} {offset} {identifier} {bytes} {s} w =
     let h : List ℕ = header (w .f) in
@@ -85,7 +87,8 @@ pub record Accepted (source destination port : ℕ) (s : List ℕ) (g : Segment)
   pub is : IsSegment source destination port (g .«frame_length») (g .offset) (g .identifier) (drop (g .start) s) s
   pub within : g .start ≤ length s
 
-sound-at : (source destination port : ℕ) (s : List ℕ) → Bytes s → Passed (segmentChecks source destination port s) → Accepted source destination port s (segmentAt s)
+sound-at : (source destination port : ℕ) (s : List ℕ) → Bytes s → Passed (segmentChecks source destination port s)
+    → Accepted source destination port s (segmentAt s)
 unfolding segmentChecks segmentAt headerAt
 sound-at source destination port s b p =
     let least : 5 ≤ wordsAt s = omega (arith, tests) in
@@ -113,16 +116,19 @@ sound-at source destination port s b p =
       within = within;
     }
 
-pub sound : (source destination port : ℕ) (s : List ℕ) → Bytes s → (g : Segment) → segmentOf source destination port s ≡ C.Segment g → Accepted source destination port s g
+pub sound : (source destination port : ℕ) (s : List ℕ) → Bytes s → (g : Segment) → segmentOf source destination port s ≡ C.Segment g
+    → Accepted source destination port s g
 unfolding segmentOf
 sound source destination port s b g eq =
-    let p = passed C.Refused (segmentChecks source destination port s) (C.Segment (segmentAt s)) (C.Segment g) (λ r e. let z : _≡_ {A = ℕ} 0 1 = cc in omega arith) eq in
+    let p = passed C.Refused (segmentChecks source destination port s) (C.Segment (segmentAt s)) (C.Segment g)
+    (λ r e. let z : _≡_ {A = ℕ} 0 1 = cc in omega arith) eq in
     subst (Accepted source destination port s) (cc (p .1)) (sound-at source destination port s b (p .0))
 
 pub no-tunnel : (source destination port : ℕ) (s : List ℕ) (t : Tunnel) → segmentOf source destination port s ≡ C.Tunnel t → ⊥
 unfolding segmentOf
 no-tunnel source destination port s t eq =
-    let p = passed C.Refused (segmentChecks source destination port s) (C.Segment (segmentAt s)) (C.Tunnel t) (λ r e. let z : _≡_ {A = ℕ} 0 1 = cc in omega arith) eq in
+    let p = passed C.Refused (segmentChecks source destination port s) (C.Segment (segmentAt s)) (C.Tunnel t)
+    (λ r e. let z : _≡_ {A = ℕ} 0 1 = cc in omega arith) eq in
     let e : C.Segment (segmentAt s) ≡ C.Tunnel t = p .1 in
     let z : _≡_ {A = ℕ} 0 1 = cc in omega arith
 
@@ -139,7 +145,8 @@ ignores source destination port s t l p w c e1 e2 e3 = rw (c, l, p, w, e1, e2, e
 pub segment-room : (source destination port : ℕ) (s : List ℕ) (g : Segment) → segmentOf source destination port s ≡ C.Segment g → g .start ≤ length s
 unfolding segmentOf segmentChecks segmentAt
 segment-room source destination port s g eq =
-    let p = passed C.Refused (segmentChecks source destination port s) (C.Segment (segmentAt s)) (C.Segment g) (λ r e. let z : _≡_ {A = ℕ} 0 1 = cc in omega arith) eq in
+    let p = passed C.Refused (segmentChecks source destination port s) (C.Segment (segmentAt s)) (C.Segment g)
+    (λ r e. let z : _≡_ {A = ℕ} 0 1 = cc in omega arith) eq in
     let e : segmentAt s ≡ g = cc (p .1) in
     rw (← e) (omega (arith, tests))
 

@@ -44,7 +44,9 @@ complete {context} {frame} {s} w =
 as-stt : (s : List ℕ) → Bytes s → 18 ≤ length s → beAt s 0 1 ≡ 0
     → s ≡ stt 0 (beAt s 1 1) (beAt s 2 1) (beAt s 3 1) (beAt s 4 2) (beAt s 6 2) (beAt s 8 8) (beAt s 16 2) (drop 18 s)
 unfolding stt
-as-stt s b h v = as-fields s b (1 ∷ 1 ∷ 1 ∷ 1 ∷ 2 ∷ 2 ∷ 8 ∷ 2 ∷ []) 0 h ∙ ap (λ (x : ℕ). be 1 x then be 1 (beAt s 1 1) then be 1 (beAt s 2 1) then be 1 (beAt s 3 1) then be 2 (beAt s 4 2) then be 2 (beAt s 6 2) then be 8 (beAt s 8 8) then be 2 (beAt s 16 2) then drop 18 s) v
+as-stt s b h v = as-fields s b (1 ∷ 1 ∷ 1 ∷ 1 ∷ 2 ∷ 2 ∷ 8 ∷ 2 ∷ []) 0 h
+    ∙ ap (λ (x : ℕ). be 1 x then be 1 (beAt s 1 1) then be 1 (beAt s 2 1) then be 1 (beAt s 3 1) then be 2 (beAt s 4 2) then be 2 (beAt s 6 2) then be 8
+    (beAt s 8 8) then be 2 (beAt s 16 2) then drop 18 s) v
 
 pub record Accepted (s : List ℕ) (context : ℕ) : Type 0 where
   pub is : IsStt context (drop 18 s) s

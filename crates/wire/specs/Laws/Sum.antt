@@ -70,7 +70,8 @@ ones-swapped (suc n) =
     let small : l * 256 + h < 65536 = omega arith in
     let pos : 0 < l * 256 + h = omega arith in
     let e : 256 * suc n ≡ l * 256 + h + k * 65535 = omega arith in
-    sym (ones-same (256 * suc n) (l * 256 + h) (omega arith) pos (ap (λ (x : ℕ). x % 65535) e ∙ add-mul-mod-self-right (l * 256 + h) k 65535) ∙ ones-small (l * 256 + h) small)
+    sym (ones-same (256 * suc n) (l * 256 + h) (omega arith) pos (ap (λ (x : ℕ). x % 65535) e ∙ add-mul-mod-self-right (l * 256 + h) k 65535)
+    ∙ ones-small (l * 256 + h) small)
 
 -- a sum with its complement in it is all ones: what a writer puts into the checksum field
 pub ones-complement : (n : ℕ) → 0 < n → ones (n + (65535 - ones n)) ≡ 65535
@@ -205,7 +206,8 @@ pseudo-total source destination protocol size s h1 h2 h3 h4 =
     let t2 : total l2 ≡ size + total s = total-be2 size s h4 in
     let t1 : total l1 ≡ protocol + total l2 = omega arith in
     let td : total ld ≡ destination / 65536 + destination % 65536 + total l1 = total-be4 destination l1 h2 in
-    rw small (total-be4 source ld h1 ∙ added (source / 65536 + source % 65536) (destination / 65536) (destination % 65536) protocol size (total s) (total l2) (total l1) (total ld) t2 t1 td)
+    rw small (total-be4 source ld h1 ∙ added (source / 65536 + source % 65536) (destination / 65536) (destination % 65536) protocol size (total s) (total l2)
+    (total l1) (total ld) t2 t1 td)
 
 -- ---- the same word by word (RFC 1071, 2): each sum's carry is added to it again
 

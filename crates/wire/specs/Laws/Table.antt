@@ -30,7 +30,8 @@ use Rattle.wire.specs.declared.segment.Segment.{Segment}
 use Rattle.wire.specs.declared.stt.SttRead.the-variants as H
 use Rattle.wire.specs.declared.frame.FrameRead.the-variants as F
 use Rattle.wire.specs.declared.carriage.Tunnel.{Tunnel}
-use Rattle.wire.specs.Table.{Rows, _andThen_, _otherwise_, ipv4Rows, payloadRows, vxlanRows, nvgreRows, sttRows, badFrame, ipv4Number, carriedNumber, sttNumber, frameNumber, Table}
+use Rattle.wire.specs.Table.{Rows, _andThen_, _otherwise_, ipv4Rows, payloadRows, vxlanRows, nvgreRows, sttRows, badFrame, ipv4Number, carriedNumber}
+use Rattle.wire.specs.Table.{sttNumber, frameNumber, Table}
 
 -- ---- rows
 

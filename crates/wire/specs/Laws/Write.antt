@@ -24,7 +24,8 @@ use Rattle.wire.specs.Nvgre.{gre, IsNvgre}
 use Rattle.wire.specs.Stt.{stt, IsStt}
 use Rattle.wire.specs.Segment as S
 use Rattle.wire.specs.Carriage.{IsVxlanUdp, Tunnels}
-use Rattle.wire.specs.Write.{ipv4With, outer, ipv4Head, packet, sourcePort, vxlanBody, nvgreBody, sttFrame, flagsOf, tcpWith, segmentHeader, segmentBytes, segmentBody, vxlanPacket, nvgrePacket, segmentPacket, fitChecks, fits, segmentFitChecks, segmentFits, Written}
+use Rattle.wire.specs.Write.{ipv4With, outer, ipv4Head, packet, sourcePort, vxlanBody, nvgreBody, sttFrame, flagsOf, tcpWith, segmentHeader, segmentBytes}
+use Rattle.wire.specs.Write.{segmentBody, vxlanPacket, nvgrePacket, segmentPacket, fitChecks, fits, segmentFitChecks, segmentFits, Written}
 
 -- ---- the outer header
 
@@ -182,7 +183,8 @@ pub stt-length : (context : ℕ) (frame : List ℕ) → length (sttFrame context
 unfolding sttFrame stt be
 stt-length context frame = omega arith
 
-pub segment-bytes-is : (context offset count : ℕ) (frame : List ℕ) → segmentBytes context offset count frame ≡ part (sttFrame context frame) offset (offset + count)
+pub segment-bytes-is : (context offset count : ℕ) (frame : List ℕ) → segmentBytes context offset count frame
+    ≡ part (sttFrame context frame) offset (offset + count)
 unfolding segmentBytes
 segment-bytes-is context offset count frame = refl
 
@@ -211,7 +213,8 @@ sealed-is source destination from port frameLength offset identifier flags bytes
       short = rw n h7;
       checksum =
           rw n (sealed
-          (pseudo source destination 6 size ++ (be 2 from then be 2 port then be 2 frameLength then be 2 offset then be 4 identifier then be 1 80 then be 1 flags then be 2 0))
+          (pseudo source destination 6 size ++ (be 2 from then be 2 port then be 2 frameLength then be 2 offset then be 4 identifier then be 1 80 then be 1
+          flags then be 2 0))
           (be 2 0 then bytes)
           refl
           pos);
@@ -250,7 +253,8 @@ unfolding segmentPacket segmentBody
 segment-is source destination port context identifier offset count last frame trailing h1 h2 h3 h4 h5 h6 h7 = (
   packet-is 6 source destination (segmentBody source destination port context identifier offset count last frame) trailing (omega arith)
       (omega (arith, segment-body-length source destination port context identifier offset count last frame h6)) h1 h2,
-  sealed-is source destination (sourcePort frame) port (18 + length frame) offset identifier (flagsOf last) (segmentBytes context offset count frame) h1 h2 h3 h5
+  sealed-is source destination (sourcePort frame) port (18 + length frame) offset identifier (flagsOf last)
+      (segmentBytes context offset count frame) h1 h2 h3 h5
       (omega arith) h4 (omega (arith, segment-bytes-length context offset count frame h6)),
 )
 
@@ -294,7 +298,8 @@ pub record SegmentFitting (n offset count room : ℕ) : Type 0 where
   pub short : 40 + count ≤ 65535
   pub room-is : 40 + count ≤ room
 
-pub segment-fits-says : (answer : Bool) (n offset count room : ℕ) → answer ≡ segmentFits n offset count room → answer ≡ true → SegmentFitting n offset count room
+pub segment-fits-says : (answer : Bool) (n offset count room : ℕ) → answer ≡ segmentFits n offset count room → answer ≡ true
+    → SegmentFitting n offset count room
 unfolding segmentFits segmentFitChecks
 segment-fits-says answer n offset count room a e =
     let p = passed (λ _. false) (segmentFitChecks n offset count room) true true (λ r q. let z : _≡_ {A = ℕ} 0 1 = cc in omega arith) (sym a ∙ e) in
@@ -450,19 +455,23 @@ pub vxlan-done : (answer : Bool) (source destination vni : ℕ) (frame old new :
     → new ≡ wrote old (vxlanPacket source destination vni frame)
     → Written (fits 36 (length frame) (length old)) (vxlanPacket source destination vni frame) old new (36 + length frame)
 vxlan-done answer source destination vni frame old new q e w =
-    written (fits 36 (length frame) (length old)) answer (vxlanPacket source destination vni frame) old new (36 + length frame) q e (vxlan-length-is source destination vni frame) w
+    written (fits 36 (length frame) (length old)) answer (vxlanPacket source destination vni frame) old new (36 + length frame) q e
+    (vxlan-length-is source destination vni frame) w
 
 pub nvgre-done : (answer : Bool) (source destination vsid : ℕ) (frame old new : List ℕ) → answer ≡ fits 28 (length frame) (length old) → answer ≡ true
     → new ≡ wrote old (nvgrePacket source destination vsid frame)
     → Written (fits 28 (length frame) (length old)) (nvgrePacket source destination vsid frame) old new (28 + length frame)
 nvgre-done answer source destination vsid frame old new q e w =
-    written (fits 28 (length frame) (length old)) answer (nvgrePacket source destination vsid frame) old new (28 + length frame) q e (nvgre-length-is source destination vsid frame) w
+    written (fits 28 (length frame) (length old)) answer (nvgrePacket source destination vsid frame) old new (28 + length frame) q e
+    (nvgre-length-is source destination vsid frame) w
 
 pub segment-done : (answer : Bool) (source destination port context identifier offset count : ℕ) (last : Bool) (frame old new : List ℕ)
     → answer ≡ segmentFits (length frame) offset count (length old) → answer ≡ true
     → new ≡ wrote old (segmentPacket source destination port context identifier offset count last frame)
-    → Written (segmentFits (length frame) offset count (length old)) (segmentPacket source destination port context identifier offset count last frame) old new (40 + count)
+    → Written (segmentFits (length frame) offset count (length old)) (segmentPacket source destination port context identifier offset count last frame) old new
+    (40 + count)
 segment-done answer source destination port context identifier offset count last frame old new q e w =
     let g : SegmentFitting (length frame) offset count (length old) = segment-fits-says answer (length frame) offset count (length old) q e in
-    written (segmentFits (length frame) offset count (length old)) answer (segmentPacket source destination port context identifier offset count last frame) old new (40 + count) q e
+    written (segmentFits (length frame) offset count (length old)) answer
+    (segmentPacket source destination port context identifier offset count last frame) old new (40 + count) q e
     (segment-length-is source destination port context identifier offset count last frame (g .within)) w

@@ -86,7 +86,8 @@ both a b f g = record { all = bytes-append a b (f .all) (g .all) }
 head-bytes : (protocol size source destination : ℕ) → Whole (ipv4Head protocol size source destination)
 unfolding ipv4Head outer I.header
 head-bytes protocol size source destination =
-    field 1 _ _ (field 1 _ _ (field 2 _ _ (field 2 _ _ (field 2 _ _ (field 1 _ _ (field 1 _ _ (field 2 _ _ (field 4 _ _ (field 4 _ _ (record { all = λ i. omega arith }))))))))))
+    field 1 _ _ (field 1 _ _ (field 2 _ _ (field 2 _ _ (field 2 _ _
+    (field 1 _ _ (field 1 _ _ (field 2 _ _ (field 4 _ _ (field 4 _ _ (record { all = λ i. omega arith }))))))))))
 
 vxlan-whole : (vni : ℕ) (frame : List ℕ) → Whole frame → Whole (vxlanBody vni frame)
 unfolding vxlanBody udp vxlan

@@ -2,11 +2,7 @@
 -- Assumes nothing.
 use Rattle.endpoint.specs.Laws.Promises.{add-binding-promised}
 use borrow.Author.Needs.{needs}
-use Rattle.endpoint.specs.Laws.ConfigExits.{add-binding-out, behind, add-binding-exit, isFound, binding-found}
-use lib.ListN.{take}
-use Rattle.wire.specs.Checks.{Passed}
-use Rattle.wire.specs.Laws.Checks.{deciding}
-use Rattle.endpoint.specs.Config.{configOf, findBinding, isSome, addBindingChecks, withBinding}
+use Rattle.endpoint.specs.Laws.ConfigExits.{add-binding-out}
 use Rattle.endpoint.proofs.config.add_binding.Statement.{statement}
 use Rattle.endpoint.proofs.config.add_binding.Tie as tie
 

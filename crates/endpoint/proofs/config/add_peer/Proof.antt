@@ -2,11 +2,7 @@
 -- Assumes nothing.
 use Rattle.endpoint.specs.Laws.Promises.{add-peer-promised}
 use borrow.Author.Needs.{needs}
-use Rattle.endpoint.specs.Laws.ConfigExits.{add-peer-out, behind, add-peer-exit, isFound, peer-found}
-use lib.ListN.{take}
-use Rattle.wire.specs.Checks.{Passed}
-use Rattle.wire.specs.Laws.Checks.{deciding}
-use Rattle.endpoint.specs.Config.{configOf, findPeer, isSome, addPeerChecks, withAddress}
+use Rattle.endpoint.specs.Laws.ConfigExits.{add-peer-out}
 use Rattle.endpoint.proofs.config.add_peer.Statement.{statement}
 use Rattle.endpoint.proofs.config.add_peer.Tie as tie
 

@@ -7,13 +7,13 @@ use borrow.Author.Needs.{needs}
 use Rattle.wire.specs.Laws.Checks.{deciding}
 use Rattle.endpoint.specs.declared.answer.Start.the-variants as S
 use Rattle.endpoint.specs.declared.config.Endpoint.{Endpoint}
-use Rattle.endpoint.specs.declared.config.Started.{Started}
+use Rattle.endpoint.specs.declared.config.StartResult.{StartResult}
 use Rattle.endpoint.specs.Config.{startChecks}
 use Rattle.endpoint.specs.Laws.ConfigExits.{start-exit}
 use Rattle.endpoint.proofs.config.start.Statement.{statement}
 use Rattle.endpoint.proofs.config.start.Tie as tie
 
-abbrev started : Endpoint → Started
+abbrev started : Endpoint → StartResult
 started e = record { endpoint = e; answer = S.Done }
 
 refused-start-requires : tie.Need-refused-start-requires

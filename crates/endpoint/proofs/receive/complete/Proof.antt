@@ -21,7 +21,8 @@ stt-drop-requires : tie.Need-stt-drop-requires
 stt-drop-requires c κs = search needs
 
 returns : tie.Need-returns
-returns c = offer-refused _ _ _ _ (sym (c .before .before .before .read .ensures) ∙ c .before .enum-told .given .1) (c .stt-drop .ensures ∙ ap sttDrop (c .before .enum-told .given .1))
+returns c = offer-refused _ _ _ _ (sym (c .before .before .before .read .ensures) ∙ c .before .enum-told .given .1)
+    (c .stt-drop .ensures ∙ ap sttDrop (c .before .enum-told .given .1))
 
 add-t6 : tie.Need-add-t6
 add-t6 c = search needs

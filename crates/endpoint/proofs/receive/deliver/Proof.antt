@@ -43,11 +43,13 @@ enum-told-2 c = search needs
 found : (c : tie.After-find-binding) →
     let a = c .before .before .before .before .before .before .before .args in
     let f = c .before .before .before .offer2 .given .0 .0 in
-    c .find-binding .result ≡ foundOf D.Binding (lowest (binds (a .networks .now) (a .kinds .now) (a .owners .now) (a .peer) (f .kind) (f .network)) (min (a .binding-count) 64))
+    c .find-binding .result ≡ foundOf D.Binding (lowest (binds (a .networks .now) (a .kinds .now) (a .owners .now) (a .peer) (f .kind) (f .network))
+    (min (a .binding-count) 64))
 found c = found-among _ _ _ _ _ (c .find-binding .ensures) (c .before .least .ensures)
 
 returns-3 : tie.Need-returns-3
-returns-3 c = deliver-unbound _ _ _ _ _ _ _ _ _ _ (c .before .before .before .before .before .offer2 .given .1) (found-none _ _ _ (sym (found (c .before .before)) ∙ c .enum-told2 .given .1))
+returns-3 c = deliver-unbound _ _ _ _ _ _ _ _ _ _ (c .before .before .before .before .before .offer2 .given .1)
+    (found-none _ _ _ (sym (found (c .before .before)) ∙ c .enum-told2 .given .1))
 
 view-one-requires : tie.Need-view-one-requires
 view-one-requires c κs = search needs
@@ -59,14 +61,20 @@ enum-known-read : tie.Need-enum-known-read
 enum-known-read c = search needs
 
 returns-4 : tie.Need-returns-4
-returns-4 c = deliver-bad _ _ _ _ _ _ _ _ _ _ (c .before .before .before .before .before .before .before .before .before .before .before .before .offer2 .given .1) _ (found-some _ _ _ (sym (found (c .before .before .before .before .before .before .before .before .before)) ∙ c .before .before .before .before .before .before .before .found .given .1)) _ (c .before .before .before .before .view-one .ensures .bytes) _ (sym (c .before .before .before .read .ensures) ∙ c .before .read2 .given .1)
+returns-4 c = deliver-bad _ _ _ _ _ _ _ _ _ _ (c .before .before .before .before .before .before .before .before .before .before .before .before .offer2 .given .1)
+    _ (found-some _ _ _ (sym (found (c .before .before .before .before .before .before .before .before .before))
+    ∙ c .before .before .before .before .before .before .before .found .given .1)) _ (c .before .before .before .before .view-one .ensures .bytes) _
+    (sym (c .before .before .before .read .ensures) ∙ c .before .read2 .given .1)
 
 enum-told-3 : tie.Need-enum-told-3
 enum-told-3 c = search needs
 
 below : (c : tie.After-enum-told3) → c .before .before .before .before .before .before .found .given .0 .0 < 64
 below c =
-    let h : c .before .before .before .before .before .before .found .given .0 .0 < min (c .before .before .before .before .before .before .before .before .before .before .before .before .before .before .before .args .binding-count) 64 = lowest-some _ _ _ (found-some _ _ _ (sym (found (c .before .before .before .before .before .before .before .before)) ∙ c .before .before .before .before .before .before .found .given .1)) .below in
+    let h : c .before .before .before .before .before .before .found .given .0 .0
+    < min (c .before .before .before .before .before .before .before .before .before .before .before .before .before .before .before .args .binding-count)
+    64 = lowest-some _ _ _ (found-some _ _ _ (sym (found (c .before .before .before .before .before .before .before .before))
+    ∙ c .before .before .before .before .before .before .found .given .1)) .below in
     omega arith
 
 mul-t22 : tie.Need-mul-t22
@@ -79,7 +87,10 @@ cast-t26 : tie.Need-cast-t26
 cast-t26 c = omega (arith, below (c .before))
 
 returns-5 : tie.Need-returns-5
-returns-5 c = deliver-good _ _ _ _ _ _ _ _ _ _ (c .before .before .before .before .before .before .before .before .before .before .before .before .offer2 .given .1) _ (found-some _ _ _ (sym (found (c .before .before .before .before .before .before .before .before .before)) ∙ c .before .before .before .before .before .before .before .found .given .1)) _ (c .before .before .before .before .view-one .ensures .bytes) (sym (c .before .before .before .read .ensures) ∙ c .before .enum-told3 .given .1)
+returns-5 c = deliver-good _ _ _ _ _ _ _ _ _ _ (c .before .before .before .before .before .before .before .before .before .before .before .before .offer2 .given .1)
+    _ (found-some _ _ _ (sym (found (c .before .before .before .before .before .before .before .before .before))
+    ∙ c .before .before .before .before .before .before .before .found .given .1)) _ (c .before .before .before .before .view-one .ensures .bytes)
+    (sym (c .before .before .before .read .ensures) ∙ c .before .enum-told3 .given .1)
 
 pub deliver-spec : {M : Type 1} → statement M
 deliver-spec =

@@ -12,11 +12,11 @@ use borrow.Author.Needs.{needs}
 use Rattle.endpoint.proofs.receive.open.Statement.{statement}
 use Rattle.endpoint.proofs.receive.open.Tie as tie
 
-stranger-requires : tie.Need-stranger-requires
-stranger-requires c κs = search needs
+other-sender-requires : tie.Need-other-sender-requires
+other-sender-requires c κs = search needs
 
 returns : tie.Need-returns
-returns c = c .stranger .ensures ∙ open-memory _ _ _ _ _ _ (c .before .if1 .taken)
+returns c = c .other-sender .ensures ∙ open-memory _ _ _ _ _ _ (c .before .if1 .taken)
 
 read-requires : tie.Need-read-requires
 read-requires c κs = search needs
@@ -30,21 +30,24 @@ enum-told c = search needs
 ip-drop-requires : tie.Need-ip-drop-requires
 ip-drop-requires c κs = search needs
 
-stranger-requires-2 : tie.Need-stranger-requires-2
-stranger-requires-2 c κs = search needs
+other-sender-requires-2 : tie.Need-other-sender-requires-2
+other-sender-requires-2 c κs = search needs
 
 returns-2 : tie.Need-returns-2
 returns-2 c =
-    c .stranger2 .ensures
-    ∙ open-ip _ _ _ _ _ _ (c .before .before .before .before .before .if1 .left) _ _ (sym (c .before .before .before .before .read .ensures) ∙ c .before .before .enum-told .given .1) (c .before .ip-drop .ensures ∙ ap ipDrop (c .before .before .enum-told .given .1))
+    c .other-sender2 .ensures
+    ∙ open-ip _ _ _ _ _ _ (c .before .before .before .before .before .if1 .left) _ _
+    (sym (c .before .before .before .before .read .ensures) ∙ c .before .before .enum-told .given .1)
+    (c .before .ip-drop .ensures ∙ ap ipDrop (c .before .before .enum-told .given .1))
 
-stranger-requires-3 : tie.Need-stranger-requires-3
-stranger-requires-3 c κs = search needs
+other-sender-requires-3 : tie.Need-other-sender-requires-3
+other-sender-requires-3 c κs = search needs
 
 returns-3 : tie.Need-returns-3
 returns-3 c =
-    c .stranger3 .ensures
-    ∙ open-destination _ _ _ _ _ _ (c .before .before .before .before .before .before .before .if1 .left) _ (sym (c .before .before .before .before .before .before .read .ensures) ∙ c .before .before .before .before .ip .given .1) (c .before .if2 .taken)
+    c .other-sender3 .ensures
+    ∙ open-destination _ _ _ _ _ _ (c .before .before .before .before .before .before .before .if1 .left) _
+    (sym (c .before .before .before .before .before .before .read .ensures) ∙ c .before .before .before .before .ip .given .1) (c .before .if2 .taken)
 
 least-requires : tie.Need-least-requires
 least-requires c κs = search needs
@@ -61,43 +64,52 @@ enum-told-2 c = search needs
 -- the lookup, as check 7 has it
 found : (c : tie.After-find-peer) →
     let a = c .before .before .before .before .before .before .before .before .before .before .args in
-    c .find-peer .result ≡ foundOf D.Peer (lowest (hasAddress (a .addresses .now) (c .before .before .before .before .before .ip .given .0 .0 .source)) (min (a .peer-count) 8))
+    c .find-peer .result ≡ foundOf D.Peer (lowest (hasAddress (a .addresses .now) (c .before .before .before .before .before .ip .given .0 .0 .source))
+    (min (a .peer-count) 8))
 found c = found-among _ _ _ _ _ (c .find-peer .ensures) (c .before .least .ensures)
 
-stranger-requires-4 : tie.Need-stranger-requires-4
-stranger-requires-4 c κs = search needs
+other-sender-requires-4 : tie.Need-other-sender-requires-4
+other-sender-requires-4 c κs = search needs
 
 returns-4 : tie.Need-returns-4
 returns-4 c =
-    c .stranger4 .ensures
-    ∙ open-stranger _ _ _ _ _ _ (c .before .before .before .before .before .before .before .before .before .before .before .if1 .left) _ (sym (c .before .before .before .before .before .before .before .before .before .before .read .ensures) ∙ c .before .before .before .before .before .before .before .before .ip .given .1) (c .before .before .before .before .before .if2 .left) (found-none _ _ _ (sym (found (c .before .before .before)) ∙ c .before .enum-told2 .given .1))
+    c .other-sender4 .ensures
+    ∙ open-stranger _ _ _ _ _ _ (c .before .before .before .before .before .before .before .before .before .before .before .if1 .left) _
+    (sym (c .before .before .before .before .before .before .before .before .before .before .read .ensures)
+    ∙ c .before .before .before .before .before .before .before .before .ip .given .1) (c .before .before .before .before .before .if2 .left)
+    (found-none _ _ _ (sym (found (c .before .before .before)) ∙ c .before .enum-told2 .given .1))
 
 unpack-requires : tie.Need-unpack-requires
-unpack-requires c κs = ipv4-bounds _ _ (sym (c .before .before .before .before .before .before .before .before .before .before .read .ensures) ∙ c .before .before .before .before .before .before .before .before .ip .given .1)
+unpack-requires c κs = ipv4-bounds _ _ (sym (c .before .before .before .before .before .before .before .before .before .before .read .ensures)
+    ∙ c .before .before .before .before .before .before .before .before .ip .given .1)
 
 returns-5 : tie.Need-returns-5
 returns-5 c =
-    open-peer _ _ _ _ _ _ (c .before .before .before .before .before .before .before .before .before .before .before .before .if1 .left) _ (sym (c .before .before .before .before .before .before .before .before .before .before .before .read .ensures) ∙ c .before .before .before .before .before .before .before .before .before .ip .given .1) (c .before .before .before .before .before .before .if2 .left) _ _ (found-some _ _ _ (sym (found (c .before .before .before .before)) ∙ c .before .before .sender .given .1)) (c .unpack .ensures)
+    open-peer _ _ _ _ _ _ (c .before .before .before .before .before .before .before .before .before .before .before .before .if1 .left) _
+    (sym (c .before .before .before .before .before .before .before .before .before .before .before .read .ensures)
+    ∙ c .before .before .before .before .before .before .before .before .before .ip .given .1)
+    (c .before .before .before .before .before .before .if2 .left) _ _
+    (found-some _ _ _ (sym (found (c .before .before .before .before)) ∙ c .before .before .sender .given .1)) (c .unpack .ensures)
 
 pub open-spec : {M : Type 1} → statement M
 open-spec =
     tie.close
     (tie.spec
-    stranger-requires
+    other-sender-requires
     returns
     read-requires
     enum-known-ip
     enum-told
     ip-drop-requires
-    stranger-requires-2
+    other-sender-requires-2
     returns-2
-    stranger-requires-3
+    other-sender-requires-3
     returns-3
     least-requires
     find-peer-requires
     enum-known-sender
     enum-told-2
-    stranger-requires-4
+    other-sender-requires-4
     returns-4
     unpack-requires
     returns-5)

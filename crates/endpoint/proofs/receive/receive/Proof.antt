@@ -44,7 +44,10 @@ returns : tie.Need-returns
 returns c =
     let a = c .before .before .before .before .before .before .before .before .before .before .before .before .before .before .before .before .before .before .args in
     let x = c .before .before .before .before .before .before .before .before .before .before .before .before .before .«open» in
-    let same = settled-out _ _ _ _ _ (x .result) _ _ _ _ _ _ (c .before .before .before .before .before .before .before .before .before .before .take .ensures .0) (c .before .before .before .before .before .before .before .before .before .before .take .ensures .1) (c .deliver .ensures) ∙ settled-is (a .t1) (a .packet .now) (a .memory .now) (x .result) (x .ensures) in
+    let same = settled-out _ _ _ _ _ (x .result) _ _ _ _ _ _
+    (c .before .before .before .before .before .before .before .before .before .before .take .ensures .0)
+    (c .before .before .before .before .before .before .before .before .before .before .take .ensures .1) (c .deliver .ensures)
+    ∙ settled-is (a .t1) (a .packet .now) (a .memory .now) (x .result) (x .ensures) in
     receive-promised (a .t1) (a .memory .now) (a .packet .now) _ _ (ap (receiptOf (a .t1)) same) (ap (λ (s : Step). s .mem) same)
 
 pub receive-spec : {M : Type 1} → statement M

@@ -27,13 +27,17 @@ take-requires : tie.Need-take-requires
 take-requires c κs = search needs
 
 settled-requires : tie.Need-settled-requires
-settled-requires c κs = lies-taken _ _ (c .before .before .before .before .before .before .before .before .before .before .before .args .packet .now) _ _ (c .before .before .before .before .before .before .before .content3 .given .1) _ (c .before .before .before .before .before .part .ensures .bytes) _ _ (c .before .before .before .take .ensures .0) (c .before .before .before .take .ensures .1)
+settled-requires c κs = lies-taken _ _ (c .before .before .before .before .before .before .before .before .before .before .before .args .packet .now) _ _
+    (c .before .before .before .before .before .before .before .content3 .given .1) _ (c .before .before .before .before .before .part .ensures .bytes) _ _
+    (c .before .before .before .take .ensures .0) (c .before .before .before .take .ensures .1)
 
 same-length : tie.Need-same-length
 same-length c = search needs
 
 returns-3 : tie.Need-returns-3
-returns-3 c = segment-out _ _ _ _ _ (c .before .before .before .before .before .before .before .before .before .content3 .given .1) _ (c .before .before .before .before .before .before .before .part .ensures .bytes) _ _ (c .before .before .before .before .before .take .ensures .0) (c .before .before .before .before .before .take .ensures .1) _ (c .before .settled .ensures)
+returns-3 c = segment-out _ _ _ _ _ (c .before .before .before .before .before .before .before .before .before .content3 .given .1) _
+    (c .before .before .before .before .before .before .before .part .ensures .bytes) _ _ (c .before .before .before .before .before .take .ensures .0)
+    (c .before .before .before .before .before .take .ensures .1) _ (c .before .settled .ensures)
 
 pub take-spec : {M : Type 1} → statement M
 take-spec =

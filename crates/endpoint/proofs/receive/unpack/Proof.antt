@@ -39,7 +39,14 @@ within : (c : tie.After-known-told2) →
 within c =
     let a = c .before .before .before .before .before .before .args in
     let inside = tunnel-within _ _ _ _ _ _ (sym (c .before .before .before .read .ensures) ∙ c .before .read3 .given .1) in
-    omega (arith, inside, length-take (a .h .end - a .h .start) (drop (a .h .start) (a .packet .now)), length-drop (a .h .start) (a .packet .now), c .before .before .before .before .before .before .pre .0, c .before .before .before .before .before .before .pre .1)
+    omega (
+      arith,
+      inside,
+      length-take (a .h .end - a .h .start) (drop (a .h .start) (a .packet .now)),
+      length-drop (a .h .start) (a .packet .now),
+      c .before .before .before .before .before .before .pre .0,
+      c .before .before .before .before .before .before .pre .1,
+    )
 
 add-at : tie.Need-add-at
 add-at c = omega (arith, within (c .before))
@@ -51,7 +58,8 @@ sub-t18 : tie.Need-sub-t18
 sub-t18 c = within (c .before .before)
 
 returns-2 : tie.Need-returns-2
-returns-2 c = content-tunnel _ _ _ _ (sym (part-is _ _ _)) _ (sym (c .before .before .before .before .before .read .ensures) ∙ c .before .before .before .read3 .given .1)
+returns-2 c = content-tunnel _ _ _ _ (sym (part-is _ _ _)) _
+    (sym (c .before .before .before .before .before .read .ensures) ∙ c .before .before .before .read3 .given .1)
 
 enum-known-read-3 : tie.Need-enum-known-read-3
 enum-known-read-3 c = search needs
@@ -63,7 +71,14 @@ within-2 : (c : tie.After-known-told3) →
 within-2 c =
     let a = c .before .before .before .before .before .before .args in
     let inside = segment-within _ _ _ _ _ _ (sym (c .before .before .before .read .ensures) ∙ c .before .read4 .given .1) in
-    omega (arith, inside, length-take (a .h .end - a .h .start) (drop (a .h .start) (a .packet .now)), length-drop (a .h .start) (a .packet .now), c .before .before .before .before .before .before .pre .0, c .before .before .before .before .before .before .pre .1)
+    omega (
+      arith,
+      inside,
+      length-take (a .h .end - a .h .start) (drop (a .h .start) (a .packet .now)),
+      length-drop (a .h .start) (a .packet .now),
+      c .before .before .before .before .before .before .pre .0,
+      c .before .before .before .before .before .before .pre .1,
+    )
 
 add-at-2 : tie.Need-add-at-2
 add-at-2 c = omega (arith, within-2 (c .before))

@@ -6,7 +6,7 @@ use native.Mathlib.Omega.{arith}
 use lib.ListN.{length}
 use Rattle.endpoint.specs.declared.answer.Tick.the-variants as T
 use Rattle.endpoint.specs.declared.config.Endpoint.{Endpoint}
-use Rattle.endpoint.specs.declared.tick.Ticked.{Ticked}
+use Rattle.endpoint.specs.declared.tick.TickResult.{TickResult}
 use Rattle.endpoint.specs.Config.{withRows}
 use Rattle.endpoint.specs.Laws.Promises.{tick-promised}
 use Rattle.endpoint.specs.Laws.Tick.{olderBefore, none-older, one-older, all-older}
@@ -14,11 +14,11 @@ use Rattle.endpoint.proofs.Sizes.{eight-rows}
 use Rattle.endpoint.proofs.tick.tick.Statement.{statement}
 use Rattle.endpoint.proofs.tick.tick.Tie as tie
 
-abbrev ticked : Endpoint → Ticked
+abbrev ticked : Endpoint → TickResult
 ticked e = record { endpoint = e; answer = T.Done }
 
 abbrev Inv-loop : tie.InvT-loop
-Inv-loop next₀ p₀ next p = (p ≤ 8) × (next ≡ withRows next₀ (olderBefore (next₀ .rows) p))
+Inv-loop next₀ p₀ next p = (p ≤ 8) × (next ≡ withRows next₀ (olderBefore (next₀ .peers) p))
 
 abbrev μ-loop : tie.MeasureT-loop
 μ-loop next₀ p₀ next p = 8 - p
@@ -52,14 +52,14 @@ loop-again c =
     let at = c .before .before .before .loop in
     let start = c .before .before .before .before in
     let n = eight-rows (start .args .e) (start .good .0) in
-    let h : at .p < length (start .args .e .rows) = omega arith in
+    let h : at .p < length (start .args .e .peers) = omega arith in
     (omega arith, one-older (start .args .e) (at .next) (at .p) (c .tick-row .result) h (at .inv .1) (c .tick-row .ensures))
 
 returns : tie.Need-returns Inv-loop μ-loop
 returns c =
     let start = c .before .before in
     let n = eight-rows (start .args .e) (start .good .0) in
-    let all : c .before .loop .p ≡ length (start .args .e .rows) = omega arith in
+    let all : c .before .loop .p ≡ length (start .args .e .peers) = omega arith in
     tick-promised _ _ (ap ticked (c .before .loop .inv .1) ∙ all-older (start .args .e) (c .before .loop .p) all)
 
 pub tick-spec : {M : Type 1} → statement M

@@ -9,8 +9,6 @@ use lib.ListN.{length}
 use borrow.Author.Needs.{needs}
 use Rattle.endpoint.proofs.view.part.Statement.{statement}
 use Rattle.endpoint.proofs.view.part.Tie as tie
-use Rattle.endpoint.proofs.view.part.Reads as reads
-use Rattle.endpoint.proofs.view.part.Lts as lts
 
 slice-aggregate-result : tie.Need-slice-aggregate-result
 slice-aggregate-result c = search needs

@@ -3,9 +3,6 @@
 use borrow.Author.Needs.{needs}
 use Rattle.endpoint.proofs.view.view_one.Statement.{statement}
 use Rattle.endpoint.proofs.view.view_one.Tie as tie
-use Rattle.endpoint.proofs.view.view_one.Reads as reads
-use Rattle.endpoint.proofs.view.view_one.Lts as lts
-use Rattle.endpoint.proofs.view.part.Reads as part-reads
 
 part-requires : tie.Need-part-requires
 part-requires c κs = search needs

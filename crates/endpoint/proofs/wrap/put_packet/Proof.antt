@@ -61,7 +61,8 @@ put-segment-requires c κs =
     let t = i .before .before .before .before .before in
     let a = t .args in
     let h : a .segment < segmentsOf (a .route .kind) (length (a .frame .now)) (a .route .mtu) = omega arith in
-    let b : a .segment * (a .route .mtu - 40) < 18 + length (a .frame .now) = stt-begins (a .route .kind) (length (a .frame .now)) (a .route .mtu) (a .segment) (i .before .if1 .left) (i .if2 .left) h in
+    let b : a .segment * (a .route .mtu - 40) < 18 + length (a .frame .now) =
+    stt-begins (a .route .kind) (length (a .frame .now)) (a .route .mtu) (a .segment) (i .before .if1 .left) (i .if2 .left) h in
     (t .pre .0, t .pre .1, omega arith, b)
 
 same-length-3 : tie.Need-same-length-3
@@ -73,7 +74,8 @@ returns-3 c =
     let i = s .before .before .before in
     let t = i .before .before .before .before .before in
     let a = t .args in
-    put-stt (a .route) (a .frame .now) (a .segment) (a .identifier) _ _ _ (i .before .if1 .left) (i .if2 .left) (a .segments) (t .pre .2) (s .put-segment .ensures)
+    put-stt (a .route) (a .frame .now) (a .segment) (a .identifier) _ _ _ (i .before .if1 .left) (i .if2 .left) (a .segments) (t .pre .2)
+    (s .put-segment .ensures)
 
 pub put-packet-spec : {M : Type 1} → statement M
 put-packet-spec =

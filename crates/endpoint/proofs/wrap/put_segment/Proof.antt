@@ -34,7 +34,8 @@ returns c =
     let l = s .before .before in
     let t = l .before .before .before in
     let a = t .args in
-    put-piece (a .own) (a .peer) (a .port) (a .context) (a .identifier) (a .capacity) (a .segment) _ (a .last) (a .frame .now) _ _ _ (t .pre .0) (t .pre .1) (t .pre .3)
+    put-piece (a .own) (a .peer) (a .port) (a .context) (a .identifier) (a .capacity) (a .segment) _ (a .last) (a .frame .now) _ _ _ (t .pre .0) (t .pre .1)
+    (t .pre .3)
     (ap (λ (x : ℕ). x - a .segment * a .capacity) (l .least .ensures)) (s .segment .ensures)
 
 pub put-segment-spec : {M : Type 1} → statement M

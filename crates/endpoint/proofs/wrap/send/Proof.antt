@@ -40,7 +40,8 @@ returns-2 c =
     let m = x .before in
     let r = m .before .before in
     let a = r .before .before .before .args in
-    send-mtu (a .route) (a .frame .now) (a .segment) (a .identifier) (a .output .now) (sym (r .read .ensures) ∙ m .enum-told .given .1) (sym (x .exceeds .ensures) ∙ c .if1 .taken)
+    send-mtu (a .route) (a .frame .now) (a .segment) (a .identifier) (a .output .now) (sym (r .read .ensures) ∙ m .enum-told .given .1)
+    (sym (x .exceeds .ensures) ∙ c .if1 .taken)
 
 segments-of-requires : tie.Need-segments-of-requires
 segments-of-requires c κs =
@@ -60,7 +61,8 @@ returns-3 c =
     let a = r .before .before .before .args in
     let n : s .segments-of .result ≡ segmentsOf (a .route .kind) (length (a .frame .now)) (a .route .mtu) = s .segments-of .ensures in
     let h : segmentsOf (a .route .kind) (length (a .frame .now)) (a .route .mtu) ≤ a .segment = omega arith in
-    send-segment (a .route) (a .frame .now) (a .segment) (a .identifier) (a .output .now) (sym (r .read .ensures) ∙ m .enum-told .given .1) (sym (x .exceeds .ensures) ∙ i .if1 .left) h
+    send-segment (a .route) (a .frame .now) (a .segment) (a .identifier) (a .output .now) (sym (r .read .ensures) ∙ m .enum-told .given .1)
+    (sym (x .exceeds .ensures) ∙ i .if1 .left) h
 
 put-packet-requires : tie.Need-put-packet-requires
 put-packet-requires c κs =
@@ -87,7 +89,8 @@ returns-4 c =
     let a = r .before .before .before .args in
     let n : s .segments-of .result ≡ segmentsOf (a .route .kind) (length (a .frame .now)) (a .route .mtu) = s .segments-of .ensures in
     let h : a .segment < segmentsOf (a .route .kind) (length (a .frame .now)) (a .route .mtu) = omega arith in
-    send-output (a .route) (a .frame .now) (a .segment) (a .identifier) (a .output .now) (sym (r .read .ensures) ∙ m .enum-told .given .1) (sym (x .exceeds .ensures) ∙ i .if1 .left) h _ _ (p .put-packet .ensures) (c .if3 .taken)
+    send-output (a .route) (a .frame .now) (a .segment) (a .identifier) (a .output .now) (sym (r .read .ensures) ∙ m .enum-told .given .1)
+    (sym (x .exceeds .ensures) ∙ i .if1 .left) h _ _ (p .put-packet .ensures) (c .if3 .taken)
 
 same-length-2 : tie.Need-same-length-2
 same-length-2 c = search needs

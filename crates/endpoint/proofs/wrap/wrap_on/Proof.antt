@@ -59,10 +59,16 @@ returns-3 : tie.Need-returns-3
 returns-3 c =
     let a = c .before .before .before .before .before .before .before .before .before .before .before .before .before .args in
     let e : Endpoint = lent (a .networks .now) (a .kinds .now) (a .owners .now) [] (a .addresses .now) (a .own) (a .port) (a .mtu) 0 (a .binding-count) in
-    let h : a .binding < min (a .binding-count) 64 = omega (arith, c .before .before .before .before .before .before .before .before .before .before .least .ensures) in
+    let h : a .binding < min (a .binding-count) 64 = omega (
+      arith,
+      c .before .before .before .before .before .before .before .before .before .before .least .ensures,
+    ) in
     let o : getD (a .owners .now) (a .binding) 0 < 8 = omega arith in
-    let same = wrap-sends e (a .binding) (a .frame .now) (a .segment) (a .identifier) (a .output .now) h o in
-    (c .before .before .send .ensures .0 ∙ ap (λ (w : Wrote). w .answer) (sym same), c .before .before .send .ensures .1 ∙ ap (λ (w : Wrote). w .output) (sym same))
+    let same = wrap-sends e (a .binding) (a .frame .now) (a .segment) (a .identifier) (a .output .now) h o in (
+      c .before .before .send .ensures .0 ∙ ap (λ (w : Wrote). w .answer) (sym same),
+      c .before .before .send .ensures .1
+          ∙ ap (λ (w : Wrote). w .output) (sym same),
+    )
 
 pub wrap-on-spec : {M : Type 1} → statement M
 wrap-on-spec =

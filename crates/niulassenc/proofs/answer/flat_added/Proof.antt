@@ -6,9 +6,6 @@ use Rattle.niulassenc.specs.Answer.{additionOf}
 use borrow.Author.Needs.{needs}
 use Rattle.niulassenc.proofs.answer.flat_added.Statement.{statement}
 use Rattle.niulassenc.proofs.answer.flat_added.Tie as tie
-use Rattle.niulassenc.proofs.answer.flat_added.Reads as reads
-use Rattle.niulassenc.proofs.answer.flat_added.Lts as lts
-use Rattle.endpoint.proofs.code.config_code.Reads as config-code-reads
 
 enum-known-answer : tie.Need-enum-known-answer
 enum-known-answer c = search needs

@@ -7,10 +7,6 @@ use Rattle.niulassenc.specs.Answer.{flatOf, emptyOf}
 use borrow.Author.Needs.{needs}
 use Rattle.niulassenc.proofs.answer.flat_received.Statement.{statement}
 use Rattle.niulassenc.proofs.answer.flat_received.Tie as tie
-use Rattle.niulassenc.proofs.answer.flat_received.Reads as reads
-use Rattle.niulassenc.proofs.answer.flat_received.Lts as lts
-use Rattle.endpoint.proofs.code.drop_code.Reads as drop-code-reads
-use Rattle.niulassenc.proofs.answer.empty.Reads as empty-reads
 
 enum-known-answer : tie.Need-enum-known-answer
 enum-known-answer c = search needs
@@ -37,7 +33,8 @@ returns-2 : tie.Need-returns-2
 returns-2 c = c .empty .ensures ∙ sym (ap (λ (a : Received). flatOf (valuesOf a)) (c .before .enum-told .given .1))
 
 returns-3 : tie.Need-returns-3
-returns-3 c = c .empty2 .ensures ∙ (ap emptyOf (c .before .drop-code .ensures) ∙ sym (ap (λ (a : Received). flatOf (valuesOf a)) (c .before .before .before .answer2 .given .1)))
+returns-3 c = c .empty2 .ensures ∙ (ap emptyOf (c .before .drop-code .ensures)
+    ∙ sym (ap (λ (a : Received). flatOf (valuesOf a)) (c .before .before .before .answer2 .given .1)))
 
 pub flat-received-spec : {M : Type 1} → statement M
 flat-received-spec =

@@ -1,5 +1,5 @@
--- `niulassenc::config::niulassenc_add_binding` meets its contract: a walk of its MIR, by hand. The borrow is opened, and one number is read. The bindings' columns
--- and their count are lent, each as a `&mut` for a lifetime of its own
+-- `niulassenc::config::niulassenc_add_binding` meets its contract: a walk of its MIR, by hand. The borrow is opened, and one number is read. The bindings'
+-- columns and their count are lent, each as a `&mut` for a lifetime of its own
 -- (`Fields.antt`), to `binding_added`. When these are over the endpoint is back, with what `binding_added` left, and the borrow is closed at it. All that the
 -- proof knows of `binding_added` is that it meets its contract.
 -- Assumes nothing.
@@ -19,8 +19,10 @@ use ghost.Atoms.{Atoms}
 use contract.Lifetimes.{Lfts}
 use contract.Monad.{Fun, fact}
 use contract.Running.{givenOf, tables, tablesOf}
-use types.Kit.{Given, Item, ‵, raw, _⊛_, ⋆, some, later, _$_, _∵_, !, qed, by, move, keep, drop, use1, use2, split, join, pick, fsplit, fsplit3, fjoin, fjoin3, feqI, suffices, frame, await, done}
-use types.Run.{look, init, forget, stop, hop, fld, from, load, addr, of-opd, and-then, no-more, assigns, land, returns, enter, alloc1, alloc0, params1, pass1, pass0, free1, free0}
+use types.Kit.{Given, Item, ‵, raw, _⊛_, ⋆, some, later, _$_, _∵_, !, qed, by, move, keep, drop, use1, use2, split, join, pick, fsplit, fsplit3, fjoin, fjoin3}
+use types.Kit.{feqI, suffices, frame, await, done}
+use types.Run.{look, init, forget, stop, hop, fld, from, load, addr, of-opd, and-then, no-more, assigns, land, returns, enter, alloc1, alloc0, params1, pass1}
+use types.Run.{pass0, free1, free0}
 use types.Mut.{close-ref}
 use types.Part.{whole, sub, look-in}
 use types.SemTy.{Body}
@@ -315,4 +317,5 @@ niulassenc-add-binding-spec 𝓤 H 𝓜 𝓖 𝓡 =
     entered 𝓤 H (tripleOf 𝓤 H (𝓖 .A) f.signature (f.spec 𝓤 H (𝓖 .A) (𝓜 .mem) (𝓡 .run)))
     (tables 𝓤 H 𝓜 𝓡 code.env .C) (tables 𝓤 H 𝓜 𝓡 code.env .Λ) #this code.function (code.unfolded 𝓤 H 𝓜 𝓡)
     (meets 𝓤 H (𝓖 .A) (givenOf 𝓤 H 𝓜 𝓖) (𝓜 .mem) (𝓡 .run) (tablesOf 𝓤 H 𝓜 (tables 𝓤 H 𝓜 𝓡 code.env))
-    (cited 𝓤 H (Adds 𝓤 H (𝓖 .A) (𝓜 .mem) (𝓡 .run)) 𝓜 𝓡 code.env #adding adding-def.routine code.calls-niulassenc·config·binding-added (adding-thm.met 𝓤 H 𝓜 𝓖 𝓡)))
+    (cited 𝓤 H (Adds 𝓤 H (𝓖 .A) (𝓜 .mem) (𝓡 .run)) 𝓜 𝓡 code.env #adding adding-def.routine code.calls-niulassenc·config·binding-added
+    (adding-thm.met 𝓤 H 𝓜 𝓖 𝓡)))

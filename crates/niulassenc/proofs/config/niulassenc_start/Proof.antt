@@ -1,15 +1,11 @@
 -- `niulassenc::config::niulassenc_start` meets its contract.
 -- Assumes nothing.
-use mathlib.Core.Path.{_∙_, sym, ap}
+use mathlib.Core.Path.{_∙_, ap}
 use Prim.Native.Nat.{ℕ}
 use Rattle.niulassenc.specs.Answer.{startedOf}
 use borrow.Author.Needs.{needs}
 use Rattle.niulassenc.proofs.config.niulassenc_start.Statement.{statement}
 use Rattle.niulassenc.proofs.config.niulassenc_start.Tie as tie
-use Rattle.niulassenc.proofs.config.niulassenc_start.Reads as reads
-use Rattle.niulassenc.proofs.config.niulassenc_start.Lts as lts
-use Rattle.endpoint.proofs.code.start_code.Reads as start-code-reads
-use Rattle.endpoint.proofs.config.start.Reads as start-reads
 
 start-requires : tie.Need-start-requires
 start-requires c κs = search needs
@@ -18,7 +14,8 @@ start-code-requires : tie.Need-start-code-requires
 start-code-requires c κs = search needs
 
 returns : tie.Need-returns
-returns c = ap (λ (n : ℕ). record { endpoint = c .before .before .start .result .endpoint; code = n }) (c .before .start-code .ensures) ∙ ap startedOf (c .before .before .start .ensures .0)
+returns c = ap (λ (n : ℕ). record { endpoint = c .before .before .start .result .endpoint; code = n }) (c .before .start-code .ensures)
+    ∙ ap startedOf (c .before .before .start .ensures .0)
 
 pub niulassenc-start-spec : {M : Type 1} → statement M
 niulassenc-start-spec = tie.close (tie.spec start-requires start-code-requires returns)

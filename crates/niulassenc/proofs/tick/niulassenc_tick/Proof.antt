@@ -1,5 +1,5 @@
--- `niulassenc::tick::niulassenc_tick` meets its contract: a walk of its MIR, by hand. The borrow is opened, and stays open while the loop runs. A turn reaches the
--- row of peer p where it lies (`RowAt.antt`), reads it,
+-- `niulassenc::tick::niulassenc_tick` meets its contract: a walk of its MIR, by hand. The borrow is opened, and stays open while the loop runs. A turn reaches
+-- the row of peer p where it lies (`RowAt.antt`), reads it,
 -- and stores what `tick_row` makes of it. The loop's invariant: the rows of the peers before p are older, and all else is as it came. At the end the borrow is
 -- closed at that endpoint.
 -- All that the proof knows of `tick_row` is that it meets its contract.
@@ -26,8 +26,10 @@ use prog.Wp.{Heap, Out, Env, afterSeq, afterBlock, afterTurn, Calls, Loops, Wp, 
 use ghost.Atoms.{Atoms, sem}
 use contract.Monad.{Fun, fact}
 use contract.Running.{givenOf, tables, tablesOf}
-use types.Kit.{Given, Item, ‵, raw, runs, anyQ, atRet, Sq, _⊛_, ⋆, some, later, _$_, _∵_, !, qed, by, move, keep, drop, use1, use2, split, join, pick, rewrite, fsplit, fsplit3, fjoin, fjoin3, feqI, suffices, frame, await, done}
-use types.Run.{look, look-raw, store, store-raw, init, forget, stop, hop, fld, from, load, lit, addr, bin, of-opd, and-then, no-more, assigns, assigns-last, first, skips, jumps, blocks, branches, land, returns, enter, alloc1, alloc0, params1, pass1, pass0, free1, free0, exec, Below, again, loops}
+use types.Kit.{Given, Item, ‵, raw, runs, anyQ, atRet, Sq, _⊛_, ⋆, some, later, _$_, _∵_, !, qed, by, move, keep, drop, use1, use2, split, join, pick, rewrite}
+use types.Kit.{fsplit, fsplit3, fjoin, fjoin3, feqI, suffices, frame, await, done}
+use types.Run.{look, look-raw, store, store-raw, init, forget, stop, hop, fld, from, load, lit, addr, bin, of-opd, and-then, no-more, assigns, assigns-last}
+use types.Run.{first, skips, jumps, blocks, branches, land, returns, enter, alloc1, alloc0, params1, pass1, pass0, free1, free0, exec, Below, again, loops}
 use types.Mut.{close-ref}
 use types.SemTy.{Body}
 use sound.WpLaws.{fmOf, WpFn-mono}
@@ -49,19 +51,19 @@ use denote.Triple.Table.{entered, cited}
 use denote.Triple.Walked.{says, Stays, stay-ref, walkOf, AllGo, goes-ref, Walks, ends-at, walked, walk-meets}
 use denote.Triple.Clauses.{ensured, lasts}
 use Rattle.reassembly.specs.Slots.{olderRow}
-use Rattle.reassembly.specs.declared.slot.Row.{Row}
+use Rattle.reassembly.specs.declared.slot.Peer.{Peer}
 use Rattle.endpoint.specs.declared.answer.Tick.{Tick}
 use Rattle.endpoint.specs.declared.answer.Tick.the-variants as K
 use Rattle.endpoint.specs.declared.config.Endpoint.{Endpoint}
-use Rattle.endpoint.specs.declared.tick.Ticked.{Ticked}
+use Rattle.endpoint.specs.declared.tick.TickResult.{TickResult}
 use Rattle.endpoint.specs.Answer.{tickCode}
 use Rattle.endpoint.specs.Config.{withRows, tickOf}
 use Rattle.endpoint.specs.Receive.{rowAt, withRow}
 use Rattle.endpoint.specs.Laws.Tick.{olderBefore, none-older, one-older, all-older}
 use Rattle.endpoint.proofs.config.Endpoint as T
 use Rattle.endpoint.proofs.config.Endpoint.Laws as T′
-use Rattle.reassembly.proofs.slot.Row as R
-use Rattle.reassembly.proofs.slot.Row.Laws as R′
+use Rattle.reassembly.proofs.slot.Peer as R
+use Rattle.reassembly.proofs.slot.Peer.Laws as R′
 use Rattle.niulassenc.proofs.RowAt.{rowPlace, offset-fits, RowS, into-row, TheRow, reaches, comes-back, lies-in, lies-out, AtRow}
 use Rattle.reassembly.proofs.tick.tick_row as ageing
 use Rattle.reassembly.proofs.tick.tick_row.Symbol as ageing-def
@@ -110,12 +112,12 @@ ty k = tyAt (code.function .locals) k
 -- ---- the rows of the peers before p are older
 
 abbrev aged : Endpoint → ℕ → Endpoint
-aged h p = withRows h (olderBefore (h .rows) p)
+aged h p = withRows h (olderBefore (h .peers) p)
 
-eight-rows : (h : Endpoint) → Is T.the-row h (LL.vals T.the-type T′.the-laws h) → length (h .rows) ≡ 8
-eight-rows h is = sym (length-map (h .rows) _) ∙ LL.owed T.the-type T′.the-laws h (LL.vals T.the-type T′.the-laws h) is .1 .0 .1 .0 .1
+eight-rows : (h : Endpoint) → Is T.the-row h (LL.vals T.the-type T′.the-laws h) → length (h .peers) ≡ 8
+eight-rows h is = sym (length-map (h .peers) _) ∙ LL.owed T.the-type T′.the-laws h (LL.vals T.the-type T′.the-laws h) is .1 .0 .1 .0 .1
 
-older-row : (h : Endpoint) (p : ℕ) (r : Row) → length (h .rows) ≡ 8 → p < 8 → r ≡ olderRow (rowAt (aged h p) p) → withRow (aged h p) p r ≡ aged h (p + 1)
+older-row : (h : Endpoint) (p : ℕ) (r : Peer) → length (h .peers) ≡ 8 → p < 8 → r ≡ olderRow (rowAt (aged h p) p) → withRow (aged h p) p r ≡ aged h (p + 1)
 older-row h p r eight l e = one-older h (aged h p) p r (omega (arith, eight)) refl e
 
 -- the only answer
@@ -125,7 +127,7 @@ always K.Done = refl
 done-only : (t : Tick) → K.Done ≡ t
 done-only K.Done = refl
 
-ticked-out : (h : Endpoint) (n : ℕ) → n ≡ length (h .rows) → record { endpoint = aged h n; answer = tickOf h .answer } ≡ tickOf h
+ticked-out : (h : Endpoint) (n : ℕ) → n ≡ length (h .peers) → record { endpoint = aged h n; answer = tickOf h .answer } ≡ tickOf h
 ticked-out h n is = ap (λ (t : Tick). record { endpoint = aged h n; answer = t }) (sym (done-only (tickOf h .answer))) ∙ all-older h n is
 
 module _ {M : Type 1} (𝓤 : URA M) (H : Heap 𝓤) (A : Atoms 𝓤) (at-mem : Memory → SProp 𝓤) (run : Routine → Fun 𝓤) where
@@ -133,7 +135,7 @@ module _ {M : Type 1} (𝓤 : URA M) (H : Heap 𝓤) (A : Atoms 𝓤) (at-mem : 
   abbrev Ages : Contract 𝓤
   Ages = tripleOf 𝓤 H A ageing.signature (ageing.spec 𝓤 H A at-mem run)
 
-  said : (w r : Row) → ent 𝓤 (ensured 𝓤 H A ageing.ended (ageing.clauses 𝓤 H A at-mem run) tt (w, tt) tt r) (fact 𝓤 (r ≡ olderRow w))
+  said : (w r : Peer) → ent 𝓤 (ensured 𝓤 H A ageing.ended (ageing.clauses 𝓤 H A at-mem run) tt (w, tt) tt r) (fact 𝓤 (r ≡ olderRow w))
   said w r = exE 𝓤 _ (λ ws. snd∗ 𝓤 (sem 𝓤 H A (lasts ageing.ended tt (w, tt) ws)) (fact 𝓤 (r ≡ olderRow w)))
 
 module _ {M : Type 1} (𝓤 : URA M) (H : Heap 𝓤) (A : Atoms 𝓤) (W : Given 𝓤 H A) (at-mem : Memory → SProp 𝓤) (run : Routine
@@ -147,13 +149,13 @@ module _ {M : Type 1} (𝓤 : URA M) (H : Heap 𝓤) (A : Atoms 𝓤) (W : Given
   abbrev Post : Val → SProp 𝓤
   Post = walkOf 𝓤 H A f.ended stayed (f.clauses 𝓤 H A at-mem run) .post (((κ, tt), (q, tt), tt, x, at), tt)
 
-  abbrev vrow : Row → Val
+  abbrev vrow : Peer → Val
   vrow r = LL.val R.the-type R′.the-laws r
 
-  abbrev to : Row → Ages 𝓤 H A at-mem run .Ghost
+  abbrev to : Peer → Ages 𝓤 H A at-mem run .Ghost
   to r = ((tt, tt, tt, (r, tt), (vrow r ∷ [], tt)), tt)
 
-  goes-in : (r : Row) → ent 𝓤 (sem 𝓤 H A (R.the-row .own r (vrow r ∷ []))) (Ages 𝓤 H A at-mem run .pre (to r))
+  goes-in : (r : Peer) → ent 𝓤 (sem 𝓤 H A (R.the-row .own r (vrow r ∷ []))) (Ages 𝓤 H A at-mem run .pre (to r))
   goes-in r = qed W (‵ (R.the-row .own r (vrow r ∷ [])) ∷ []) ∵ nothing ! $ move ! (1 ∷ 0 ∷ []) $ join ! $ nothing ! $ join ! $ frame ! $ done !
 
   exits : (e : Endpoint) → record { endpoint = e; answer = tickOf h .answer } ≡ tickOf h
@@ -161,7 +163,7 @@ module _ {M : Type 1} (𝓤 : URA M) (H : Heap 𝓤) (A : Atoms 𝓤) (W : Given
   exits e is =
       qed W (‵ (fobs γ (T.the-row .coded .code e)) ∷ ‵ (fbor κ (Body (mem T.the-row) b o γ)) ∷ ‵ (flft κ q) ∷ []) ∵
       suffices ! _ (ends-at 𝓤 H A f.ended stayed (f.clauses 𝓤 H A at-mem run) W (((κ, tt), (q, tt), tt, x, at), tt) (vint w8 0) 0 (e, tt) (tt, tt)) $
-      says ! (always (tickOf h .answer), ap (λ (t : Ticked). t .endpoint) is) $ nothing ! $ move ! (3 ∷ 0 ∷ []) $ join ! $
+      says ! (always (tickOf h .answer), ap (λ (t : TickResult). t .endpoint) is) $ nothing ! $ move ! (3 ∷ 0 ∷ []) $ join ! $
       frame ! $ feqI ! (List Val) (vptr b o ∷ []) (vptr b o ∷ []) refl $ fjoin3 ! $ nothing ! $ move ! (1 ∷ 0 ∷ []) $ fjoin ! $
       owned ! u8 (Is u8) (uint-makes 𝓤 H A W w8) 0 (vint w8 0 ∷ []) (refl, lit< tt) $ move ! (1 ∷ 0 ∷ []) $ done !
 
@@ -176,7 +178,7 @@ module _ {M : Type 1} (𝓤 : URA M) (H : Heap 𝓤) (A : Atoms 𝓤) (W : Given
   Nearer-wf : WellFounded Nearer
   Nearer-wf = InvImage·wf (λ (i : Upto). 8 - i .0) (Nat·lt-wfRel .wf)
 
-  module _ (𝓣 : Tables 𝓤 H) (known : Triple 𝓤 (𝓣 .C #ageing) (Ages 𝓤 H A at-mem run)) (eight : length (h .rows) ≡ 8)
+  module _ (𝓣 : Tables 𝓤 H) (known : Triple 𝓤 (𝓣 .C #ageing) (Ages 𝓤 H A at-mem run)) (eight : length (h .peers) ≡ 8)
       (l₀ l₁ l₂ l₃ l₄ l₅ l₆ l₇ l₈ l₉ l₁₀ : ℕ) where
     abbrev C : Calls 𝓤 H
     C = 𝓣 .C
@@ -210,7 +212,7 @@ module _ {M : Type 1} (𝓤 : URA M) (H : Heap 𝓤) (A : Atoms 𝓤) (W : Given
       abbrev p : ℕ
       p = i .0
 
-      abbrev was : Row
+      abbrev was : Peer
       was = rowAt (aged h p) p
 
       fits : p < 2 ^ 64
@@ -249,7 +251,7 @@ module _ {M : Type 1} (𝓤 : URA M) (H : Heap 𝓤) (A : Atoms 𝓤) (W : Given
           owned ! R.the-row (Is R.the-row) (LL.makes R.the-type R′.the-plain 𝓤 H A) was _ isr $
           use1 W (raw (Ages 𝓤 H A at-mem run .pre (to was))) (goes-in was) $
           calls-at ! (fmOf 𝓤 H (W .laws) 𝓣) (Ages 𝓤 H A at-mem run) known (to was) (and-then ! (load ! (from ! (stop !)) (look ! 23 refl)) (no-more !)) (λ v.
-          use1 W (later (some (λ (r : Row). (‵ ftrue ⊛ ‵ (R.the-row .own r (v ∷ []))) ⊛ raw (ensured 𝓤 H A ageing.ended (ageing.clauses 𝓤 H A at-mem run) tt
+          use1 W (later (some (λ (r : Peer). (‵ ftrue ⊛ ‵ (R.the-row .own r (v ∷ []))) ⊛ raw (ensured 𝓤 H A ageing.ended (ageing.clauses 𝓤 H A at-mem run) tt
           (was, tt) tt r)))) (id⊢ 𝓤 _) $ await ! tt $ pick ! (λ r.
           split ! $ move ! (1 ∷ []) $ use1 W (raw (fact 𝓤 (r ≡ olderRow was))) (said 𝓤 H A at-mem run was r) $ heard ! (r ≡ olderRow was) (λ e. split ! $
           drop ! $

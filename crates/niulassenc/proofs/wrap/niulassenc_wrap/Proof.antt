@@ -1,6 +1,7 @@
 -- `niulassenc::wrap::niulassenc_wrap` meets its contract: a walk of its MIR, by hand. The borrow of the endpoint is looked into, the settings are read, and
--- the borrow is shut again. Of it four columns are lent on to `wrapped`, at the same lifetime (`Columns.antt`); with them go the frame, which is Copy and so had
--- twice, and the output, which is given up: `wrapped` says its last bytes. Its result is the call's own. All that the proof knows of `wrapped` is that it meets its contract.
+-- the borrow is shut again. Of it four columns are lent on to `wrapped`, at the same lifetime (`Columns.antt`); with them go the frame, which is Copy and so
+-- had twice, and the output, which is given up: `wrapped` says its last bytes. Its result is the call's own. All that the proof knows of `wrapped` is that it
+-- meets its contract.
 -- Assumes nothing.
 use mathlib.Core.Path.{_≡_, refl, ap, _∙_}
 use mathlib.Core.List.{List, [], _∷_}
@@ -18,15 +19,17 @@ use ghost.Atoms.{Atoms}
 use contract.Lifetimes.{Lfts, Shares}
 use contract.Monad.{Fun, fact}
 use contract.Running.{givenOf, tables, tablesOf}
-use types.Kit.{Given, Item, ‵, raw, _⊛_, ⋆, some, later, _$_, _∵_, !, qed, by, move, keep, drop, use1, use2, use3, split, join, pick, fsplit, fsplit3, fjoin, fjoin3, feqL, feqI, suffices, frame, await, done}
-use types.Run.{look, init, forget, stop, hop, fld, from, load, addr, of-opd, and-then, no-more, assigns, land, returns, enter, alloc1, alloc0, params1, pass1, pass0, free1, free0}
+use types.Kit.{Given, Item, ‵, raw, _⊛_, ⋆, some, later, _$_, _∵_, !, qed, by, move, keep, drop, use1, use2, use3, split, join, pick, fsplit, fsplit3, fjoin}
+use types.Kit.{fjoin3, feqL, feqI, suffices, frame, await, done}
+use types.Run.{look, init, forget, stop, hop, fld, from, load, addr, of-opd, and-then, no-more, assigns, land, returns, enter, alloc1, alloc0, params1, pass1}
+use types.Run.{pass0, free1, free0}
 use types.Part.{agg, whole, sub, look-in}
 use sound.WpLaws.{FmC, fmOf, WpFn-mono}
-use denote.RattleType.{RattleType, owns}
+use denote.RattleType.{owns}
 use denote.Laws.{Is, shows}
 use denote.Memory.{partAt}
 use denote.Plain.{uint-makes, uint-vals, uint-tells}
-use denote.Builtin.{u8, u16, u32, u64}
+use denote.Builtin.{u8, u16, u32}
 use denote.Array.{Array}
 use denote.Ref.{RefT, ShrRef, ptr-vals, shr-tells}
 use denote.Signature.{plain}
@@ -39,7 +42,8 @@ use denote.Triple.Call.{calls-at}
 use denote.Triple.Entry.{Args, Vals, onEntry}
 use denote.Triple.Spec.{Meets, tripleOf}
 use denote.Triple.Table.{entered, cited}
-use denote.Triple.Walked.{says, Stays, stay-none, stay-none-ref, stay-none-slice, gave-slice, walkOf, AllGo, goes-none, goes-none-ref, goes-none-slice, goes-gave-slice, Walks, ends-at, walked, walk-meets}
+use denote.Triple.Walked.{says, Stays, stay-none, stay-none-ref, stay-none-slice, gave-slice, walkOf, AllGo, goes-none, goes-none-ref, goes-none-slice}
+use denote.Triple.Walked.{goes-gave-slice, Walks, ends-at, walked, walk-meets}
 use denote.Triple.Clauses.{ensured, lasts}
 use denote.Exit.{yes}
 use Rattle.endpoint.specs.declared.config.Endpoint.{Endpoint}
@@ -133,7 +137,19 @@ module _ {M : Type 1} (𝓤 : URA M) (H : Heap 𝓤) (A : Atoms 𝓤) (W : Given
   -- the call of `wrapped`
   module _ (was : Is T.the-row h (mach ∷ [])) (g : Names) where
     abbrev args : Args wrapped.signature (κe, (κp, (κm, tt)))
-    args = (col b o (h .networks) 0 (g .0), (col b o (h .kinds) 940 (g .1 .0), (col b o (h .owners) 1004 (g .1 .1 .0), (col b o (h .addresses) 768 (g .1 .1 .1), (h .own, (h .port, (h .mtu, (h .«binding_count», (n, (p, (s, (i, (m, tt)))))))))))))
+    args = (
+      col b o (h .networks) 0 (g .0),
+      (
+        col b o (h .kinds) 940 (g .1 .0),
+        (
+          col b o (h .owners) 1004 (g .1 .1 .0),
+          (
+            col b o (h .addresses) 768 (g .1 .1 .1),
+            (h .own, (h .port, (h .mtu, (h .«binding_count», (n, (p, (s, (i, (m, tt))))))))),
+          ),
+        ),
+      ),
+    )
 
     abbrev to : Wrapped 𝓤 H A at-mem run .Ghost
     to = (
@@ -154,7 +170,13 @@ module _ {M : Type 1} (𝓤 : URA M) (H : Heap 𝓤) (A : Atoms 𝓤) (W : Given
                   vint w32 (h .own) ∷ [],
                   (
                     vint w16 (h .port) ∷ [],
-                    (vint w16 (h .mtu) ∷ [], (vint w16 (h .«binding_count») ∷ [], (vint w32 n ∷ [], (vp ∷ [], (vint w32 s ∷ [], (vint w32 i ∷ [], (vm ∷ [], tt))))))),
+                    (
+                      vint w16 (h .mtu) ∷ [],
+                      (
+                        vint w16 (h .«binding_count») ∷ [],
+                        (vint w32 n ∷ [], (vp ∷ [], (vint w32 s ∷ [], (vint w32 i ∷ [], (vm ∷ [], tt))))),
+                      ),
+                    ),
                   ),
                 ),
               ),
@@ -167,12 +189,16 @@ module _ {M : Type 1} (𝓤 : URA M) (H : Heap 𝓤) (A : Atoms 𝓤) (W : Given
 
     goes-in : ent 𝓤 (⋆ 𝓤 H A (((Cols g ⊛ ‵ OwnP) ⊛ ‵ OwnM) ∷ ‵ (flft κe qe) ∷ Tokens ∷ [])) (Wrapped 𝓤 H A at-mem run .pre to)
     goes-in =
-        qed W (((Cols g ⊛ ‵ OwnP) ⊛ ‵ OwnM) ∷ ‵ (flft κe qe) ∷ Tokens ∷ []) ∵ split ! $ split ! $ split ! $ move ! (1 ∷ []) $ split ! $ move ! (1 ∷ []) $ split ! $
+        qed W (((Cols g ⊛ ‵ OwnP) ⊛ ‵ OwnM) ∷ ‵ (flft κe qe) ∷ Tokens ∷ []) ∵ split ! $ split ! $ split ! $ move ! (1 ∷ []) $ split ! $ move !
+        (1 ∷ []) $ split ! $
         -- [owners; addresses; kinds; networks; frame; output; the tokens]
         nothing ! $ move ! (6 ∷ 0 ∷ []) $ join ! $
-        owned ! u32 (Is u32) (uint-makes 𝓤 H A W w32) i _ (refl, i-fits) $ join ! $ owned ! u32 (Is u32) (uint-makes 𝓤 H A W w32) s _ (refl, s-fits) $ join ! $ move ! (5 ∷ 0 ∷ []) $ join ! $
-        owned ! u32 (Is u32) (uint-makes 𝓤 H A W w32) n _ (refl, n-fits) $ join ! $ owned ! u16 (Is u16) (uint-makes 𝓤 H A W w16) (h .«binding_count») _ (refl, bindings-fit h was) $ join ! $
-        owned ! u16 (Is u16) (uint-makes 𝓤 H A W w16) (h .mtu) _ (refl, mtu-fits h was) $ join ! $ owned ! u16 (Is u16) (uint-makes 𝓤 H A W w16) (h .port) _ (refl, port-fits h was) $ join ! $
+        owned ! u32 (Is u32) (uint-makes 𝓤 H A W w32) i _ (refl, i-fits) $ join ! $ owned ! u32 (Is u32) (uint-makes 𝓤 H A W w32) s _
+        (refl, s-fits) $ join ! $ move ! (5 ∷ 0 ∷ []) $ join ! $
+        owned ! u32 (Is u32) (uint-makes 𝓤 H A W w32) n _ (refl, n-fits) $ join ! $ owned ! u16 (Is u16) (uint-makes 𝓤 H A W w16) (h .«binding_count») _
+        (refl, bindings-fit h was) $ join ! $
+        owned ! u16 (Is u16) (uint-makes 𝓤 H A W w16) (h .mtu) _ (refl, mtu-fits h was) $ join ! $ owned ! u16 (Is u16) (uint-makes 𝓤 H A W w16) (h .port) _
+        (refl, port-fits h was) $ join ! $
         owned ! u32 (Is u32) (uint-makes 𝓤 H A W w32) (h .own) _ (refl, own-fits h was) $ join ! $
         move ! (2 ∷ 0 ∷ []) $ join ! $ move ! (1 ∷ 0 ∷ []) $ join ! $ move ! (1 ∷ 0 ∷ []) $ join ! $ move ! (1 ∷ 0 ∷ []) $ join ! $
         -- [all arguments; the tokens]
@@ -183,8 +209,10 @@ module _ {M : Type 1} (𝓤 : URA M) (H : Heap 𝓤) (A : Atoms 𝓤) (W : Given
   exits r v is zs l e =
       let same = wrap-lent h n (p .now) s i (m .now) in
       qed W (‵ (flft κe qe) ∷ ‵ (fres γ (T.the-row .coded .code h)) ∷ ‵ Shared ∷ Tokens ∷ ‵ (finally u8 (m .name) zs) ∷ ‵ OwnP ∷ []) ∵
-      suffices ! _ (ends-at 𝓤 H A f.ended stayed (f.clauses 𝓤 H A at-mem run) W ((κs, qs, tt, a, at), tt) v r (tt, (tt, (tt, (tt, (tt, (zs, tt)))))) (tt, (tt, (tt, (tt, (tt, (l, tt))))))) $
-      says ! (e .0 ∙ ap (λ (w : Wrote). writingOf (wrapValuesOf (w .answer))) same, e .1 ∙ ap (λ (w : Wrote). w .output) same) $ move ! (0 ∷ 3 ∷ []) $ join ! $ frame ! $
+      suffices ! _ (ends-at 𝓤 H A f.ended stayed (f.clauses 𝓤 H A at-mem run) W ((κs, qs, tt, a, at), tt) v r (tt, (tt, (tt, (tt, (tt, (zs, tt))))))
+      (tt, (tt, (tt, (tt, (tt, (l, tt))))))) $
+      says ! (e .0 ∙ ap (λ (w : Wrote). writingOf (wrapValuesOf (w .answer))) same, e .1 ∙ ap (λ (w : Wrote). w .output) same) $ move !
+      (0 ∷ 3 ∷ []) $ join ! $ frame ! $
       -- [res; the borrow; the output's last bytes; frame]
       feqI ! (List Val) (vptr b o ∷ []) (vptr b o ∷ []) refl $ fjoin3 ! $ nothing ! $ move ! (2 ∷ 0 ∷ []) $ fjoin ! $
       owned ! u32 (Is u32) (uint-makes 𝓤 H A W w32) i _ (refl, i-fits) $ fjoin ! $ owned ! u32 (Is u32) (uint-makes 𝓤 H A W w32) s _ (refl, s-fits) $ fjoin ! $
@@ -195,53 +223,105 @@ module _ {M : Type 1} (𝓤 : URA M) (H : Heap 𝓤) (A : Atoms 𝓤) (W : Given
     walk : Is (ShrSlice (named 1) κp u8) p (vp ∷ []) → Is (MutSlice (named 2) κm u8) m (vm ∷ [])
         → ent 𝓤 (onEntry 𝓤 H A f.signature κs qs a at) (WpFn 𝓤 H C Λ code.function (vptr b o ∷ vint w32 n ∷ vp ∷ vint w32 s ∷ vint w32 i ∷ vm ∷ []) Post)
     walk ip im =
-        qed W ((‵ (flft κe qe) ⊛ Tokens) ∷ ‵ (owns (ShrRef (named 0) κe T.the-row ∷ u32 ∷ ShrSlice (named 1) κp u8 ∷ u32 ∷ u32 ∷ MutSlice (named 2) κm u8 ∷ []) a at) ∷ []) ∵
-        split ! $ move ! (2 ∷ []) $ fsplit ! $ fsplit3 ! $ drop ! $ move ! (2 ∷ []) $ fsplit ! $ drop ! $ fsplit ! $ move ! (1 ∷ []) $ fsplit3 ! $ drop ! $ drop ! $ fsplit ! $ move ! (2 ∷ []) $
+        qed W ((‵ (flft κe qe) ⊛ Tokens) ∷ ‵ (owns (ShrRef (named 0) κe T.the-row ∷ u32 ∷ ShrSlice (named 1) κp u8 ∷ u32 ∷ u32 ∷ MutSlice (named 2) κm u8 ∷ [])
+        a at) ∷ []) ∵
+        split ! $ move ! (2 ∷ []) $ fsplit ! $ fsplit3 ! $ drop ! $ move ! (2 ∷ []) $ fsplit ! $ drop ! $ fsplit ! $ move !
+        (1 ∷ []) $ fsplit3 ! $ drop ! $ drop ! $ fsplit ! $ move ! (2 ∷ []) $
         use1 W (‵ OwnP ⊛ ‵ OwnP) (shr-slice-copy 𝓤 H A W (named 1) κp u8 .twice p (vp ∷ [])) $ split ! $ move ! (4 ∷ 5 ∷ 6 ∷ []) $
         -- [res; the borrow; its token; frame; frame; output; true; the other tokens]
         enter ! C Λ code.function (vptr b o ∷ vint w32 n ∷ vp ∷ vint w32 s ∷ vint w32 i ∷ vm ∷ []) _ $
-        alloc1 ! (λ l₀. alloc1 ! (λ l₁. alloc1 ! (λ l₂. alloc1 ! (λ l₃. alloc1 ! (λ l₄. alloc1 ! (λ l₅. alloc1 ! (λ l₆. alloc1 ! (λ l₇. alloc1 ! (λ l₈. alloc1 ! (λ l₉. alloc1 ! (λ l₁₀. alloc1 ! (λ l₁₁. alloc1 ! (λ l₁₂. alloc1 ! (λ l₁₃. alloc1 ! (λ l₁₄. alloc1 ! (λ l₁₅. alloc1 ! (λ l₁₆. alloc0 ! $ params1 ! $
-        pass1 ! (init ! 30 refl (tt, tt)) $ pass1 ! (init ! 28 refl (tt, record { fits = n-fits })) $ pass1 ! (init ! 26 refl (shr-slice-lawful 𝓤 H A W (named 1) κp u8 .typed p (vp ∷ []) ip .0)) $
-        pass1 ! (init ! 24 refl (tt, record { fits = s-fits })) $ pass1 ! (init ! 22 refl (tt, record { fits = i-fits })) $ pass1 ! (init ! 20 refl (mut-slice-lawful 𝓤 H A W (named 2) κm u8 .typed m (vm ∷ []) im .0)) $ pass0 ! $
-        move ! (35 ∷ 36 ∷ []) $ looks ! tt T.the-row (Is T.the-row) (shows 𝓤 H A T.the-row) (LL.vals T.the-type T′.the-laws) (LL.tells T.the-type T′.the-laws) (LL.copy T.the-type T′.the-copy 𝓤 H A W) h b o (λ q′ vs.
+        alloc1 ! (λ l₀. alloc1 ! (λ l₁. alloc1 ! (λ l₂. alloc1 !
+        (λ l₃. alloc1 ! (λ l₄. alloc1 ! (λ l₅. alloc1 !
+        (λ l₆. alloc1 ! (λ l₇. alloc1 ! (λ l₈. alloc1 !
+        (λ l₉. alloc1 ! (λ l₁₀. alloc1 ! (λ l₁₁. alloc1 ! (λ l₁₂. alloc1 ! (λ l₁₃. alloc1 ! (λ l₁₄. alloc1 ! (λ l₁₅. alloc1 ! (λ l₁₆. alloc0 ! $ params1 ! $
+        pass1 ! (init ! 30 refl (tt, tt)) $ pass1 ! (init ! 28 refl (tt, record { fits = n-fits })) $ pass1 !
+        (init ! 26 refl (shr-slice-lawful 𝓤 H A W (named 1) κp u8 .typed p (vp ∷ []) ip .0)) $
+        pass1 ! (init ! 24 refl (tt, record { fits = s-fits })) $ pass1 ! (init ! 22 refl (tt, record { fits = i-fits })) $ pass1 !
+        (init ! 20 refl (mut-slice-lawful 𝓤 H A W (named 2) κm u8 .typed m (vm ∷ []) im .0)) $ pass0 ! $
+        move ! (35 ∷ 36 ∷ []) $ looks ! tt T.the-row (Is T.the-row) (shows 𝓤 H A T.the-row) (LL.vals T.the-type T′.the-laws) (LL.tells T.the-type T′.the-laws)
+        (LL.copy T.the-type T′.the-copy 𝓤 H A W) h b o (λ q′ vs.
         spelt ! T.the-row (Is T.the-row) (shows 𝓤 H A T.the-row) (LL.vals T.the-type T′.the-laws) (LL.tells T.the-type T′.the-laws) q′ h vs b o $
         move ! (1 ∷ []) $ peeks ! T.the-row (Is T.the-row) (shows 𝓤 H A T.the-row) h (mach ∷ []) (λ was. move ! (1 ∷ 0 ∷ []) $
         -- [a share of the endpoint's cell; what it owns; what shuts it; the borrow; _16; …; _0; …; res; frame; frame; output; true; the other tokens]
-        assigns ! (addr ! (from ! (hop ! (look ! 34 refl) (fld ! {τ = tyArray (tyInt w64) 64} {d = 0} refl (stop !))))) (from ! (stop !)) (init ! 22 refl (tt, tt)) $
-        assigns ! (addr ! (from ! (hop ! (look ! 34 refl) (fld ! {τ = tyArray (tyInt w8) 64} {d = 940} refl (stop !))))) (from ! (stop !)) (init ! 20 refl (tt, tt)) $
-        assigns ! (addr ! (from ! (hop ! (look ! 34 refl) (fld ! {τ = tyArray (tyInt w8) 64} {d = 1004} refl (stop !))))) (from ! (stop !)) (init ! 18 refl (tt, tt)) $
-        assigns ! (addr ! (from ! (hop ! (look ! 34 refl) (fld ! {τ = tyArray (tyInt w32) 8} {d = 768} refl (stop !))))) (from ! (stop !)) (init ! 16 refl (tt, tt)) $
-        assigns ! (of-opd ! (load ! (from ! (hop ! (look ! 34 refl) (fld ! {τ = tyInt w32} {d = 800} refl (stop !)))) (look-in ! 0 (sub ! 3 refl (whole !))))) (from ! (stop !)) (init ! 14 refl (tt, record { fits = own-fits h was })) $
-        assigns ! (of-opd ! (load ! (from ! (hop ! (look ! 34 refl) (fld ! {τ = tyInt w16} {d = 932} refl (stop !)))) (look-in ! 0 (sub ! 5 refl (whole !))))) (from ! (stop !)) (init ! 12 refl (tt, record { fits = port-fits h was })) $
-        assigns ! (of-opd ! (load ! (from ! (hop ! (look ! 34 refl) (fld ! {τ = tyInt w16} {d = 934} refl (stop !)))) (look-in ! 0 (sub ! 6 refl (whole !))))) (from ! (stop !)) (init ! 10 refl (tt, record { fits = mtu-fits h was })) $
-        assigns ! (of-opd ! (load ! (from ! (hop ! (look ! 34 refl) (fld ! {τ = tyInt w16} {d = 938} refl (stop !)))) (look-in ! 0 (sub ! 8 refl (whole !))))) (from ! (stop !)) (init ! 8 refl (tt, record { fits = bindings-fit h was })) $
+        assigns ! (addr ! (from ! (hop ! (look ! 34 refl) (fld ! {τ = tyArray (tyInt w64) 64} {d = 0} refl (stop !))))) (from ! (stop !))
+        (init ! 22 refl (tt, tt)) $
+        assigns ! (addr ! (from ! (hop ! (look ! 34 refl) (fld ! {τ = tyArray (tyInt w8) 64} {d = 940} refl (stop !))))) (from ! (stop !))
+        (init ! 20 refl (tt, tt)) $
+        assigns ! (addr ! (from ! (hop ! (look ! 34 refl) (fld ! {τ = tyArray (tyInt w8) 64} {d = 1004} refl (stop !))))) (from ! (stop !))
+        (init ! 18 refl (tt, tt)) $
+        assigns ! (addr ! (from ! (hop ! (look ! 34 refl) (fld ! {τ = tyArray (tyInt w32) 8} {d = 768} refl (stop !))))) (from ! (stop !))
+        (init ! 16 refl (tt, tt)) $
+        assigns ! (of-opd ! (load ! (from ! (hop ! (look ! 34 refl) (fld ! {τ = tyInt w32} {d = 800} refl (stop !)))) (look-in ! 0 (sub ! 3 refl (whole !)))))
+        (from ! (stop !)) (init ! 14 refl (tt, record { fits = own-fits h was })) $
+        assigns ! (of-opd ! (load ! (from ! (hop ! (look ! 34 refl) (fld ! {τ = tyInt w16} {d = 932} refl (stop !)))) (look-in ! 0 (sub ! 5 refl (whole !)))))
+        (from ! (stop !)) (init ! 12 refl (tt, record { fits = port-fits h was })) $
+        assigns ! (of-opd ! (load ! (from ! (hop ! (look ! 34 refl) (fld ! {τ = tyInt w16} {d = 934} refl (stop !)))) (look-in ! 0 (sub ! 6 refl (whole !)))))
+        (from ! (stop !)) (init ! 10 refl (tt, record { fits = mtu-fits h was })) $
+        assigns ! (of-opd ! (load ! (from ! (hop ! (look ! 34 refl) (fld ! {τ = tyInt w16} {d = 938} refl (stop !)))) (look-in ! 0 (sub ! 8 refl (whole !)))))
+        (from ! (stop !)) (init ! 8 refl (tt, record { fits = bindings-fit h was })) $
         shuts ! tt T.the-row q′ h (mach ∷ []) b o $
         -- [the token; the borrow; _16; …]
         assigns ! (addr ! (from ! (fld ! refl (hop ! (look-in ! 22 (sub ! 0 refl (whole !))) (stop !))))) (from ! (stop !)) (init ! 4 refl (tt, tt)) $
-        assigns ! (agg ! (and-then ! (load ! (from ! (stop !)) (look ! 4 refl)) (and-then ! (load ! (from ! (fld ! refl (stop !))) (look-in ! 22 (sub ! 1 refl (whole !)))) (no-more !)))) (from ! (stop !)) (init ! 2 refl (tt, (tt, (record { fits = im .0 .1 .0 }, tt)))) $
-        move ! (1 ∷ 0 ∷ []) $ use2 W (later (some (λ (g : Names). Cols g ⊛ (‵ Shared ⊛ ‵ (flft κe qe))))) (lends-columns 𝓤 H A W (named 0) κe qe h b o (Array u32 8) (h .addresses) 768 (lends-addresses 𝓤 H A W (named 0) κe qe h b o)) $ await ! tt $ pick ! (λ g. split ! $ move ! (1 ∷ []) $ split ! $
+        assigns ! (agg ! (and-then ! (load ! (from ! (stop !)) (look ! 4 refl))
+        (and-then ! (load ! (from ! (fld ! refl (stop !))) (look-in ! 22 (sub ! 1 refl (whole !)))) (no-more !)))) (from ! (stop !))
+        (init ! 2 refl (tt, (tt, (record { fits = im .0 .1 .0 }, tt)))) $
+        move ! (1 ∷ 0 ∷ []) $ use2 W (later (some (λ (g : Names). Cols g ⊛ (‵ Shared ⊛ ‵ (flft κe qe)))))
+        (lends-columns 𝓤 H A W (named 0) κe qe h b o (Array u32 8) (h .addresses) 768 (lends-addresses 𝓤 H A W (named 0) κe qe h b o)) $ await ! tt $ pick
+        ! (λ g. split ! $ move ! (1 ∷ []) $ split ! $
         -- [the borrow; its token; columns; _16; …; res; frame; frame; output; true; the other tokens]
         move ! (2 ∷ 38 ∷ 40 ∷ 1 ∷ 42 ∷ []) $ join ! $ join ! $ use3 W (raw (Wrapped 𝓤 H A at-mem run .pre (to was g))) (goes-in was g) $
-        calls-at ! fm (Wrapped 𝓤 H A at-mem run) known (to was g) (and-then ! (load ! (from ! (stop !)) (look ! 20 refl)) (and-then ! (load ! (from ! (stop !)) (look ! 18 refl)) (and-then ! (load ! (from ! (stop !)) (look ! 16 refl)) (and-then ! (load ! (from ! (stop !)) (look ! 14 refl)) (and-then ! (load ! (from ! (stop !)) (look ! 12 refl)) (and-then ! (load ! (from ! (stop !)) (look ! 10 refl)) (and-then ! (load ! (from ! (stop !)) (look ! 8 refl)) (and-then ! (load ! (from ! (stop !)) (look ! 6 refl)) (and-then ! (load ! (from ! (stop !)) (look ! 30 refl)) (and-then ! (load ! (from ! (stop !)) (look ! 28 refl)) (and-then ! (load ! (from ! (stop !)) (look ! 26 refl)) (and-then ! (load ! (from ! (stop !)) (look ! 24 refl)) (and-then ! (load ! (from ! (stop !)) (look ! 2 refl)) (no-more !)))))))))))))) (λ v.
-        use1 W (later (some (λ (r : Writing). ((‵ (flft κe qe) ⊛ Tokens) ⊛ ‵ (N.the-row .own r (v ∷ []))) ⊛ raw (ensured 𝓤 H A wrapped.ended (wrapped.clauses 𝓤 H A at-mem run) (κe, (κp, (κm, tt))) (args was g) tt r)))) (id⊢ 𝓤 _) $ await ! tt $ pick ! (λ r.
+        calls-at ! fm (Wrapped 𝓤 H A at-mem run) known (to was g)
+        (and-then ! (load ! (from ! (stop !)) (look ! 20 refl))
+        (and-then ! (load ! (from ! (stop !)) (look ! 18 refl))
+        (and-then ! (load ! (from ! (stop !)) (look ! 16 refl))
+        (and-then ! (load ! (from ! (stop !)) (look ! 14 refl))
+        (and-then ! (load ! (from ! (stop !)) (look ! 12 refl))
+        (and-then ! (load ! (from ! (stop !)) (look ! 10 refl))
+        (and-then ! (load ! (from ! (stop !)) (look ! 8 refl))
+        (and-then ! (load ! (from ! (stop !)) (look ! 6 refl))
+        (and-then ! (load ! (from ! (stop !)) (look ! 30 refl))
+        (and-then ! (load ! (from ! (stop !)) (look ! 28 refl))
+        (and-then ! (load ! (from ! (stop !)) (look ! 26 refl))
+        (and-then ! (load ! (from ! (stop !)) (look ! 24 refl)) (and-then ! (load ! (from ! (stop !)) (look ! 2 refl)) (no-more !)))))))))))))) (λ v.
+        use1 W (later (some (λ (r : Writing). ((‵ (flft κe qe) ⊛ Tokens) ⊛ ‵ (N.the-row .own r (v ∷ []))) ⊛ raw
+        (ensured 𝓤 H A wrapped.ended (wrapped.clauses 𝓤 H A at-mem run) (κe, (κp, (κm, tt))) (args was g) tt r)))) (id⊢ 𝓤 _) $ await ! tt $ pick ! (λ r.
         -- what `wrapped` ensures, at some last bytes of the output
-        split ! $ move ! (1 ∷ []) $ use1 W (some (λ (zs : Unit {0} × (Unit {0} × (Unit {0} × (Unit {0} × (Unit {0} × (Unit {0} × (Unit {0} × (Unit {0} × (Unit {0} × (Unit {0} × (Unit {0} × (Unit {0} × (List ℕ × Unit {0}))))))))))))). ‵ (lasts wrapped.ended (κe, (κp, (κm, tt))) (args was g) zs) ⊛ raw (fact 𝓤 (Says r (zs .1 .1 .1 .1 .1 .1 .1 .1 .1 .1 .1 .1 .0))))) (id⊢ 𝓤 _) $ pick ! (λ zs.
-        split ! $ move ! (1 ∷ []) $ heard ! (Says r (zs .1 .1 .1 .1 .1 .1 .1 .1 .1 .1 .1 .1 .0)) (λ e. fsplit3 ! $ drop ! $ drop ! $ fsplit3 ! $ drop ! $ drop ! $ fsplit3 ! $ drop ! $ drop ! $ fsplit3 ! $ drop ! $ drop ! $ fsplit3 ! $ drop ! $ drop ! $ fsplit3 ! $ drop ! $ drop ! $ fsplit ! $ fsplit ! $ move ! (1 ∷ []) $ feqL ! (λ l.
+        split ! $ move ! (1 ∷ []) $ use1 W (some (λ (zs : Unit {0} × (Unit {0} × (Unit {0} × (Unit {0} × (Unit {0} × (Unit {0} × (Unit {0} × (Unit {0} × (Unit {0} × (Unit {0} × (Unit {0} × (Unit {0} × (List ℕ × Unit {0}))))))))))))).
+        ‵ (lasts wrapped.ended (κe, (κp, (κm, tt))) (args was g) zs) ⊛ raw (fact 𝓤 (Says r (zs .1 .1 .1 .1 .1 .1 .1 .1 .1 .1 .1 .1 .0)))))
+        (id⊢ 𝓤 _) $ pick ! (λ zs.
+        split ! $ move ! (1 ∷ []) $ heard ! (Says r (zs .1 .1 .1 .1 .1 .1 .1 .1 .1 .1 .1 .1 .0))
+        (λ e. fsplit3 ! $ drop ! $ drop ! $ fsplit3 ! $ drop ! $ drop ! $ fsplit3 ! $ drop ! $ drop ! $ fsplit3 ! $ drop ! $ drop ! $ fsplit3 ! $ drop ! $
+        drop ! $ fsplit3 ! $ drop ! $ drop ! $ fsplit ! $ fsplit ! $ move ! (1 ∷ []) $ feqL ! (λ l.
         move ! (2 ∷ []) $ split ! $ move ! (1 ∷ []) $ peeks ! N.the-row (Is N.the-row) (shows 𝓤 H A N.the-row) r (v ∷ []) (λ is.
         -- [what the result owns; the tokens; the output's last bytes; true; the borrow; _16; …; _0; …; res; frame; true]
         land ! (from ! (stop !)) (init ! 37 refl (LL.lawful N.the-type N′.the-laws 𝓤 H A W .typed r _ is .0)) $
-        returns ! (look ! 37 refl) $ forget ! 5 refl $ forget ! 7 refl $ forget ! 9 refl $ forget ! 11 refl $ forget ! 13 refl $ forget ! 15 refl $ forget ! 17 refl $ forget ! 19 refl $ forget ! 21 refl $ forget ! 23 refl $ forget ! 25 refl $ forget ! 27 refl $ forget ! 29 refl $ forget ! 31 refl $ forget ! 33 refl $ forget ! 35 refl $ forget ! 37 refl $
-        move ! (37 ∷ 38 ∷ []) $ free1 ! $ move ! (35 ∷ 36 ∷ []) $ free1 ! $ move ! (33 ∷ 34 ∷ []) $ free1 ! $ move ! (31 ∷ 32 ∷ []) $ free1 ! $ move ! (29 ∷ 30 ∷ []) $ free1 ! $ move ! (27 ∷ 28 ∷ []) $ free1 ! $ move ! (25 ∷ 26 ∷ []) $ free1 ! $ move ! (23 ∷ 24 ∷ []) $ free1 ! $ move ! (21 ∷ 22 ∷ []) $ free1 ! $ move ! (19 ∷ 20 ∷ []) $ free1 ! $ move ! (17 ∷ 18 ∷ []) $ free1 ! $ move ! (15 ∷ 16 ∷ []) $ free1 ! $ move ! (13 ∷ 14 ∷ []) $ free1 ! $ move ! (11 ∷ 12 ∷ []) $ free1 ! $ move ! (9 ∷ 10 ∷ []) $ free1 ! $ move ! (7 ∷ 8 ∷ []) $ free1 ! $ move ! (5 ∷ 6 ∷ []) $ free1 ! $ free0 ! $
-        move ! (1 ∷ []) $ split ! $ keep ! (0 ∷ 6 ∷ 5 ∷ 1 ∷ 3 ∷ 7 ∷ []) $ by ! (exits r v is (zs .1 .1 .1 .1 .1 .1 .1 .1 .1 .1 .1 .1 .0) l e)))))))))))))))))))))))))))
+        returns ! (look ! 37 refl) $ forget ! 5 refl $ forget ! 7 refl $ forget ! 9 refl $ forget ! 11 refl $ forget ! 13 refl $ forget ! 15 refl $ forget ! 17
+        refl $ forget ! 19 refl $ forget ! 21 refl $ forget ! 23 refl $ forget ! 25 refl $ forget ! 27 refl $ forget ! 29 refl $ forget ! 31 refl $ forget
+        ! 33 refl $ forget ! 35 refl $ forget ! 37 refl $
+        move ! (37 ∷ 38 ∷ []) $ free1 ! $ move ! (35 ∷ 36 ∷ []) $ free1 ! $ move ! (33 ∷ 34 ∷ []) $ free1 ! $ move ! (31 ∷ 32 ∷ []) $ free1 ! $ move !
+        (29 ∷ 30 ∷ []) $ free1 ! $ move ! (27 ∷ 28 ∷ []) $ free1 ! $ move ! (25 ∷ 26 ∷ []) $ free1 ! $ move ! (23 ∷ 24 ∷ []) $ free1 ! $ move !
+        (21 ∷ 22 ∷ []) $ free1 ! $ move ! (19 ∷ 20 ∷ []) $ free1 ! $ move ! (17 ∷ 18 ∷ []) $ free1 ! $ move ! (15 ∷ 16 ∷ []) $ free1 ! $ move !
+        (13 ∷ 14 ∷ []) $ free1 ! $ move ! (11 ∷ 12 ∷ []) $ free1 ! $ move ! (9 ∷ 10 ∷ []) $ free1 ! $ move ! (7 ∷ 8 ∷ []) $ free1 ! $ move !
+        (5 ∷ 6 ∷ []) $ free1 ! $ free0 ! $
+        move ! (1 ∷ []) $ split ! $ keep ! (0 ∷ 6 ∷ 5 ∷ 1 ∷ 3 ∷ 7 ∷ []) $ by !
+        (exits r v is (zs .1 .1 .1 .1 .1 .1 .1 .1 .1 .1 .1 .1 .0) l e)))))))))))))))))))))))))))
 
 module _ {M : Type 1} (𝓤 : URA M) (H : Heap 𝓤) (A : Atoms 𝓤) (W : Given 𝓤 H A) (at-mem : Memory → SProp 𝓤) (run : Routine → Fun 𝓤) where
   wrap-walks : (C : Calls 𝓤 H) (Λ : Loops 𝓤 H) → FmC 𝓤 H (W .laws) C → Triple 𝓤 (C #niulassenc·wrap·wrapped) (Wrapped 𝓤 H A at-mem run)
       → Walks 𝓤 H A f.ended stayed (WpFn 𝓤 H C Λ code.function) (f.clauses 𝓤 H A at-mem run)
   wrap-walks C Λ fm known = walked 𝓤 H A f.ended stayed (f.clauses 𝓤 H A at-mem run) (WpFn 𝓤 H C Λ code.function)
       (λ κs. (ptr-vals, (uint-vals w32, (slice-vals, (uint-vals w32, (uint-vals w32, (slice-vals, tt)))))))
-      (λ κs. (shr-tells (named 0) (κs .0) T.the-row, (uint-tells w32, (shr-slice-tells (named 1) (κs .1 .0) u8, (uint-tells w32, (uint-tells w32, (mut-slice-tells (named 2) (κs .1 .1 .0) u8, tt)))))))
-      (λ κs qs bounds a _ are. via 𝓤 _ (fst∗ 𝓤 _ (emp 𝓤)) (walk 𝓤 H A W at-mem run (κs .0) (κs .1 .0) (κs .1 .1 .0) (qs .0) (qs .1 .0) (qs .1 .1 .0) (a .0 .ptr .0) (a .0 .ptr .1) (a .0 .name) (a .0 .now)
-      (a .1 .0) (a .1 .1 .0) (a .1 .1 .1 .0) (a .1 .1 .1 .1 .0) (a .1 .1 .1 .1 .1 .0) (are .1 .0 .1) (are .1 .1 .1 .0 .1) (are .1 .1 .1 .1 .0 .1) C Λ fm known (are .1 .1 .0) (are .1 .1 .1 .1 .1 .0)))
+      (λ κs. (
+        shr-tells (named 0) (κs .0) T.the-row,
+        (
+          uint-tells w32,
+          (shr-slice-tells (named 1) (κs .1 .0) u8, (uint-tells w32, (uint-tells w32, (mut-slice-tells (named 2) (κs .1 .1 .0) u8, tt)))),
+        ),
+      ))
+      (λ κs qs bounds a _ are. via 𝓤 _ (fst∗ 𝓤 _ (emp 𝓤)) (walk 𝓤 H A W at-mem run (κs .0) (κs .1 .0) (κs .1 .1 .0) (qs .0) (qs .1 .0) (qs .1 .1 .0)
+      (a .0 .ptr .0) (a .0 .ptr .1) (a .0 .name) (a .0 .now)
+      (a .1 .0) (a .1 .1 .0) (a .1 .1 .1 .0) (a .1 .1 .1 .1 .0) (a .1 .1 .1 .1 .1 .0) (are .1 .0 .1) (are .1 .1 .1 .0 .1) (are .1 .1 .1 .1 .0 .1) C Λ fm known
+      (are .1 .1 .0) (are .1 .1 .1 .1 .1 .0)))
 
   goes : AllGo 𝓤 H A W 3 (f.signature .params) (f.ended .kept) stayed
   goes = (
@@ -250,7 +330,10 @@ module _ {M : Type 1} (𝓤 : URA M) (H : Heap 𝓤) (A : Atoms 𝓤) (W : Given
       goes-none 𝓤 H A W 3 (λ _. u32) yes (λ κs x f. refl),
       (
         goes-none-slice 𝓤 H A W 3 (1 ∷ []) tt (plain (λ _. u8)) yes,
-        (goes-none 𝓤 H A W 3 (λ _. u32) yes (λ κs x f. refl), (goes-none 𝓤 H A W 3 (λ _. u32) yes (λ κs x f. refl), (goes-gave-slice 𝓤 H A W 3 2 tt (plain (λ _. u8)), tt))),
+        (
+          goes-none 𝓤 H A W 3 (λ _. u32) yes (λ κs x f. refl),
+          (goes-none 𝓤 H A W 3 (λ _. u32) yes (λ κs x f. refl), (goes-gave-slice 𝓤 H A W 3 2 tt (plain (λ _. u8)), tt)),
+        ),
       ),
     ),
   )
@@ -258,7 +341,8 @@ module _ {M : Type 1} (𝓤 : URA M) (H : Heap 𝓤) (A : Atoms 𝓤) (W : Given
 wrap-meets : {M : Type 1} (𝓤 : URA M) (H : Heap 𝓤) (A : Atoms 𝓤) (W : Given 𝓤 H A) (at-mem : Memory → SProp 𝓤) (run : Routine → Fun 𝓤) (𝓣 : Tables 𝓤 H)
     → Triple 𝓤 (𝓣 .C #niulassenc·wrap·wrapped) (Wrapped 𝓤 H A at-mem run)
     → Meets 𝓤 H A f.signature (WpFn 𝓤 H (𝓣 .C) (𝓣 .Λ) code.function) (f.spec 𝓤 H A at-mem run)
-wrap-meets 𝓤 H A W at-mem run 𝓣 known = walk-meets 𝓤 H A f.ended stayed W (goes 𝓤 H A W at-mem run) (f.clauses 𝓤 H A at-mem run) (WpFn 𝓤 H (𝓣 .C) (𝓣 .Λ) code.function) (WpFn-mono 𝓤 H (W .laws) 𝓣 code.function)
+wrap-meets 𝓤 H A W at-mem run 𝓣 known = walk-meets 𝓤 H A f.ended stayed W (goes 𝓤 H A W at-mem run) (f.clauses 𝓤 H A at-mem run)
+    (WpFn 𝓤 H (𝓣 .C) (𝓣 .Λ) code.function) (WpFn-mono 𝓤 H (W .laws) 𝓣 code.function)
     (wrap-walks 𝓤 H A W at-mem run (𝓣 .C) (𝓣 .Λ) (fmOf 𝓤 H (W .laws) 𝓣) known)
 
 pub niulassenc-wrap-spec : {M : Type 1} → stated.statement M
@@ -267,4 +351,5 @@ niulassenc-wrap-spec 𝓤 H 𝓜 𝓖 𝓡 =
     entered 𝓤 H (tripleOf 𝓤 H (𝓖 .A) f.signature (f.spec 𝓤 H (𝓖 .A) (𝓜 .mem) (𝓡 .run)))
     (tables 𝓤 H 𝓜 𝓡 code.env .C) (tables 𝓤 H 𝓜 𝓡 code.env .Λ) #niulassenc·wrap·niulassenc-wrap code.function (code.unfolded 𝓤 H 𝓜 𝓡)
     (wrap-meets 𝓤 H (𝓖 .A) (givenOf 𝓤 H 𝓜 𝓖) (𝓜 .mem) (𝓡 .run) (tablesOf 𝓤 H 𝓜 (tables 𝓤 H 𝓜 𝓡 code.env))
-    (cited 𝓤 H (Wrapped 𝓤 H (𝓖 .A) (𝓜 .mem) (𝓡 .run)) 𝓜 𝓡 code.env #niulassenc·wrap·wrapped wrapped-def.routine code.calls-niulassenc·wrap·wrapped (wrapped-thm.met 𝓤 H 𝓜 𝓖 𝓡)))
+    (cited 𝓤 H (Wrapped 𝓤 H (𝓖 .A) (𝓜 .mem) (𝓡 .run)) 𝓜 𝓡 code.env #niulassenc·wrap·wrapped wrapped-def.routine code.calls-niulassenc·wrap·wrapped
+    (wrapped-thm.met 𝓤 H 𝓜 𝓖 𝓡)))

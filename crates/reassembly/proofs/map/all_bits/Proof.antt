@@ -57,7 +57,8 @@ returns-2 : tie.Need-returns-2 Inv-loop μ-loop
 returns-2 c =
     let start = c .before .before .before .before .before .before in
     let at = c .before .before .before .before .loop in
-    all-end (start .args .map .now) (start .args .n) (at .b) (at .kept) (omega arith) (at .inv .2) (c .before .mask .result) (c .before .before .if1 .left) (c .before .mask .ensures)
+    all-end (start .args .map .now) (start .args .n) (at .b) (at .kept) (omega arith) (at .inv .2) (c .before .mask .result) (c .before .before .if1 .left)
+    (c .before .mask .ensures)
 
 pub all-bits-spec : {M : Type 1} → statement M
 all-bits-spec =

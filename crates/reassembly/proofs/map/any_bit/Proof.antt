@@ -57,8 +57,12 @@ loop-less c = omega arith
 loop-again : tie.Need-loop-again Inv-loop μ-loop
 loop-again c =
     let start = c .before .before .before .before .before .before .before in
-    let at = c .before .before .loop in
-    (omega arith, omega arith, any-whole (start .args .map .now) (start .args .a) (at .b) (at .found) (omega arith) (c .shared-slice-known4 .given (at .b) .fits) (at .inv .2))
+    let at = c .before .before .loop in (
+      omega arith,
+      omega arith,
+      any-whole (start .args .map .now) (start .args .a) (at .b) (at .found) (omega arith)
+          (c .shared-slice-known4 .given (at .b) .fits) (at .inv .2),
+    )
 
 shared-slice-read-result-2 : tie.Need-shared-slice-read-result-2 Inv-loop μ-loop
 shared-slice-read-result-2 c = omega arith
@@ -70,7 +74,8 @@ returns-2 : tie.Need-returns-2 Inv-loop μ-loop
 returns-2 c =
     let start = c .before .before .before .before .before .before .before .before in
     let at = c .before .before .before .loop in
-    any-end (start .args .map .now) (start .args .a) (start .args .n) (c .mask3 .result) (at .b) (at .found) (omega arith) (omega arith) (at .inv .2) (c .mask3 .ensures)
+    any-end (start .args .map .now) (start .args .a) (start .args .n) (c .mask3 .result) (at .b) (at .found) (omega arith) (omega arith) (at .inv .2)
+    (c .mask3 .ensures)
 
 pub any-bit-spec : {M : Type 1} → statement M
 any-bit-spec =

@@ -4,7 +4,7 @@ use mathlib.Core.Path.{_≡_, ap, _∙_}
 use mathlib.Core.List.{List}
 use Prim.Native.Nat.{ℕ, _≤_, _<_, _+_, _*_, _-_, _/_}
 use native.Mathlib.Omega.{arith}
-use lib.ListN.{length, set, length-set}
+use lib.ListN.{length, length-set}
 use Rattle.reassembly.specs.Store.{setBits}
 use Rattle.reassembly.specs.Laws.Store.{length-setBits}
 use Rattle.reassembly.specs.Laws.Map.{set-only, set-start, set-whole, set-end}
@@ -73,8 +73,12 @@ loop-less c = omega arith
 loop-again : tie.Need-loop-again Inv-loop μ-loop
 loop-again c =
     let start = c .before .before .before .before .before .before .before in
-    let at = c .before .before .loop in
-    (omega arith, omega arith, set-whole _ (at .map) (at .b) (start .args .a / 8 + 1) (omega arith) (simp length-set (omega arith)) (at .inv .2), simp length-set (omega arith))
+    let at = c .before .before .loop in (
+      omega arith,
+      omega arith,
+      set-whole _ (at .map) (at .b) (start .args .a / 8 + 1) (omega arith) (simp length-set (omega arith)) (at .inv .2),
+      simp length-set (omega arith),
+    )
 
 mask-requires-3 : tie.Need-mask-requires-3 Inv-loop μ-loop
 mask-requires-3 c κs = omega arith
@@ -93,7 +97,9 @@ returns-2 c =
     let start = c .before .before .before .before .before .before .before .before in
     let at = c .before .before .before .loop in
     let m = start .args .map .now in
-    set-end m (start .args .a) (start .args .n) (c .before .mask3 .result) _ (at .map) (at .b) (start .args .a / 8 + 1) (omega arith) (omega arith) (omega arith) (simp length-set (omega arith)) (set-start m (start .args .a) (start .args .n) (c .before .before .before .before .before .mask2 .result) (omega arith) (c .before .before .before .before .before .mask2 .ensures)) (at .inv .2) (c .before .mask3 .ensures)
+    set-end m (start .args .a) (start .args .n) (c .before .mask3 .result) _ (at .map) (at .b) (start .args .a / 8 + 1) (omega arith) (omega arith)
+    (omega arith) (simp length-set (omega arith)) (set-start m (start .args .a) (start .args .n) (c .before .before .before .before .before .mask2 .result)
+    (omega arith) (c .before .before .before .before .before .mask2 .ensures)) (at .inv .2) (c .before .mask3 .ensures)
 
 pub set-bits-spec : {M : Type 1} → statement M
 set-bits-spec =

@@ -49,7 +49,8 @@ returns : tie.Need-returns
 returns c =
     let start = c .before .before .before .before .before .before .before .before .before .before in
     let copied = c .before .before .before .before .before .before .copy in
-    landed (start .args .memory .now) (copied .last .1 .0) (c .before .before .set-bits .last .0) (start .args .bytes .now) (start .args .k) (start .args .offset)
+    landed (start .args .memory .now) (copied .last .1 .0) (c .before .before .set-bits .last .0) (start .args .bytes .now) (start .args .k)
+    (start .args .offset)
     (start .pre .0) (start .pre .1) (start .pre .2)
     (copied .ensures .1) _ refl (c .before .before .set-bits .ensures)
 

@@ -33,7 +33,8 @@ returns : tie.Need-returns Inv-loop μ-loop
 returns c =
     let start = c .before .before .before .before .before in
     let at = c .before .before .before .before .loop in
-    found-at (bears (start .args .identifier)) (start .args .t1 .slots) (at .s) (omega arith) (at .inv .1) (sym (c .before .bears-identifier .ensures) ∙ c .if1 .taken)
+    found-at (bears (start .args .identifier)) (start .args .t1 .slots) (at .s) (omega arith) (at .inv .1)
+    (sym (c .before .bears-identifier .ensures) ∙ c .if1 .taken)
 
 add-s : tie.Need-add-s Inv-loop μ-loop
 add-s c = omega arith
@@ -44,8 +45,11 @@ loop-less c = omega arith
 loop-again : tie.Need-loop-again Inv-loop μ-loop
 loop-again c =
     let start = c .before .before .before .before .before in
-    let at = c .before .before .before .before .loop in
-    (omega arith, more-not (λ t. bears (start .args .identifier) (getD (start .args .t1 .slots) t free)) (at .s) (at .inv .1) (sym (c .before .bears-identifier .ensures) ∙ c .if1 .left))
+    let at = c .before .before .before .before .loop in (
+      omega arith,
+      more-not (λ t. bears (start .args .identifier) (getD (start .args .t1 .slots) t free)) (at .s) (at .inv .1)
+          (sym (c .before .bears-identifier .ensures) ∙ c .if1 .left),
+    )
 
 returns-2 : tie.Need-returns-2 Inv-loop μ-loop
 returns-2 c =

@@ -6,7 +6,8 @@ use Rattle.reassembly.specs.Slots.{Slot, bears}
 use native.Mathlib.Omega.{arith}
 use mathlib.Core.List.{List}
 use Rattle.reassembly.specs.Take.{Seg, segOf, Fits}
-use Rattle.reassembly.specs.Laws.Take.{decide-empty, decide-short, decide-long, decide-past, decide-other, decide-further, decide-full, decide-open, found-slot}
+use Rattle.reassembly.specs.Laws.Take.{decide-empty, decide-short, decide-long, decide-past, decide-other, decide-further, decide-full, decide-open}
+use Rattle.reassembly.specs.Laws.Take.{found-slot}
 use borrow.Author.Needs.{needs}
 use Rattle.reassembly.proofs.take.decide.Statement.{statement}
 use Rattle.reassembly.proofs.take.decide.Tie as tie
@@ -16,7 +17,8 @@ abbrev rowAt : tie.Else4 → List Slot
 rowAt c = c .before .before .before .before .before .before .before .before .before .args .t1 .slots
 
 abbrev segAt : tie.Else4 → Seg
-segAt c = segOf (c .before .before .before .before .before .before .before .before .before .args .segment) (c .before .before .before .before .before .before .before .before .before .args .bytes .now)
+segAt c = segOf (c .before .before .before .before .before .before .before .before .before .args .segment)
+    (c .before .before .before .before .before .before .before .before .before .args .bytes .now)
 
 passed : (c : tie.Else4) → Fits (segAt c)
 passed c =
@@ -40,7 +42,8 @@ returns-2 c =
 returns-3 : tie.Need-returns-3
 returns-3 c =
     let start = c .before .before .before .before .before .before in
-    decide-long (start .args .t1 .slots) (segOf (start .args .segment) (start .args .bytes .now)) (c .before .before .before .before .if1 .left) (c .before .before .if2 .left) (c .if3 .taken)
+    decide-long (start .args .t1 .slots) (segOf (start .args .segment) (start .args .bytes .now)) (c .before .before .before .before .if1 .left)
+    (c .before .before .if2 .left) (c .if3 .taken)
 
 end-of-requires : tie.Need-end-of-requires
 end-of-requires c κs = search needs
@@ -51,7 +54,9 @@ cast-if4 c = search needs
 returns-4 : tie.Need-returns-4
 returns-4 c =
     let start = c .before .before .before .before .before .before .before .before .before in
-    decide-past (start .args .t1 .slots) (segOf (start .args .segment) (start .args .bytes .now)) (c .before .before .before .before .before .before .before .if1 .left) (c .before .before .before .before .before .if2 .left) (c .before .before .before .if3 .left) (omega (arith, c .before .before .end-of .ensures))
+    decide-past (start .args .t1 .slots) (segOf (start .args .segment) (start .args .bytes .now))
+    (c .before .before .before .before .before .before .before .if1 .left) (c .before .before .before .before .before .if2 .left)
+    (c .before .before .before .if3 .left) (omega (arith, c .before .before .end-of .ensures))
 
 find-pending-requires : tie.Need-find-pending-requires
 find-pending-requires c κs = search needs
@@ -62,25 +67,31 @@ enum-known-pending c = search needs
 mul-frame : tie.Need-mul-frame
 mul-frame c =
     let s = c .before .pending .given .0 .0 in
-    let l : s < 4 = found-slot (bears (c .before .before .before .before .before .before .before .before .before .before .before .before .before .args .segment .identifier)) (c .before .before .before .before .before .before .before .before .before .before .before .before .before .args .t1 .slots) s (sym (c .before .pending .given .1) ∙ c .before .before .before .find-pending .ensures) in
+    let l : s < 4 = found-slot (bears (c .before .before .before .before .before .before .before .before .before .before .before .before .before .args .segment .identifier))
+    (c .before .before .before .before .before .before .before .before .before .before .before .before .before .args .t1 .slots) s
+    (sym (c .before .pending .given .1) ∙ c .before .before .before .find-pending .ensures) in
     omega arith
 
 element-copy-out-frame : tie.Need-element-copy-out-frame
 element-copy-out-frame c =
     let s = c .before .pending .given .0 .0 in
-    found-slot (bears (c .before .before .before .before .before .before .before .before .before .before .before .before .before .args .segment .identifier)) (c .before .before .before .before .before .before .before .before .before .before .before .before .before .args .t1 .slots) s (sym (c .before .pending .given .1) ∙ c .before .before .before .find-pending .ensures)
+    found-slot (bears (c .before .before .before .before .before .before .before .before .before .before .before .before .before .args .segment .identifier))
+    (c .before .before .before .before .before .before .before .before .before .before .before .before .before .args .t1 .slots) s
+    (sym (c .before .pending .given .1) ∙ c .before .before .before .find-pending .ensures)
 
 returns-5 : tie.Need-returns-5
 returns-5 c =
     let in4 = c .before .before .before .before .before .before .before .before in
     let found = c .before .before .before .before .before .pending .given in
-    decide-other (rowAt in4) (segAt in4) (passed in4) (found .0 .0) (sym (found .1) ∙ c .before .before .before .before .before .before .before .find-pending .ensures) (c .if5 .taken)
+    decide-other (rowAt in4) (segAt in4) (passed in4) (found .0 .0)
+    (sym (found .1) ∙ c .before .before .before .before .before .before .before .find-pending .ensures) (c .if5 .taken)
 
 returns-6 : tie.Need-returns-6
 returns-6 c =
     let in4 = c .before .before .before .before .before .before .before .before in
     let found = c .before .before .before .before .before .pending .given in
-    decide-further (rowAt in4) (segAt in4) (passed in4) (found .0 .0) (sym (found .1) ∙ c .before .before .before .before .before .before .before .find-pending .ensures) (c .if5 .left)
+    decide-further (rowAt in4) (segAt in4) (passed in4) (found .0 .0)
+    (sym (found .1) ∙ c .before .before .before .before .before .before .before .find-pending .ensures) (c .if5 .left)
 
 enum-told : tie.Need-enum-told
 enum-told c = search needs
@@ -97,7 +108,8 @@ enum-told-2 c = search needs
 returns-7 : tie.Need-returns-7
 returns-7 c =
     let in4 = c .before .before .before .before .before .before in
-    decide-full (rowAt in4) (segAt in4) (passed in4) (sym (c .before .before .before .enum-told .given .1) ∙ c .before .before .before .before .before .find-pending .ensures) (sym (c .enum-told2 .given .1) ∙ c .before .before .find-free .ensures)
+    decide-full (rowAt in4) (segAt in4) (passed in4) (sym (c .before .before .before .enum-told .given .1)
+    ∙ c .before .before .before .before .before .find-pending .ensures) (sym (c .enum-told2 .given .1) ∙ c .before .before .find-free .ensures)
 
 returns-8 : tie.Need-returns-8
 returns-8 c =

@@ -26,7 +26,8 @@ element-set-from-next c = search needs
 returns : tie.Need-returns
 returns c =
     let a = c .before .before .before .before .args in
-    finish-complete (a .peer) (a .s) (a .row) (a .memory .now) (a .size) (c .free-slot .result) (c .before .before .all-received .result) (c .before .before .all-received .ensures) (c .before .if1 .taken) (c .free-slot .ensures)
+    finish-complete (a .peer) (a .s) (a .row) (a .memory .now) (a .size) (c .free-slot .result) (c .before .before .all-received .result)
+    (c .before .before .all-received .ensures) (c .before .if1 .taken) (c .free-slot .ensures)
 
 returns-2 : tie.Need-returns-2
 returns-2 c =

@@ -24,7 +24,8 @@ same-length c = search needs
 returns : tie.Need-returns
 returns c =
     let a = c .before .before .before .before .before .before .args in
-    further-refused (a .peer) (a .s) (a .row) (a .memory .now) (segOf (a .segment) (a .bytes .now)) (c .before .some-received .result) (c .before .some-received .ensures) (c .if1 .taken)
+    further-refused (a .peer) (a .s) (a .row) (a .memory .now) (segOf (a .segment) (a .bytes .now)) (c .before .some-received .result)
+    (c .before .some-received .ensures) (c .if1 .taken)
 
 put-requires : tie.Need-put-requires
 put-requires c κs = search needs
@@ -41,7 +42,8 @@ returns-2 c =
     let a = start .args in
     let tested = c .before .before .before .before .before .before .before in
     let stored = c .before .before .before .before .put in
-    further-stored (a .peer) (a .s) (a .row) (a .memory .now) (segOf (a .segment) (a .bytes .now)) (tested .some-received .result) (stored .last .0) (c .finish .result)
+    further-stored (a .peer) (a .s) (a .row) (a .memory .now) (segOf (a .segment) (a .bytes .now)) (tested .some-received .result) (stored .last .0)
+    (c .finish .result)
     (start .pre .2) (tested .some-received .ensures) (c .before .before .before .before .before .before .if1 .left) (stored .ensures) (c .finish .ensures)
 
 pub further-spec : {M : Type 1} → statement M

@@ -28,7 +28,8 @@ returns-3 c =
     let in2 = c .before .before .before .before in
     let a = in2 .before .before .before .before .args in
     let g = segOf (a .segment) (a .bytes .now) in
-    take-rejected (a .peer) (a .row) (a .memory .now) g (in2 .before .if1 .left) (in2 .if2 .left) (c .before .decision .given .0 .0) (sym (c .before .decision .given .1) ∙ c .before .before .before .decide .ensures)
+    take-rejected (a .peer) (a .row) (a .memory .now) g (in2 .before .if1 .left) (in2 .if2 .left) (c .before .decision .given .0 .0)
+    (sym (c .before .decision .given .1) ∙ c .before .before .before .decide .ensures)
 
 enum-known-decision-2 : tie.Need-enum-known-decision-2
 enum-known-decision-2 c = search needs
@@ -51,7 +52,9 @@ returns-4 c =
     let g = segOf (a .segment) (a .bytes .now) in
     let found = c .before .before .before .before .before .decision2 .given in
     let done = c .before .before .further in
-    take-further (a .peer) (a .row) (a .memory .now) g (in2 .before .if1 .left) (in2 .if2 .left) (found .0 .0) (sym (found .1) ∙ c .before .before .before .before .before .before .before .decide .ensures) (done .result) (done .last .1 .1 .1 .1 .1 .0) (done .ensures .0) (done .ensures .1)
+    take-further (a .peer) (a .row) (a .memory .now) g (in2 .before .if1 .left) (in2 .if2 .left) (found .0 .0)
+    (sym (found .1) ∙ c .before .before .before .before .before .before .before .decide .ensures) (done .result) (done .last .1 .1 .1 .1 .1 .0)
+    (done .ensures .0) (done .ensures .1)
 
 enum-known-decision-3 : tie.Need-enum-known-decision-3
 enum-known-decision-3 c = search needs
@@ -74,7 +77,9 @@ returns-5 c =
     let g = segOf (a .segment) (a .bytes .now) in
     let found = c .before .before .before .before .before .decision3 .given in
     let done = c .before .before .open in
-    take-open (a .peer) (a .row) (a .memory .now) g (in2 .before .if1 .left) (in2 .if2 .left) (found .0 .0) (sym (found .1) ∙ c .before .before .before .before .before .before .before .decide .ensures) (done .result) (done .last .1 .1 .1 .1 .1 .0) (done .ensures .0) (done .ensures .1)
+    take-open (a .peer) (a .row) (a .memory .now) g (in2 .before .if1 .left) (in2 .if2 .left) (found .0 .0)
+    (sym (found .1) ∙ c .before .before .before .before .before .before .before .decide .ensures) (done .result) (done .last .1 .1 .1 .1 .1 .0)
+    (done .ensures .0) (done .ensures .1)
 
 pub take-spec : {M : Type 1} → statement M
 take-spec =

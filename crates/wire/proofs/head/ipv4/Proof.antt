@@ -31,7 +31,8 @@ ipv4-with-requires-2 c κs = search needs
 returns : tie.Need-returns
 returns c =
     c .ipv4-with2 .ensures
-    ∙ ipv4-head-from _ _ _ _ _ (c .before .sum .ensures ∙ ap ones (zero-add _) ∙ ap (λ (l : List ℕ). ones (total l)) (c .before .before .before .ipv4-with .ensures))
+    ∙ ipv4-head-from _ _ _ _ _ (c .before .sum .ensures ∙ ap ones (zero-add _)
+    ∙ ap (λ (l : List ℕ). ones (total l)) (c .before .before .before .ipv4-with .ensures))
 
 pub ipv4-spec : {M : Type 1} → statement M
 ipv4-spec =

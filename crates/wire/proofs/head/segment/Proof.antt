@@ -64,7 +64,8 @@ returns c =
     let p12 = p11 .before in
     let f : p12 .args .flags ≡ p12 .args .flags % 256 = omega arith in
     λ i.
-    (p11 .b1 .ensures) i ∷ (p10 .b0 .ensures) i ∷ (p9 .b12 .ensures) i ∷ (p8 .b02 .ensures) i ∷ (p7 .b13 .ensures) i ∷ (p6 .b03 .ensures) i ∷ (p5 .b14 .ensures) i ∷ (p4 .b04 .ensures) i ∷ (p3 .b3 .ensures) i ∷ (p2 .b2 .ensures) i ∷ (p1 .b15 .ensures) i ∷ (c .b05 .ensures) i
+    (p11 .b1 .ensures) i ∷ (p10 .b0 .ensures) i ∷ (p9 .b12 .ensures) i ∷ (p8 .b02 .ensures) i ∷ (p7 .b13 .ensures) i ∷ (p6 .b03 .ensures) i
+    ∷ (p5 .b14 .ensures) i ∷ (p4 .b04 .ensures) i ∷ (p3 .b3 .ensures) i ∷ (p2 .b2 .ensures) i ∷ (p1 .b15 .ensures) i ∷ (c .b05 .ensures) i
     ∷ 80 ∷ f i ∷ 0 ∷ 0 ∷ 0 ∷ 0 ∷ 0 ∷ 0 ∷ []
 
 pub segment-spec : {M : Type 1} → statement M

@@ -51,7 +51,8 @@ returns c =
     let h = p8 .above .ensures in
     λ i.
     0 ∷ 0 ∷ 0 ∷ 0 ∷ 0 ∷ 0 ∷ 0 ∷ 0
-    ∷ (p7 .b3 .ensures ∙ ap (λ (x : ℕ). x / 256 / 256 / 256 % 256) h) i ∷ (p6 .b2 .ensures ∙ ap (λ (x : ℕ). x / 256 / 256 % 256) h) i ∷ (p5 .b1 .ensures ∙ ap (λ (x : ℕ). x / 256 % 256) h) i ∷ (p4 .b0 .ensures ∙ ap (λ (x : ℕ). x % 256) h) i
+    ∷ (p7 .b3 .ensures ∙ ap (λ (x : ℕ). x / 256 / 256 / 256 % 256) h) i ∷ (p6 .b2 .ensures ∙ ap (λ (x : ℕ). x / 256 / 256 % 256) h) i
+    ∷ (p5 .b1 .ensures ∙ ap (λ (x : ℕ). x / 256 % 256) h) i ∷ (p4 .b0 .ensures ∙ ap (λ (x : ℕ). x % 256) h) i
     ∷ (p3 .b32 .ensures) i ∷ (p2 .b22 .ensures) i ∷ (p1 .b12 .ensures) i ∷ (c .b02 .ensures) i
     ∷ 0 ∷ 0 ∷ []
 

@@ -1,6 +1,6 @@
 -- `wire::ipv4::read` meets its contract: its exit number n gives what check number n gives.
 -- Assumes nothing.
-use mathlib.Core.Path.{_≡_, _∙_, sym, refl, ap}
+use mathlib.Core.Path.{_≡_, _∙_, sym, ap}
 use mathlib.Core.List.{List}
 use Prim.Native.Nat.{ℕ, _*_, _%_}
 use native.Mathlib.Nat.{zero-add}

@@ -1,6 +1,6 @@
 -- `wire::refusal::code` meets its contract.
 -- Assumes nothing.
-use mathlib.Core.Path.{_≡_, sym, ap}
+use mathlib.Core.Path.{sym, ap}
 use Rattle.wire.specs.Refusal.{codeOf}
 use borrow.Author.Needs.{needs}
 use Rattle.wire.proofs.refusal.code.Statement.{statement}

@@ -62,7 +62,8 @@ be16-requires-3 c κs = search needs
 
 returns-7 : tie.Need-returns-7
 unfolding segmentChecks
-returns-7 c = segment-accepts _ _ _ _ _ _ _ _ (omega (arith, deciding)) (omega arith) (c .before .before .be32 .ensures) (c .before .be162 .ensures) (c .be163 .ensures)
+returns-7 c = segment-accepts _ _ _ _ _ _ _ _ (omega (arith, deciding)) (omega arith) (c .before .before .be32 .ensures) (c .before .be162 .ensures)
+    (c .be163 .ensures)
 
 pub read-spec : {M : Type 1} → statement M
 read-spec =

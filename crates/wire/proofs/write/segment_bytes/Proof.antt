@@ -51,7 +51,8 @@ returns c =
     let e = p1 .before .before .before in
     let o = e .before in
     let h = o .before in
-    segment-pieces _ _ _ _ _ _ _ _ _ _ _ _ (h .stt .ensures) (omega arith) (o .in-header .ensures) (e .in-header2 .ensures) (b .in-frame .ensures) (f .in-frame2 .ensures)
+    segment-pieces _ _ _ _ _ _ _ _ _ _ _ _ (h .stt .ensures) (omega arith) (o .in-header .ensures) (e .in-header2 .ensures) (b .in-frame .ensures)
+    (f .in-frame2 .ensures)
     (p1 .put-part .ensures) (p2 .put-part2 .ensures)
 
 pub segment-bytes-spec : {M : Type 1} → statement M

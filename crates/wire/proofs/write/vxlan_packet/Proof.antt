@@ -46,7 +46,8 @@ returns c =
     let v = p1 .before .before .before in
     let q = v .before in
     let h = q .before in
-    vxlan-written _ _ _ _ _ _ _ _ _ _ _ (h .ipv4 .ensures) (q .source-port .ensures) (v .vxlan .ensures) (p1 .put .ensures) (p2 .put2 .ensures) (p3 .put3 .ensures)
+    vxlan-written _ _ _ _ _ _ _ _ _ _ _ (h .ipv4 .ensures) (q .source-port .ensures) (v .vxlan .ensures) (p1 .put .ensures) (p2 .put2 .ensures)
+    (p3 .put3 .ensures)
 
 pub vxlan-packet-spec : {M : Type 1} → statement M
 vxlan-packet-spec =
