@@ -7,7 +7,7 @@ use mathlib.Core.Option.{Option, none, some}
 use lib.ListN.{getD, set, replicate}
 use lib.Dec.{ltb, leb, eqb}
 use Rattle.wire.specs.Checks.{Check, _⇒_, first}
-use Rattle.reassembly.specs.Slots.{free, olderRow}
+use Rattle.reassembly.specs.Slots.{mostPeers, freePeer, olderRow}
 use Rattle.reassembly.specs.declared.slot.Peer.{Peer}
 use Rattle.endpoint.specs.Search.{lowest}
 use Rattle.endpoint.specs.declared.answer.ConfigRefusal.{ConfigRefusal}
@@ -34,18 +34,22 @@ pub record Config : Type 0 where
   pub tenants : List ℕ
   pub bindings : ℕ  -- how many are listed
 
+-- how many bindings may be listed
+abbrev pub mostBindings : ℕ
+mostBindings = 64
+
 unfoldable pub configOf : Endpoint → Config
 configOf e = record {
   own = e .own;
   port = e .port;
   mtu = e .mtu;
   addresses = e .addresses;
-  peers = min (e .«peer_count») 8;
+  peers = min (e .«peer_count») mostPeers;
   owners = e .owners;
   kinds = e .kinds;
   networks = e .networks;
   tenants = e .tenants;
-  bindings = min (e .«binding_count») 64;
+  bindings = min (e .«binding_count») mostBindings;
 }
 
 -- the endpoint with these rows, and all else as it is
@@ -89,6 +93,10 @@ bindingsOf networks kinds owners tenants peers count = lent networks kinds owner
 
 -- ---- lookups: the lowest-numbered one that matches
 
+-- the address of peer number i
+unfoldable pub addressAt : Endpoint → ℕ → ℕ
+addressAt e i = getD (e .addresses) i 0
+
 -- number i of these addresses is this one
 unfoldable pub hasAddress : (addresses : List ℕ) (address : ℕ) → ℕ → Bool
 hasAddress addresses address i = eqb (getD addresses i 0) address
@@ -110,22 +118,22 @@ isSome (some i) = true
 -- ---- start
 
 abbrev pub freeRow : Peer
-freeRow = record { slots = replicate 4 free }
+freeRow = freePeer
 
 -- an endpoint with these settings, no listing, and every slot free
 unfoldable pub fresh : (own port mtu : ℕ) → Endpoint
 fresh own port mtu = record {
-  networks = replicate 64 0;
-  peers = replicate 8 freeRow;
-  addresses = replicate 8 0;
+  networks = replicate mostBindings 0;
+  peers = replicate mostPeers freeRow;
+  addresses = replicate mostPeers 0;
   own = own;
-  tenants = replicate 64 0;
+  tenants = replicate mostBindings 0;
   port = port;
   mtu = mtu;
   «peer_count» = 0;
   «binding_count» = 0;
-  kinds = replicate 64 0;
-  owners = replicate 64 0;
+  kinds = replicate mostBindings 0;
+  owners = replicate mostBindings 0;
 }
 
 -- an address whose first byte is 0, or 224 or more, is refused
@@ -162,7 +170,7 @@ addPeerChecks e address =
     ∷ (addressChecks address
     ++ ((eqb address (e .own) ⇒ C.OutOfRange)
     ∷ (isSome (findPeer (configOf e) address) ⇒ C.AlreadyListed)
-    ∷ (leb 8 (e .«peer_count») ⇒ C.Full)
+    ∷ (leb mostPeers (e .«peer_count») ⇒ C.Full)
     ∷ []))
 
 -- peer number n gets this address; its row stays
@@ -199,7 +207,7 @@ addBindingChecks e peer kind network tenant =
     ∷ (not (isNetwork kind network) ⇒ C.OutOfRange)
     ∷ (ltb 65535 tenant ⇒ C.OutOfRange)
     ∷ (isSome (findBinding (configOf e) peer kind network) ⇒ C.AlreadyListed)
-    ∷ (leb 64 (e .«binding_count») ⇒ C.Full)
+    ∷ (leb mostBindings (e .«binding_count») ⇒ C.Full)
     ∷ []
 
 unfoldable pub withBinding : Endpoint → (n peer kind network tenant : ℕ) → Endpoint

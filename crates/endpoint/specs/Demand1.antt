@@ -1,8 +1,6 @@
--- DEMAND 1 (document 00): any packet, memory, settings or tick get one answer of the numbered table, and a refusal changes nothing, but for the one exception.
--- One record, `Demand1`, for every call: start, adding, receive, tick, view and wrap, for every endpoint, memory, packet and number. The calls are those of
--- the contracts (src/), which say that answer, endpoint, memory and output are these definitions' for every input; and every function ends, as the
--- toolchain checks. Which number is given when is the table's (Table.antt).
--- Only definitions; proved in Laws/Demand1.antt (`demand-one`).
+-- DEMAND 1's words (document 00): the rule of each call: which numbers it answers, what it leaves, and that a refusal changes nothing, but for the one
+-- exception. `Demand1` (Demands.antt) says that every call keeps its rule, for every endpoint, memory, packet and number.
+-- Only definitions; the rules are proved in Laws/Demand1.
 use Prim.Native.Nat.{ℕ, _+_, _<_, _≤_}
 use mathlib.Core.Path.{_≡_}
 use mathlib.Core.Logic.{_⊎_, _≢_}
@@ -11,19 +9,14 @@ use mathlib.Core.List.{List, [], _∷_}
 use mathlib.Core.Option.{none, some}
 use lib.ListN.{length, getD, replicate}
 use lib.Dec.{eqb}
-use denote.Ref.{RefT}
 use Rattle.wire.specs.Bytes.{Bytes}
 use Rattle.reassembly.specs.Slots.{free, noRow}
 use Rattle.reassembly.specs.Take.{Seg}
 use Rattle.reassembly.specs.EveryRun.{mapAt, bitOf, Touches}
 use Rattle.reassembly.specs.declared.slot.Slot.{Slot}
-use Rattle.endpoint.specs.Answer.{placeOf, Values, valuesOf, startCode, AddedValues, addedValuesOf, tickCode, WrapValues, wrapValuesOf}
-use Rattle.endpoint.specs.Config.{configOf, startOf, addPeerOf, addBindingOf, tickOf}
-use Rattle.endpoint.specs.View.{Viewed, ViewRule}
-use Rattle.endpoint.specs.Receive.{stepOf, receiptOf}
-use Rattle.endpoint.specs.Wrap.{wrapOf}
+use Rattle.endpoint.specs.Answer.{Values, startCode, AddedValues, addedValuesOf, WrapValues}
+use Rattle.endpoint.specs.Config.{configOf}
 use Rattle.endpoint.specs.Formats.{CarriesSegment}
-use Rattle.endpoint.specs.declared.answer.Place.{Place}
 use Rattle.endpoint.specs.declared.config.Endpoint.{Endpoint}
 use Rattle.endpoint.specs.declared.config.AddResult.{AddResult}
 use Rattle.endpoint.specs.declared.config.StartResult.{StartResult}
@@ -185,17 +178,3 @@ pub record WrapRule (output : List ℕ) (v : WrapValues) (output′ : List ℕ) 
   -- what is written touches only the packet's bytes
   pub size : length output′ ≡ length output
   pub beyond : (i : ℕ) → v .length-is ≤ i → getD output′ i 0 ≡ getD output i 0
-
--- ---- THE STATEMENT
-
-pub record Demand1 : Type 0 where
-  pub start : (own port mtu : ℕ) → StartRule own port mtu (startOf own port mtu)
-  pub add-peer : (e : Endpoint) (address : ℕ) → AddRule e (PeerAdded e address) (addPeerOf e address)
-  pub add-binding : (e : Endpoint) (peer kind network tenant : ℕ)
-      → AddRule e (BindingAdded e peer kind network tenant) (addBindingOf e peer kind network tenant)
-  pub receive : (e : Endpoint) (memory packet : List ℕ)
-      → ReceiveRule e memory packet (valuesOf (stepOf e memory packet .answer)) (receiptOf e (stepOf e memory packet) .endpoint) (stepOf e memory packet .mem)
-  pub tick : (e : Endpoint) → TickRule e (tickCode (tickOf e .answer)) (tickOf e .endpoint)
-  pub view : (packet memory : RefT (List ℕ)) (place : Place) (r : RefT (List ℕ)) → Viewed packet memory (placeOf place) r → ViewRule packet memory place r
-  pub wrap : (e : Endpoint) (binding : ℕ) (frame : List ℕ) (segment identifier : ℕ) (output : List ℕ)
-      → WrapRule output (wrapValuesOf (wrapOf e binding frame segment identifier output .answer)) (wrapOf e binding frame segment identifier output .output)

@@ -1,28 +1,24 @@
--- DEMAND 2, receiving (document 00): in every run from a set-up, with enough memory lent, a receive delivers a frame to a tenant if and only if the packet
--- carries it by VXLAN or NVGRE for a binding of our configuration, or carries the STT segment with which the segments taken since its frame opened make up
--- exactly a good frame; and what is handed back is exactly the frame that was carried.
+-- DEMAND 2's words for receiving (document 00): what it is to deliver a frame, and which packets and runs carry one.
 -- How to read it: what a packet carries and what a good frame is are the formats' own words (Formats.antt); `Gathers` and `MakesUp` are told from the run
--- alone (crate reassembly, specs/History.antt); which segments are taken, rejected or given up is `EveryRun`, a field of Demand3. Only definitions; proved
--- in Laws/Demand2.
-use Prim.Native.Nat.{ℕ, _<_, _≤_}
+-- alone (crate reassembly, specs/History.antt); which segments are taken, rejected or given up is `EveryRun`, a field of `Demand3`. Only definitions;
+-- `Demand2` (Demands.antt) is the statement, its receiving half proved in Laws/Demand2.
+use Prim.Native.Nat.{ℕ, _<_}
 use mathlib.Core.Path.{_≡_}
-use mathlib.Core.Logic.{_⊎_}
 use mathlib.Core.List.{List, [], _∷_}
-use lib.ListN.{length}
 use Rattle.wire.specs.Bytes.{Bytes}
 use Rattle.reassembly.specs.Take.{Seg}
 use Rattle.reassembly.specs.Receive.{Event, receive, tick, viewOf}
 use Rattle.reassembly.specs.History.{Gathers, MakesUp}
-use Rattle.reassembly.specs.EveryRun.{IfAndOnlyIf, history}
+use Rattle.reassembly.specs.EveryRun.{history}
 use Rattle.endpoint.specs.Config.{Config, configOf}
 use Rattle.endpoint.specs.Receive.{answers, layers, stepOf}
-use Rattle.endpoint.specs.Formats.{CarriesFrame, CarriesSegment, GoodFrame}
+use Rattle.endpoint.specs.Formats.{CarriesSegment, GoodFrame}
 use Rattle.endpoint.specs.declared.answer.Target.{Target}
 use Rattle.endpoint.specs.declared.config.Endpoint.{Endpoint}
 use Rattle.endpoint.specs.Answer.{placeOf}
 use Rattle.endpoint.specs.declared.answer.Place.{Place}
 use Rattle.endpoint.specs.declared.answer.Received.the-variants as R
-use Rattle.endpoint.specs.Run.{left, endsOf}
+use Rattle.endpoint.specs.Run.{endsOf}
 
 -- the receive delivers the frame to the target: answer 0, and the view of its place is the frame
 pub record Delivers (e : Endpoint) (m k : List ℕ) (t : Target) (frame : List ℕ) : Type 0 where
@@ -48,8 +44,3 @@ abbrev pub Packets : List Event → Type 0
 Packets [] = Unit {0}
 Packets (tick ∷ es) = Packets es
 Packets (receive k ∷ es) = Bytes k × Packets es
-
--- ---- THE STATEMENT, of an endpoint that is a set-up: after the receives and ticks es, over a memory and packets of bytes
-pub record Demand2 (e : Endpoint) : Type 0 where
-  pub delivers : (m : List ℕ) → 55296 ≤ length m → Bytes m → (es : List Event) → Packets es → (k : List ℕ) → Bytes k → (t : Target) (frame : List ℕ)
-      → IfAndOnlyIf (Delivers (left e m es .endpoint) (left e m es .mem) k t frame) (CarriesFrame (configOf e) k t frame ⊎ MadeUp e m es k t frame)

@@ -9,7 +9,7 @@ use Prim.Native.Nat.{ℕ, zero, suc, _+_, _-_, _*_, _/_, _^_, _<_, _≤_, min}
 use mathlib.Core.Path.{_≡_}
 use mathlib.Core.Logic.{_⊎_}
 use mathlib.Core.List.{List, [], _++_}
-use lib.ListN.{length, drop}
+use lib.ListN.{length, getD, drop}
 use lib.Dec.{eqb}
 use Rattle.wire.specs.Bytes.{part}
 use Rattle.wire.specs.Ipv4.{IsIpv4}
@@ -80,6 +80,10 @@ pub record Sent (e : Endpoint) (b : ℕ) (frame whole : List ℕ) (k identifier 
 -- ---- THE STATEMENT, of a binding and a frame
 
 pub record Demand2Writing (e : Endpoint) (b : ℕ) (frame : List ℕ) : Type 0 where
+  -- binding b's kind, its network, and the address of its peer are those that the configuration lists
+  pub kind-is : kindAt e b ≡ getD (e .kinds) b 0
+  pub network-is : networkAt e b ≡ getD (e .networks) b 0
+  pub peer-is : peerAt e b ≡ getD (e .addresses) (getD (e .owners) b 0) 0
   -- one segment by VXLAN and NVGRE; by STT, with F = 18 plus the frame's length and C = MTU − 40, (F + C − 1) div C
   pub one : (kindAt e b ≡ 1) ⊎ (kindAt e b ≡ 2) → segmentsOf (kindAt e b) (length frame) (e .mtu) ≡ 1
   pub count : kindAt e b ≡ 3 → segmentsOf (kindAt e b) (length frame) (e .mtu) ≡ (18 + length frame + (e .mtu - 40) - 1) / (e .mtu - 40)

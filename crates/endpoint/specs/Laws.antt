@@ -10,7 +10,9 @@ pub mod Formats
 pub mod Demand1
 pub mod Demand3
 pub mod Demand2
+pub mod Calls
 pub mod Wrap
+pub mod Reached
 pub mod Demand2Writing
 pub mod RoundTripLaws
 pub mod RoundTrip
@@ -20,3 +22,4 @@ pub mod WorkedRun
 pub mod Possible
 pub mod Table
 pub mod Promises
+pub mod Demands

@@ -6,7 +6,6 @@ pub mod Receive
 pub mod Stages
 pub mod Wrap
 pub mod Run
-pub mod Calls
 pub mod Formats
 pub mod Demand1
 pub mod Demand2
@@ -16,4 +15,5 @@ pub mod Demand2Writing
 pub mod RoundTrip
 pub mod WorkedCases
 pub mod Table
+pub mod Demands
 pub mod Laws

@@ -1,7 +1,7 @@
 -- DEMAND 2, the round trip (document 01, "Wrapping"), its statement: one for all kinds. A matching endpoint, freshly set up, is given each segment of a
 -- wrapped frame once, under one identifier, in any order, with no tick between: at the last it delivers exactly the frame, to the binding and the tenant that
 -- it has for it, and at the others it answers 1.
--- How to read it: `round-trip` (RoundTripProof) says that `Wraps` and `Matches` give `RoundTrip`. Only definitions.
+-- How to read it: `round-trip` (Laws/RoundTrip) says that `Wraps` and `Matches` give `RoundTrip`. Only definitions.
 -- Assumes nothing.
 use Prim.Native.Nat.{ℕ, _+_, _<_, _≤_}
 use mathlib.Core.Path.{_≡_}
@@ -10,10 +10,9 @@ use mathlib.Core.List.{List, [], _∷_, _++_, map}
 use lib.ListN.{length, getD, take}
 use lib.Dec.{ltb, eqb}
 use Rattle.reassembly.specs.Receive.{Event, receive}
-use Rattle.endpoint.specs.Config.{Adding, setUp}
-use Rattle.endpoint.specs.Laws.Config.{addressAt}
+use Rattle.endpoint.specs.Config.{addressAt, Adding, setUp}
 use Rattle.endpoint.specs.Receive.{stepOf}
-use Rattle.endpoint.specs.Calls.{Left, calls}
+use Rattle.endpoint.specs.Run.{Left, calls}
 use Rattle.endpoint.specs.Wrap.{segmentsOf, kindAt, networkAt, ownerAt, peerAt, wrapOf}
 use Rattle.endpoint.specs.Demand2.{Delivers}
 use Rattle.endpoint.specs.declared.answer.Packet.{Packet}

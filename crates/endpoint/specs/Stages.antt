@@ -1,4 +1,4 @@
--- A receive in three stages, as the code makes it: a packet is opened, a segment is taken, a frame is delivered. `ReceiveLaws.stages-step` says that they add
+-- A receive in three stages, as the code makes it: a packet is opened, a segment is taken, a frame is delivered. `Laws/Receive.stages-step` says that they add
 -- up to `Receive.stepOf`.
 -- Assumes nothing.
 use Prim.Native.Nat.{ℕ, _+_, _-_, _*_, _<_, _≤_, min}

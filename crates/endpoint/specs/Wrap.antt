@@ -9,7 +9,7 @@ use lib.Dec.{ltb, leb, eqb}
 use Rattle.wire.specs.Bytes.{wrote}
 use Rattle.wire.specs.Checks.{Check, _⇒_, first, pick}
 use Rattle.wire.specs.Frame.{frameOf}
-use Rattle.wire.specs.Write.{vxlanPacket, nvgrePacket, segmentPacket}
+use Rattle.wire.specs.Write.{vxlanPacket, nvgrePacket, segmentPacket, Written}
 use Rattle.wire.specs.declared.frame.FrameRead.{FrameRead}
 use Rattle.wire.specs.declared.frame.FrameRead.the-variants as F
 use Rattle.endpoint.specs.Config.{configOf}
@@ -18,15 +18,13 @@ use Rattle.endpoint.specs.declared.answer.WrapRefusal.the-variants as X
 use Rattle.endpoint.specs.declared.answer.Wrapped.{Wrapped}
 use Rattle.endpoint.specs.declared.answer.Wrapped.the-variants as Y
 use Rattle.endpoint.specs.declared.config.Endpoint.{Endpoint}
+use Rattle.endpoint.specs.declared.wrap.Route.{Route}
 
 -- ---- the segments of an STT frame: with F = 18 plus the frame's length and C = MTU − 40, (F + C − 1) div C of them; segment k carries bytes kC up to the
 -- smaller of F and kC + C
 
 abbrev pub capacity : (mtu : ℕ) → ℕ
 capacity mtu = mtu - 40
-
-abbrev pub frameLength : List ℕ → ℕ
-frameLength frame = 18 + length frame
 
 -- VXLAN (1) and NVGRE (2) have segment 0 only. Where the MTU has no room for a byte, which no good start leaves, there is no segment
 unfoldable pub segmentsOf : (kind size mtu : ℕ) → ℕ
@@ -79,7 +77,7 @@ peerAt e b = getD (configOf e .addresses) (ownerAt e b) 0
 abbrev pub packetAt : Endpoint → (b : ℕ) (frame : List ℕ) (segment identifier : ℕ) → List ℕ
 packetAt e b frame segment identifier = packetOf (kindAt e b) (e .own) (peerAt e b) (e .port) (networkAt e b) (e .mtu) frame segment identifier
 
--- a binding's owner is one of the eight peers in every set-up (`ConfigLaws.Valid`)
+-- a binding's owner is one of the eight peers in every set-up (`Laws/Config.Valid`)
 unfoldable pub wrapChecks : Endpoint → (b : ℕ) (frame : List ℕ) (segment identifier : ℕ) (output : List ℕ) → List (Check WrapRefusal)
 wrapChecks e b frame segment identifier output =
     (leb (configOf e .bindings) b ⇒ X.Binding)
@@ -105,3 +103,38 @@ wrapOf e b frame segment identifier output =
       answer = Y.Written (record { length = length (packetAt e b frame segment identifier); segments = segmentsOf (kindAt e b) (length frame) (e .mtu) });
       output = wrote output (packetAt e b frame segment identifier);
     })
+
+-- ---- the call once the binding is found, as the code makes it: 13, 22, 23 (segment), 21
+
+-- the packet on a route
+abbrev pub packetOn : Route → (frame : List ℕ) (segment identifier : ℕ) → List ℕ
+packetOn t frame segment identifier = packetOf (t .kind) (t .own) (t .peer) (t .port) (t .network) (t .mtu) frame segment identifier
+
+module _ (t : Route) (frame : List ℕ) (segment identifier : ℕ) (output : List ℕ) where
+  unfoldable pub sendChecks : List (Check WrapRefusal)
+  sendChecks =
+      (isBad (frameOf frame) ⇒ X.Frame)
+      ∷ (exceeds (t .kind) (length frame) (t .mtu) ⇒ X.Mtu)
+      ∷ (leb (segmentsOf (t .kind) (length frame) (t .mtu)) segment ⇒ X.Segment)
+      ∷ (ltb (length output) (length (packetOn t frame segment identifier)) ⇒ X.Output)
+      ∷ []
+
+  -- what is given where no check is met
+  abbrev pub sent : Wrote
+  sent = record {
+    answer = Y.Written (record { length = length (packetOn t frame segment identifier); segments = segmentsOf (t .kind) (length frame) (t .mtu) });
+    output = wrote output (packetOn t frame segment identifier);
+  }
+
+  unfoldable pub sendOf : Wrote
+  sendOf = first (refusedWrap output) sendChecks sent
+
+-- ---- what is put at the front of an output: the packet if there is room for it, or else nothing
+
+abbrev pub Put : (packet old new : List ℕ) (r : ℕ) → Type 0
+Put packet old new r = Written (leb (length packet) (length old)) packet old new r
+
+-- segment number k of an STT frame that is cut at every c bytes
+abbrev pub pieceOf : (own peer port context identifier c k : ℕ) (last : Bool) (frame : List ℕ) → List ℕ
+pieceOf own peer port context identifier c k last frame =
+    segmentPacket own peer port context identifier (k * c) (min (18 + length frame) (k * c + c) - k * c) last frame

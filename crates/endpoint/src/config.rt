@@ -4,31 +4,45 @@ ghost use Rattle.endpoint.specs.Answer.{startCode, addedValuesOf};
 ghost use Rattle.wire.specs.Table.{numbered};
 ghost use Rattle.endpoint.specs.Table.{startRows, addPeerRows, addBindingRows};
 ghost use Rattle.endpoint.specs.Demand1.{StartRule, AddRule, PeerAdded, BindingAdded};
-ghost use Rattle.endpoint.specs.Config.{isNetwork, startOf, refusedStart, addPeerOf, addBindingOf, freeRow, fresh, peersOf, bindingsOf};
+ghost use Rattle.endpoint.specs.Config.{isNetwork, startOf, refusedStart, addPeerOf, addBindingOf, fresh, peersOf, bindingsOf};
 use crate::answer::Added;
 use crate::answer::ConfigRefusal;
 use crate::answer::Start;
+use crate::number::BINDINGS;
+use crate::number::FIRST_BYTE;
+use crate::number::IDS;
+use crate::number::MTU_LEAST;
+use crate::number::MTU_MOST;
+use crate::number::MULTICAST;
+use crate::number::NVGRE;
+use crate::number::PORT_MOST;
+use crate::number::STT;
+use crate::number::TENANT_MOST;
+use crate::number::VSID_LEAST;
+use crate::number::VSID_RESERVED;
+use crate::number::VXLAN;
 use crate::search::Lookup;
 use crate::search::find_binding;
 use crate::search::find_peer;
 use crate::search::least;
+use reassembly::number::PEERS;
 use reassembly::slot::Peer;
-use reassembly::slot::Slot;
+use reassembly::slot::free_peer;
 
 // An endpoint. Peers and bindings are parallel arrays, so that a lookup touches only what it compares.
 #[repr(C)]
 pub struct Endpoint {
-    pub networks: [u64; 64],
-    pub peers: [Peer; 8],
-    pub addresses: [u32; 8],
+    pub networks: [u64; BINDINGS],
+    pub peers: [Peer; PEERS],
+    pub addresses: [u32; PEERS],
     pub own: u32,
-    pub tenants: [u16; 64],
+    pub tenants: [u16; BINDINGS],
     pub port: u16,
     pub mtu: u16,
     pub peer_count: u16,
     pub binding_count: u16,
-    pub kinds: [u8; 64],
-    pub owners: [u8; 64],
+    pub kinds: [u8; BINDINGS],
+    pub owners: [u8; BINDINGS],
 }
 
 // What a start gives.
@@ -43,35 +57,23 @@ pub struct AddResult {
     pub answer: Added,
 }
 
-fn free_row() -> Peer
-    ensures { λ r. ⌜ r ≡ freeRow ⌝ }
-{
-    let slot = Slot {
-        identifier: 0,
-        frame_length: 0,
-        age: 0,
-        pending: false,
-    };
-    Peer { slots: [slot; 4] }
-}
-
 // An endpoint with these settings, no listing, and every slot free.
 fn blank(own: u32, port: u16, mtu: u16) -> Endpoint
     ensures { λ r. ⌜ r ≡ fresh own port mtu ⌝ }
 {
-    let row = free_row();
+    let free = free_peer();
     Endpoint {
-        networks: [0; 64],
-        peers: [row; 8],
-        addresses: [0; 8],
+        networks: [0; BINDINGS],
+        peers: [free; PEERS],
+        addresses: [0; PEERS],
         own: own,
-        tenants: [0; 64],
+        tenants: [0; BINDINGS],
         port: port,
         mtu: mtu,
         peer_count: 0,
         binding_count: 0,
-        kinds: [0; 64],
-        owners: [0; 64],
+        kinds: [0; BINDINGS],
+        owners: [0; BINDINGS],
     }
 }
 
@@ -90,23 +92,23 @@ pub fn start(own: u32, port: u32, mtu: u32) -> StartResult
     ensures { λ r. ⌜ startCode (r .answer) ≡ numbered (startRows own port mtu) ⌝ }
     ensures { λ r. ⌜ StartRule own port mtu r ⌝ }
 {
-    let first = own / 16777216;
+    let first = own / FIRST_BYTE;
     if first == 0 {
         return refused_start();
     }
-    if 224 <= first {
+    if MULTICAST <= first {
         return refused_start();
     }
     if port == 0 {
         return refused_start();
     }
-    if 65535 < port {
+    if PORT_MOST < port {
         return refused_start();
     }
-    if mtu < 576 {
+    if mtu < MTU_LEAST {
         return refused_start();
     }
-    if 1600 < mtu {
+    if MTU_MOST < mtu {
         return refused_start();
     }
     StartResult {
@@ -117,7 +119,7 @@ pub fn start(own: u32, port: u32, mtu: u32) -> StartResult
 
 // Lists a peer in the addresses and the count that are lent. The port of a refused start is 0: nothing is added to it.
 pub fn list_peer(
-    addresses: &mut [u32; 8],
+    addresses: &mut [u32; PEERS],
     count: &mut u16,
     own: u32,
     port: u16,
@@ -130,11 +132,11 @@ pub fn list_peer(
     if port == 0 {
         return Added::Refused(ConfigRefusal::OutOfRange);
     }
-    let first = address / 16777216;
+    let first = address / FIRST_BYTE;
     if first == 0 {
         return Added::Refused(ConfigRefusal::OutOfRange);
     }
-    if 224 <= first {
+    if MULTICAST <= first {
         return Added::Refused(ConfigRefusal::OutOfRange);
     }
     if address == own {
@@ -142,11 +144,11 @@ pub fn list_peer(
     }
     let number = *count;
     let n = number as usize;
-    let listed = find_peer(addresses, least(n, 8), address);
+    let listed = find_peer(addresses, least(n, PEERS), address);
     if let Lookup::At(_) = listed {
         return Added::Refused(ConfigRefusal::AlreadyListed);
     }
-    if 8 <= n {
+    if PEERS <= n {
         return Added::Refused(ConfigRefusal::Full);
     }
     addresses[n] = address;
@@ -176,24 +178,24 @@ pub fn add_peer(e: Endpoint, address: u32) -> AddResult
 fn is_network(kind: u32, network: u64) -> bool
     ensures { λ r. ⌜ r ≡ isNetwork kind network ⌝ }
 {
-    if kind == 1 {
-        return network < 16777216;
+    if kind == VXLAN {
+        return network < IDS;
     }
-    if kind == 2 {
-        if network < 4096 {
+    if kind == NVGRE {
+        if network < VSID_LEAST {
             return false;
         }
-        return network < 16777215;
+        return network < VSID_RESERVED;
     }
-    kind == 3
+    kind == STT
 }
 
 // Lists a binding in the columns and the count that are lent.
 pub fn list_binding(
-    networks: &mut [u64; 64],
-    kinds: &mut [u8; 64],
-    owners: &mut [u8; 64],
-    tenants: &mut [u16; 64],
+    networks: &mut [u64; BINDINGS],
+    kinds: &mut [u8; BINDINGS],
+    owners: &mut [u8; BINDINGS],
+    tenants: &mut [u16; BINDINGS],
     count: &mut u16,
     peer_count: u16,
     peer: u32,
@@ -221,13 +223,13 @@ pub fn list_binding(
         peer kind network tenant .endpoint .«binding_count» ⌝ }
 {
     let owner = peer as usize;
-    if least(peer_count as usize, 8) <= owner {
+    if least(peer_count as usize, PEERS) <= owner {
         return Added::Refused(ConfigRefusal::OutOfRange);
     }
     if !is_network(kind, network) {
         return Added::Refused(ConfigRefusal::OutOfRange);
     }
-    if 65535 < tenant {
+    if TENANT_MOST < tenant {
         return Added::Refused(ConfigRefusal::OutOfRange);
     }
     let number = *count;
@@ -237,7 +239,7 @@ pub fn list_binding(
         networks,
         kinds,
         owners,
-        least(n, 64),
+        least(n, BINDINGS),
         owner,
         narrow,
         network,
@@ -245,7 +247,7 @@ pub fn list_binding(
     if let Lookup::At(_) = listed {
         return Added::Refused(ConfigRefusal::AlreadyListed);
     }
-    if 64 <= n {
+    if BINDINGS <= n {
         return Added::Refused(ConfigRefusal::Full);
     }
     networks[n] = network;

@@ -2,6 +2,7 @@
 pub mod answer;
 pub mod code;
 pub mod config;
+pub mod number;
 pub mod receive;
 pub mod search;
 pub mod tick;

@@ -14,12 +14,17 @@ use crate::answer::Place;
 use crate::answer::Received;
 use crate::answer::Target;
 use crate::config::Endpoint;
+use crate::number::BINDINGS;
 use crate::search::Lookup;
 use crate::search::find_binding;
 use crate::search::find_peer;
 use crate::search::least;
 use crate::view::part;
 use crate::view::view_one;
+use reassembly::number::MEMORY_BYTES;
+use reassembly::number::PEERS;
+use reassembly::number::SLOT_BYTES;
+use reassembly::number::SLOTS;
 use reassembly::slot::Peer;
 use reassembly::take::Outcome;
 use wire::carriage;
@@ -27,6 +32,8 @@ use wire::carriage::Carried;
 use wire::frame::FrameRead;
 use wire::ipv4::Ipv4;
 use wire::ipv4::Ipv4Read;
+use wire::number::KIND_STT;
+use wire::number::STT_HEADER;
 use wire::segment::Segment;
 use wire::stt::SttRead;
 
@@ -51,7 +58,7 @@ pub enum Content {
     Segment(Due),
 }
 
-// A packet, opened. One of no listed peer has peer 0, whose row stays.
+// A packet, opened. One of no listed peer has peer 0, whose record stays.
 pub struct Arrival {
     pub peer: usize,
     pub content: Content,
@@ -64,7 +71,7 @@ pub enum Offer {
     Frame(InnerFrame),
 }
 
-// What taking changes of the endpoint, the sender's row, and what there is to deliver.
+// What taking changes of the endpoint, the sender's peer record, and what there is to deliver.
 pub struct Changed {
     pub row: Peer,
     pub offer: Offer,
@@ -142,7 +149,7 @@ fn unpack(port: u16, h: Ipv4, packet: &[u8]) -> Content
 
 // Opens a packet: checks 2 to 10 in order, and 11 for VXLAN and NVGRE. `room` is the memory's length.
 pub fn open(
-    addresses: &[u32; 8],
+    addresses: &[u32; PEERS],
     own: u32,
     port: u16,
     peer_count: u16,
@@ -151,7 +158,7 @@ pub fn open(
 ) -> Arrival
     ensures { λ r. ⌜ r ≡ openOf (now (addresses .entry)) own port (min «peer_count» 8) (now (packet .entry)) room ⌝ }
 {
-    if room < 55296 {
+    if room < MEMORY_BYTES {
         return other_sender(Drop::Memory);
     }
     let ip = wire::ipv4::read(packet);
@@ -161,7 +168,7 @@ pub fn open(
     if h.destination != own {
         return other_sender(Drop::Destination);
     }
-    let sender = find_peer(addresses, least(peer_count as usize, 8), h.source);
+    let sender = find_peer(addresses, least(peer_count as usize, PEERS), h.source);
     let Lookup::At(p) = sender else {
         return other_sender(Drop::Peer);
     };
@@ -184,11 +191,11 @@ fn complete(at: usize, frame: &[u8]) -> Offer
     Offer::Frame(InnerFrame {
         network: context,
         place: Place {
-            start: at + 18,
-            length: frame.len() - 18,
+            start: at + STT_HEADER,
+            length: frame.len() - STT_HEADER,
             in_memory: true,
         },
-        kind: 3,
+        kind: KIND_STT,
     })
 }
 
@@ -202,14 +209,14 @@ fn settled(peer: usize, outcome: Outcome, size: u16, memory: &[u8]) -> Offer
         Outcome::Pending => Offer::Pending,
         Outcome::NoMemory => Offer::Refused(Drop::Memory),
         Outcome::Complete(s) => {
-            let at = (4 * peer + s) * 1728;
+            let at = (SLOTS * peer + s) * SLOT_BYTES;
             let end = at + size as usize;
             complete(at, &memory[at..end])
         }
     }
 }
 
-// Takes the segment that a packet brings, with its sender's row: 14 to 17, then 11 where the frame is complete. All else passes.
+// Takes the segment that a packet brings, with its sender's peer record: 14 to 17, then 11 where the frame is complete. All else passes.
 pub fn take(row: Peer, arrival: Arrival, packet: &[u8], memory: &mut [u8]) -> Changed
     ensures { λ r. ⌜ r ≡ changedOf (takeOf row arrival (now (packet .entry)) (now (memory .entry))) ⌝ }
     ensures { λ _. ⌜ now (memory .exit) ≡ takeOf row arrival (now (packet .entry)) (now (memory .entry)) .mem ⌝ }
@@ -245,17 +252,18 @@ pub fn take(row: Peer, arrival: Arrival, packet: &[u8], memory: &mut [u8]) -> Ch
 
 // Delivers a frame: the lookup of its binding, 12, then the frame's rule, 13. All else is the answer already. The bindings' columns are lent.
 pub fn deliver<'a, 'r>(
-    networks: &'a [u64; 64],
-    kinds: &'a [u8; 64],
-    owners: &'a [u8; 64],
-    tenants: &'a [u16; 64],
+    networks: &'a [u64; BINDINGS],
+    kinds: &'a [u8; BINDINGS],
+    owners: &'a [u8; BINDINGS],
+    tenants: &'a [u16; BINDINGS],
     binding_count: u16,
     peer: usize,
     offer: Offer,
     packet: &'r [u8],
     memory: &'r [u8],
 ) -> Received
-    ensures { λ r. ⌜ r ≡ deliverOf (now (networks .entry)) (now (kinds .entry)) (now (owners .entry)) (now (tenants .entry)) (min «binding_count» 64) peer offer (now (packet .entry)) (now (memory .entry)) ⌝ }
+    ensures { λ r. ⌜ r ≡ deliverOf (now (networks .entry)) (now (kinds .entry)) (now (owners .entry)) (now (tenants .entry)) (min «binding_count» 64) peer
+        offer (now (packet .entry)) (now (memory .entry)) ⌝ }
 {
     match offer {
         Offer::Refused(d) => {
@@ -265,7 +273,7 @@ pub fn deliver<'a, 'r>(
             return Received::Pending;
         }
         Offer::Frame(f) => {
-            let n = least(binding_count as usize, 64);
+            let n = least(binding_count as usize, BINDINGS);
             let found = find_binding(networks, kinds, owners, n, peer, f.kind, f.network);
             let Lookup::At(b) = found else {
                 return Received::Dropped(Drop::Binding);

@@ -1,10 +1,12 @@
 // Lookups (document 01, "Listing and numbers"): the lowest-numbered peer or binding that matches.
 ghost use mathlib.Core.Path.{_≡_};
-ghost use Prim.Native.Nat.{_≤_, min};
+ghost use Prim.Native.Nat.{_<_, _≤_, min};
 ghost use Rattle.endpoint.specs.declared.answer.Drop.the-variants as D;
 ghost use Rattle.endpoint.specs.Search.{lowest, foundOf};
 ghost use Rattle.endpoint.specs.Config.{hasAddress, binds};
 use crate::answer::Drop;
+use crate::number::BINDINGS;
+use reassembly::number::PEERS;
 
 // The number that matches, or the refusal where the listing ends.
 pub enum Lookup {
@@ -28,13 +30,13 @@ fn wide(x: u8) -> usize
 
 // The lowest of the first n peers that has this address, or 7. The loop goes over all eight, whatever n is: with a fixed number of turns a
 // turn takes three instructions.
-pub(crate) fn find_peer(addresses: &[u32; 8], n: usize, address: u32) -> Lookup
+pub(crate) fn find_peer(addresses: &[u32; PEERS], n: usize, address: u32) -> Lookup
     requires { ⌜ n ≤ 8 ⌝ }
     ensures { λ r. ⌜ r ≡ foundOf D.Peer (lowest (hasAddress (now (addresses .entry)) address) n) ⌝ }
 {
     let mut i: usize = 0;
     let found = loop {
-        if 8 <= i {
+        if PEERS <= i {
             break Lookup::Refused(Drop::Peer);
         }
         if addresses[i] == address {
@@ -48,11 +50,34 @@ pub(crate) fn find_peer(addresses: &[u32; 8], n: usize, address: u32) -> Lookup
     found
 }
 
-// The lowest of the first n bindings that has this network, kind and peer, or 12.
+// Has binding i this network, kind and peer?
+fn is_binding<'a>(
+    networks: &'a [u64; BINDINGS],
+    kinds: &'a [u8; BINDINGS],
+    owners: &'a [u8; BINDINGS],
+    i: usize,
+    peer: usize,
+    kind: u8,
+    network: u64,
+) -> bool
+    requires { ⌜ i < 64 ⌝ }
+    ensures { λ r. ⌜ r ≡ binds (now (networks .entry)) (now (kinds .entry)) (now (owners .entry)) peer kind network i ⌝ }
+{
+    if networks[i] != network {
+        return false;
+    }
+    if kinds[i] != kind {
+        return false;
+    }
+    wide(owners[i]) == peer
+}
+
+// The lowest of the first n bindings that has this network, kind and peer, or 12. A turn looks at two, which takes seven instructions; of the last
+// two only one may be listed.
 pub(crate) fn find_binding<'a>(
-    networks: &'a [u64; 64],
-    kinds: &'a [u8; 64],
-    owners: &'a [u8; 64],
+    networks: &'a [u64; BINDINGS],
+    kinds: &'a [u8; BINDINGS],
+    owners: &'a [u8; BINDINGS],
     n: usize,
     peer: usize,
     kind: u8,
@@ -66,14 +91,17 @@ pub(crate) fn find_binding<'a>(
         if n <= i {
             break Lookup::Refused(Drop::Binding);
         }
-        if networks[i] == network {
-            if kinds[i] == kind {
-                if wide(owners[i]) == peer {
-                    break Lookup::At(i);
-                }
-            }
+        if is_binding(networks, kinds, owners, i, peer, kind, network) {
+            break Lookup::At(i);
         }
-        i += 1;
+        let next = i + 1;
+        if is_binding(networks, kinds, owners, next, peer, kind, network) {
+            if next < n {
+                break Lookup::At(next);
+            }
+            break Lookup::Refused(Drop::Binding);
+        }
+        i += 2;
     };
     found
 }

@@ -5,6 +5,7 @@ ghost use Rattle.endpoint.specs.Config.{tickOf};
 ghost use Rattle.endpoint.specs.Demand1.{TickRule};
 use crate::answer::Tick;
 use crate::config::Endpoint;
+use reassembly::number::PEERS;
 use reassembly::tick::tick_row;
 
 // What a tick gives.
@@ -19,7 +20,7 @@ pub fn tick(e: Endpoint) -> TickResult
 {
     let mut next = e;
     let mut p: usize = 0;
-    while p < 8 {
+    while p < PEERS {
         let row = next.peers[p];
         next.peers[p] = tick_row(row);
         p += 1;

@@ -9,14 +9,22 @@ ghost use Rattle.wire.specs.Table.{numbered};
 ghost use Rattle.endpoint.specs.Table.{wrapRows};
 ghost use Rattle.endpoint.specs.Demand1.{WrapRule};
 ghost use Rattle.endpoint.specs.Config.{lent};
-ghost use Rattle.endpoint.specs.Wrap.{segmentsOf, exceeds, wrapOf};
-ghost use Rattle.endpoint.specs.Laws.WrapExits.{packetOn, Put, pieceOf, sendOf};
+ghost use Rattle.endpoint.specs.Wrap.{segmentsOf, exceeds, wrapOf, packetOn, sendOf, Put, pieceOf};
 use crate::answer::Packet;
 use crate::answer::WrapRefusal;
 use crate::answer::Wrapped;
 use crate::config::Endpoint;
+use crate::number::BINDINGS;
+use crate::number::OWNERS;
 use crate::search::least;
+use reassembly::number::PEERS;
 use wire::frame::FrameRead;
+use wire::number::KIND_NVGRE;
+use wire::number::KIND_VXLAN;
+use wire::number::NVGRE_OVERHEAD;
+use wire::number::SEGMENT_OVERHEAD;
+use wire::number::STT_HEADER;
+use wire::number::VXLAN_OVERHEAD;
 use wire::write;
 
 // The way out on a binding: its kind and network, from whom and to whom, the STT port, and the MTU.
@@ -35,11 +43,11 @@ fn exceeds(kind: u8, n: usize, mtu: u16) -> bool
     ensures { λ r. ⌜ r ≡ exceeds kind n mtu ⌝ }
 {
     let most = mtu as usize;
-    if kind == 1 {
-        return most < 36 + n;
+    if kind == KIND_VXLAN {
+        return most < VXLAN_OVERHEAD + n;
     }
-    if kind == 2 {
-        return most < 28 + n;
+    if kind == KIND_NVGRE {
+        return most < NVGRE_OVERHEAD + n;
     }
     false
 }
@@ -49,18 +57,18 @@ fn segments_of(kind: u8, n: usize, mtu: u16) -> usize
     requires { ⌜ n ≤ 1514 ⌝ }
     ensures { λ r. ⌜ r ≡ segmentsOf kind n mtu ⌝ }
 {
-    if kind == 1 {
+    if kind == KIND_VXLAN {
         return 1;
     }
-    if kind == 2 {
+    if kind == KIND_NVGRE {
         return 1;
     }
     let most = mtu as usize;
-    if most <= 40 {
+    if most <= SEGMENT_OVERHEAD {
         return 0;
     }
-    let capacity = most - 40;
-    (18 + n + capacity - 1) / capacity
+    let capacity = most - SEGMENT_OVERHEAD;
+    (STT_HEADER + n + capacity - 1) / capacity
 }
 
 // Segment number `segment` of the frame's STT frame, which is cut at every `capacity` bytes. That it begins within the frame keeps the product small.
@@ -79,7 +87,7 @@ fn put_segment(
     requires { ⌜ (14 ≤ length (now frame)) × (length (now frame) ≤ 1514) × (capacity ≤ 65535) × (segment * capacity < 18 + length (now frame)) ⌝ }
     ensures { λ r. ⌜ Put (pieceOf own peer port context identifier capacity segment last (now (frame .entry))) (now (out .entry)) (now (out .exit)) r ⌝ }
 {
-    let size = 18 + frame.len();
+    let size = STT_HEADER + frame.len();
     let start = segment * capacity;
     let end = least(size, start + capacity);
     write::segment(
@@ -105,15 +113,16 @@ fn put_packet(
     identifier: u32,
     frame: &[u8],
 ) -> usize
-    requires { ⌜ (14 ≤ length (now frame)) × (length (now frame) ≤ 1514) × (segments ≡ segmentsOf (route .kind) (length (now frame)) (route .mtu)) × (segment < segments) ⌝ }
+    requires { ⌜ (14 ≤ length (now frame)) × (length (now frame) ≤ 1514) × (segments ≡ segmentsOf (route .kind) (length (now frame)) (route .mtu))
+        × (segment < segments) ⌝ }
     ensures { λ r. ⌜ Put (packetOn route (now (frame .entry)) segment identifier) (now (out .entry)) (now (out .exit)) r ⌝ }
 {
     let kind = route.kind;
     let low = (route.network % 4294967296) as u32;
-    if kind == 1 {
+    if kind == KIND_VXLAN {
         return write::vxlan(out, route.own, route.peer, low, frame);
     }
-    if kind == 2 {
+    if kind == KIND_NVGRE {
         return write::nvgre(out, route.own, route.peer, low, frame);
     }
     put_segment(
@@ -123,7 +132,7 @@ fn put_packet(
         route.port,
         route.network,
         identifier,
-        route.mtu as usize - 40,
+        route.mtu as usize - SEGMENT_OVERHEAD,
         segment,
         segment + 1 == segments,
         frame,
@@ -159,10 +168,10 @@ fn send(route: Route, frame: &[u8], segment: usize, identifier: u32, output: &mu
 
 // Wraps for the endpoint whose columns and settings are lent: the binding is looked up by its number.
 pub fn wrap_on<'a>(
-    networks: &'a [u64; 64],
-    kinds: &'a [u8; 64],
-    owners: &'a [u8; 64],
-    addresses: &'a [u32; 8],
+    networks: &'a [u64; BINDINGS],
+    kinds: &'a [u8; BINDINGS],
+    owners: &'a [u8; BINDINGS],
+    addresses: &'a [u32; PEERS],
     own: u32,
     port: u16,
     mtu: u16,
@@ -173,15 +182,18 @@ pub fn wrap_on<'a>(
     identifier: u32,
     output: &mut [u8],
 ) -> Wrapped
-    ensures { λ r. ⌜ r ≡ wrapOf (lent (now (networks .entry)) (now (kinds .entry)) (now (owners .entry)) [] (now (addresses .entry)) own port mtu 0 «binding_count») binding (now (frame .entry)) segment identifier (now (output .entry)) .answer ⌝ }
-    ensures { λ _. ⌜ now (output .exit) ≡ wrapOf (lent (now (networks .entry)) (now (kinds .entry)) (now (owners .entry)) [] (now (addresses .entry)) own port mtu 0 «binding_count») binding (now (frame .entry)) segment identifier (now (output .entry)) .output ⌝ }
+    ensures { λ r. ⌜ r ≡ wrapOf (lent (now (networks .entry)) (now (kinds .entry)) (now (owners .entry)) [] (now (addresses .entry)) own port mtu 0
+        «binding_count») binding (now (frame .entry)) segment identifier (now (output .entry)) .answer ⌝ }
+    ensures { λ _. ⌜ now (output .exit) ≡ wrapOf
+        (lent (now (networks .entry)) (now (kinds .entry)) (now (owners .entry)) [] (now (addresses .entry)) own port mtu 0 «binding_count») binding
+        (now (frame .entry)) segment identifier (now (output .entry)) .output ⌝ }
 {
     let b = binding as usize;
-    if least(binding_count as usize, 64) <= b {
+    if least(binding_count as usize, BINDINGS) <= b {
         return Wrapped::Refused(WrapRefusal::Binding);
     }
     let owner = owners[b];
-    if 8 <= owner {
+    if OWNERS <= owner {
         return Wrapped::Refused(WrapRefusal::Binding);
     }
     let p = owner as usize;

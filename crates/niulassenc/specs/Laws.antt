@@ -1,4 +1,4 @@
 -- What stands here is there for proofs.
 pub mod Config
-pub mod Cut
+pub mod Receive
 pub mod Wrap

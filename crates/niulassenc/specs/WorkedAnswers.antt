@@ -1,15 +1,17 @@
--- The answers as they cross to C, computed: each case of the endpoint's answers beside its flat struct. Every value is another number, so that no two of
--- them can change places unseen: tenant and binding, start and length, length and segments.
+-- The answers as they cross to C, computed: each case of the endpoint's answers beside its flat struct, for all numbers that it carries; and the part that
+-- a place names.
 -- Assumes nothing.
-use Prim.Native.Nat.{ℕ}
+use Prim.Native.Nat.{ℕ, _+_, _<_, _≤_}
 use mathlib.Core.Path.{_≡_, refl}
-use mathlib.Core.Bool.{true, false}
+use mathlib.Core.Bool.{Bool, true, false, cond}
 use mathlib.Core.List.{[], _∷_, map}
+use borrow.Author.Tests.{lt-leb, le-leb}
 use Rattle.wire.specs.declared.refusal.Refusal.{Refusal}
 use Rattle.wire.specs.declared.refusal.Refusal.the-variants as F
 use Rattle.reassembly.specs.declared.take.Rejection.{Rejection}
 use Rattle.reassembly.specs.declared.take.Rejection.the-variants as J
 use Rattle.endpoint.specs.Answer.{valuesOf, wrapValuesOf}
+use Rattle.endpoint.specs.View.{cutWithin, cutOf}
 use Rattle.endpoint.specs.declared.answer.Drop.{Drop}
 use Rattle.endpoint.specs.declared.answer.Drop.the-variants as D
 use Rattle.endpoint.specs.declared.answer.Received.the-variants as R
@@ -22,6 +24,7 @@ use Rattle.endpoint.specs.declared.answer.WrapRefusal.the-variants as X
 use Rattle.endpoint.specs.declared.answer.Wrapped.the-variants as Y
 use Rattle.endpoint.specs.declared.config.Endpoint.{Endpoint}
 use Rattle.niulassenc.specs.Answer.{flatOf, additionOf, startedOf, writingOf}
+use Rattle.niulassenc.specs.Cut.{cutAt}
 use Rattle.niulassenc.specs.declared.answer.Receipt.{Receipt}
 use Rattle.niulassenc.specs.declared.answer.Addition.{Addition}
 use Rattle.niulassenc.specs.declared.answer.Writing.{Writing}
@@ -47,11 +50,10 @@ notWritten r = writingOf (wrapValuesOf (Y.Refused r))
 
 -- THE STATEMENT
 pub record WorkedAnswers : Type 0 where
-  -- a receive: 0 with its values, from the memory and from the packet; 1; 2 to 17
-  pub from-memory : flatOf (valuesOf (R.Delivered (record { tenant = 700; binding = 33 }) (record { start = 1746; length = 64; «in_memory» = true })))
-      ≡ record { code = 0; tenant = 700; binding = 33; start = 1746; length = 64; «in_memory» = true }
-  pub from-packet : flatOf (valuesOf (R.Delivered (record { tenant = 5; binding = 2 }) (record { start = 36; length = 14; «in_memory» = false })))
-      ≡ record { code = 0; tenant = 5; binding = 2; start = 36; length = 14; «in_memory» = false }
+  -- a receive: 0 with its values; 1; 2 to 17
+  pub delivered : (tenant binding start length : ℕ) (inMemory : Bool)
+      → flatOf (valuesOf (R.Delivered (record { tenant = tenant; binding = binding }) (record { start = start; length = length; «in_memory» = inMemory })))
+      ≡ record { code = 0; tenant = tenant; binding = binding; start = start; length = length; «in_memory» = inMemory }
   pub pending : flatOf (valuesOf R.Pending) ≡ refusal 1
   pub drops : map dropped (D.Memory ∷ D.Destination ∷ D.Peer ∷ D.Binding ∷ []) ≡ map refusal (2 ∷ 6 ∷ 7 ∷ 12 ∷ [])
   pub outer-headers : map broken (F.Truncated ∷ F.Version ∷ F.HeaderLength ∷ F.TotalLength ∷ F.HeaderChecksum ∷ F.Fragment ∷ [])
@@ -66,11 +68,12 @@ pub record WorkedAnswers : Type 0 where
   -- start and adding: 0 with the number of the new entry; 18 to 20
   pub started : (e : Endpoint) → startedOf (record { endpoint = e; answer = S.Done }) ≡ record { endpoint = e; code = 0 }
   pub not-started : (e : Endpoint) → startedOf (record { endpoint = e; answer = S.Refused C.OutOfRange }) ≡ record { endpoint = e; code = 18 }
-  pub added : additionOf (A.Number 6) ≡ record { code = 0; number = 6 }
+  pub added : (n : ℕ) → additionOf (A.Number n) ≡ record { code = 0; number = n }
   pub not-added : map notAdded (C.OutOfRange ∷ C.AlreadyListed ∷ C.Full ∷ [])
       ≡ record { code = 18; number = 65535 } ∷ record { code = 19; number = 65535 } ∷ record { code = 20; number = 65535 } ∷ []
   -- writing: 0 with the packet's length and the number of segments; 13, 21 to 23
-  pub written : writingOf (wrapValuesOf (Y.Written (record { length = 576; segments = 3 }))) ≡ record { code = 0; length = 576; segments = 3 }
+  pub written : (length segments : ℕ)
+      → writingOf (wrapValuesOf (Y.Written (record { length = length; segments = segments }))) ≡ record { code = 0; length = length; segments = segments }
   pub not-written : map notWritten (X.Binding ∷ X.Frame ∷ X.Mtu ∷ X.Segment ∷ X.Output ∷ [])
       ≡ record { code = 23; length = 0; segments = 0 }
       ∷ record { code = 13; length = 0; segments = 0 }
@@ -78,11 +81,27 @@ pub record WorkedAnswers : Type 0 where
       ∷ record { code = 23; length = 0; segments = 0 }
       ∷ record { code = 21; length = 0; segments = 0 }
       ∷ []
+  -- the part to cut: a place that fits its slice, as it is; of one that does not, the empty part at the packet's start
+  pub cut-fits : (packetLength memoryLength start length : ℕ) (inMemory : Bool) → start + length ≤ cond inMemory memoryLength packetLength
+      → cutAt packetLength memoryLength start length inMemory ≡ record { start = start; length = length; «in_memory» = inMemory }
+  pub cut-past : (packetLength memoryLength start length : ℕ) (inMemory : Bool) → cond inMemory memoryLength packetLength < start + length
+      → cutAt packetLength memoryLength start length inMemory ≡ record { start = 0; length = 0; «in_memory» = false }
+
+fits : (p m start length : ℕ) (inMemory : Bool) → start + length ≤ cond inMemory m p
+    → cutAt p m start length inMemory ≡ record { start = start; length = length; «in_memory» = inMemory }
+unfolding cutOf cutWithin
+fits p m start length true h = rw (le-leb (start + length) m h)
+fits p m start length false h = rw (le-leb (start + length) p h)
+
+past : (p m start length : ℕ) (inMemory : Bool) → cond inMemory m p < start + length
+    → cutAt p m start length inMemory ≡ record { start = 0; length = 0; «in_memory» = false }
+unfolding cutOf cutWithin
+past p m start length true h = rw (lt-leb (start + length) m h)
+past p m start length false h = rw (lt-leb (start + length) p h)
 
 pub worked-answers : WorkedAnswers
 worked-answers = record {
-  from-memory = refl;
-  from-packet = refl;
+  delivered = λ tenant binding start length inMemory. refl;
   pending = refl;
   drops = refl;
   outer-headers = refl;
@@ -92,8 +111,10 @@ worked-answers = record {
   segments = refl;
   started = λ e. refl;
   not-started = λ e. refl;
-  added = refl;
+  added = λ n. refl;
   not-added = refl;
-  written = refl;
+  written = λ length segments. refl;
   not-written = refl;
+  cut-fits = fits;
+  cut-past = past;
 }

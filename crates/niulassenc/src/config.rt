@@ -7,6 +7,8 @@ use crate::answer::flat_added;
 use endpoint::code;
 use endpoint::config;
 use endpoint::config::Endpoint;
+use endpoint::number::BINDINGS;
+use reassembly::number::PEERS;
 
 // What a start gives. A refused one gives an endpoint with every number 0.
 #[repr(C)]
@@ -32,7 +34,7 @@ pub extern "C" fn niulassenc_start(own: u32, port: u32, mtu: u32) -> Started
 
 // The adding calls over the columns that they change, with the answer as C has it: the two below only lend the endpoint's fields on.
 pub(crate) fn peer_added(
-    addresses: &mut [u32; 8],
+    addresses: &mut [u32; PEERS],
     count: &mut u16,
     own: u32,
     port: u16,
@@ -47,10 +49,10 @@ pub(crate) fn peer_added(
 }
 
 pub(crate) fn binding_added(
-    networks: &mut [u64; 64],
-    kinds: &mut [u8; 64],
-    owners: &mut [u8; 64],
-    tenants: &mut [u16; 64],
+    networks: &mut [u64; BINDINGS],
+    kinds: &mut [u8; BINDINGS],
+    owners: &mut [u8; BINDINGS],
+    tenants: &mut [u16; BINDINGS],
     count: &mut u16,
     peer_count: u16,
     peer: u32,

@@ -9,6 +9,7 @@ ghost use Rattle.niulassenc.specs.Receive.{outcomeOf};
 use crate::answer::Receipt;
 use crate::answer::flat_received;
 use endpoint::config::Endpoint;
+use endpoint::number::BINDINGS;
 use endpoint::receive;
 use endpoint::receive::Arrival;
 use reassembly::slot::Peer;
@@ -22,18 +23,20 @@ pub struct PeerUpdate {
 
 // What becomes of a packet that was opened, with the answer as C has it.
 pub(crate) fn flat_settled<'a>(
-    networks: &'a [u64; 64],
-    kinds: &'a [u8; 64],
-    owners: &'a [u8; 64],
-    tenants: &'a [u16; 64],
+    networks: &'a [u64; BINDINGS],
+    kinds: &'a [u8; BINDINGS],
+    owners: &'a [u8; BINDINGS],
+    tenants: &'a [u16; BINDINGS],
     binding_count: u16,
     arrival: Arrival,
     row: Peer,
     packet: &[u8],
     memory: &mut [u8],
 ) -> PeerUpdate
-    ensures { λ r. ⌜ (r ≡ outcomeOf (settleOf (now (networks .entry)) (now (kinds .entry)) (now (owners .entry)) (now (tenants .entry)) (min «binding_count» 64) arrival row (now (packet .entry)) (now (memory .entry))))
-        × (now (memory .exit) ≡ settleOf (now (networks .entry)) (now (kinds .entry)) (now (owners .entry)) (now (tenants .entry)) (min «binding_count» 64) arrival row (now (packet .entry)) (now (memory .entry)) .mem) ⌝ }
+    ensures { λ r. ⌜ (r ≡ outcomeOf (settleOf (now (networks .entry)) (now (kinds .entry)) (now (owners .entry)) (now (tenants .entry))
+        (min «binding_count» 64) arrival row (now (packet .entry)) (now (memory .entry))))
+        × (now (memory .exit) ≡ settleOf (now (networks .entry)) (now (kinds .entry)) (now (owners .entry)) (now (tenants .entry)) (min «binding_count» 64)
+        arrival row (now (packet .entry)) (now (memory .entry)) .mem) ⌝ }
 {
     let peer = arrival.peer;
     let changed = receive::take(row, arrival, packet, memory);
@@ -96,9 +99,10 @@ pub(crate) fn settled(
     )
 }
 
-// The receive as far as it only reads the endpoint: it gives the row that is to be put back.
+// The receive as far as it only reads the endpoint: it gives the peer record that is to be put back.
 pub(crate) fn received(endpoint: &Endpoint, packet: &[u8], memory: &mut [u8]) -> PeerUpdate
-    ensures { λ r. ⌜ (r ≡ outcomeOf (stepOf (now (endpoint .entry)) (now (memory .entry)) (now (packet .entry)))) × (now (memory .exit) ≡ stepOf (now (endpoint .entry)) (now (memory .entry)) (now (packet .entry)) .mem) ⌝ }
+    ensures { λ r. ⌜ (r ≡ outcomeOf (stepOf (now (endpoint .entry)) (now (memory .entry)) (now (packet .entry))))
+        × (now (memory .exit) ≡ stepOf (now (endpoint .entry)) (now (memory .entry)) (now (packet .entry)) .mem) ⌝ }
 {
     let arrival = opened(endpoint, packet, memory.len());
     let p = arrival.peer;

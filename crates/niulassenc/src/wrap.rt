@@ -8,14 +8,16 @@ ghost use Rattle.niulassenc.specs.Answer.{writingOf};
 use crate::answer::Writing;
 use crate::answer::flat_wrapped;
 use endpoint::config::Endpoint;
+use endpoint::number::BINDINGS;
 use endpoint::wrap;
+use reassembly::number::PEERS;
 
 // The wrap with its answer as C has it: the work of `niulassenc_wrap`, which only lends the endpoint's columns on.
 pub(crate) fn wrapped<'a>(
-    networks: &'a [u64; 64],
-    kinds: &'a [u8; 64],
-    owners: &'a [u8; 64],
-    addresses: &'a [u32; 8],
+    networks: &'a [u64; BINDINGS],
+    kinds: &'a [u8; BINDINGS],
+    owners: &'a [u8; BINDINGS],
+    addresses: &'a [u32; PEERS],
     own: u32,
     port: u16,
     mtu: u16,
@@ -26,8 +28,11 @@ pub(crate) fn wrapped<'a>(
     identifier: u32,
     output: &mut [u8],
 ) -> Writing
-    ensures { λ r. ⌜ (r ≡ writingOf (wrapValuesOf (wrapOf (lent (now (networks .entry)) (now (kinds .entry)) (now (owners .entry)) [] (now (addresses .entry)) own port mtu 0 «binding_count») binding (now (frame .entry)) segment identifier (now (output .entry)) .answer)))
-        × (now (output .exit) ≡ wrapOf (lent (now (networks .entry)) (now (kinds .entry)) (now (owners .entry)) [] (now (addresses .entry)) own port mtu 0 «binding_count») binding (now (frame .entry)) segment identifier (now (output .entry)) .output) ⌝ }
+    ensures { λ r. ⌜ (r ≡ writingOf (wrapValuesOf
+        (wrapOf (lent (now (networks .entry)) (now (kinds .entry)) (now (owners .entry)) [] (now (addresses .entry)) own port mtu 0 «binding_count») binding
+        (now (frame .entry)) segment identifier (now (output .entry)) .answer)))
+        × (now (output .exit) ≡ wrapOf (lent (now (networks .entry)) (now (kinds .entry)) (now (owners .entry)) [] (now (addresses .entry)) own port mtu 0
+        «binding_count») binding (now (frame .entry)) segment identifier (now (output .entry)) .output) ⌝ }
 {
     let answer = wrap::wrap_on(
         networks,
@@ -58,7 +63,8 @@ pub extern "C" fn niulassenc_wrap(
     identifier: u32,
     output: &mut [u8],
 ) -> Writing
-    ensures { λ r. ⌜ (r ≡ writingOf (wrapValuesOf (wrapOf (now (endpoint .entry)) binding (now (frame .entry)) segment identifier (now (output .entry)) .answer)))
+    ensures { λ r. ⌜ (r ≡ writingOf (wrapValuesOf
+        (wrapOf (now (endpoint .entry)) binding (now (frame .entry)) segment identifier (now (output .entry)) .answer)))
         × (now (output .exit) ≡ wrapOf (now (endpoint .entry)) binding (now (frame .entry)) segment identifier (now (output .entry)) .output) ⌝ }
 {
     wrapped(

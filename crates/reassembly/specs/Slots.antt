@@ -49,12 +49,22 @@ noteOf s = noNote
 abbrev pub noRow : Peer
 noRow = record { slots = [] }
 
--- a row with every slot free; the eight rows that a set-up leaves
+-- how many peers may be listed, and how many frames of a peer may be pending
+abbrev pub mostPeers : ℕ
+mostPeers = 8
+
+abbrev pub mostSlots : ℕ
+mostSlots = 4
+
+-- a row with every slot free, a peer record with it, and the eight of them that a set-up leaves
 abbrev pub emptyRow : List Slot
-emptyRow = replicate 4 free
+emptyRow = replicate mostSlots free
+
+abbrev pub freePeer : Peer
+freePeer = record { slots = emptyRow }
 
 abbrev pub emptyRows : List Peer
-emptyRows = replicate 8 (record { slots = emptyRow })
+emptyRows = replicate mostPeers freePeer
 
 -- the age at which a pending frame is given up
 abbrev pub lifetime : ℕ

@@ -7,8 +7,8 @@ use lib.ListN.{length, getD, set, replicate}
 use lib.Seq.{sets}
 use lib.Dec.{ltb, leb, eqb}
 use lib.Bits.{bitOr}
-use Rattle.reassembly.specs.Slots.{Peer, noNote, free}
-use Rattle.reassembly.specs.Take.{Ops, Seg, NoMemory, Effect, takeSegment, complete, Complete, Pending}
+use Rattle.reassembly.specs.Slots.{Peer, noNote, free, mostPeers}
+use Rattle.reassembly.specs.Take.{Ops, Seg, NoMemory, Effect, slotNo, takeSegment, complete, Complete, Pending}
 use Rattle.reassembly.specs.declared.take.Taken.{Taken}
 
 -- bit j of the number x
@@ -26,17 +26,27 @@ unfoldable pub setBits : List ℕ → ℕ → ℕ → ℕ → List ℕ
 setBits m b a zero = m
 setBits m b a (suc n) = setBit (setBits m b a n) b (a + n)
 
--- slot k: its first byte, and its map's
-unfoldable pub slotStart : ℕ → ℕ
-slotStart k = k * 1728
+-- the bytes of a slot, of the frame in it, of its map, and of the slots of all peers
+abbrev pub slotSize : ℕ
+slotSize = 1728
 
-unfoldable pub mapStart : ℕ → ℕ
-mapStart k = k * 1728 + 1536
+abbrev pub frameSize : ℕ
+frameSize = 1536
 
--- the map's bytes, and a map that is cleared: all of them (document 01: "with its map cleared")
 abbrev pub mapSize : ℕ
 mapSize = 192
 
+abbrev pub memorySize : ℕ
+memorySize = 55296
+
+-- slot k: its first byte, and its map's
+unfoldable pub slotStart : ℕ → ℕ
+slotStart k = k * slotSize
+
+unfoldable pub mapStart : ℕ → ℕ
+mapStart k = k * slotSize + frameSize
+
+-- a map that is cleared: all of it (document 01: "with its map cleared")
 abbrev pub zeros : List ℕ
 zeros = replicate mapSize 0
 
@@ -54,11 +64,11 @@ unfoldable pub byteAt : List ℕ → ℕ → ℕ → ℕ
 byteAt m k i = getD m (slotStart k + i) 0
 
 abbrev pub bytesOf : Ops
-bytesOf = record { S = List ℕ; Ok = λ m. 55296 ≤ length m; received = receivedAt; byte = byteAt; clear = clearAt; put = putAt }
+bytesOf = record { S = List ℕ; Ok = λ m. memorySize ≤ length m; received = receivedAt; byte = byteAt; clear = clearAt; put = putAt }
 
 -- the slots of this peer lie in the memory
 unfoldable pub hasSlots : ℕ → List ℕ → Bool
-hasSlots p m = ltb p 8 && leb 55296 (length m)
+hasSlots p m = ltb p mostPeers && leb memorySize (length m)
 
 -- what `take` gives for any row, peer, memory and segment. Where the peer's slots do not lie in the memory nothing is touched
 unfoldable pub takeIn : ℕ → Peer → List ℕ → Seg → Effect bytesOf
@@ -70,6 +80,6 @@ takenOf e = record { row = e .row; outcome = e .outcome }
 
 unfoldable pub finished : ℕ → ℕ → Peer → List ℕ → ℕ → Taken
 finished p s row m n =
-    cond (complete bytesOf m (4 * p + s) n)
+    cond (complete bytesOf m (slotNo p s) n)
     (record { row = record { slots = set (row .slots) s free }; outcome = Complete s })
     (record { row = row; outcome = Pending })

@@ -13,7 +13,7 @@ pub use Rattle.reassembly.specs.declared.take.Rejection.the-variants.{Em
 pub use Rattle.reassembly.specs.declared.take.Outcome.{Outcome}
 pub use Rattle.reassembly.specs.declared.take.Outcome.the-variants.{Rejected, Pending, Complete, NoMemory}
 use Rattle.reassembly.specs.Base.{someBelow, allBelow, table}
-use Rattle.reassembly.specs.Slots.{Slot, Peer, Note, Mark, noNote, noMark, noted, noteOf, free, pendingSlot, first, bears, isFree}
+use Rattle.reassembly.specs.Slots.{Slot, Peer, mostSlots, Note, Mark, noNote, noMark, noted, noteOf, free, pendingSlot, first, bears, isFree}
 use Rattle.reassembly.specs.declared.take.Decision.{Decision}
 use Rattle.reassembly.specs.declared.take.Decision.the-variants.{Reject, Further, Open}
 
@@ -36,6 +36,13 @@ rejectionCode PastEnd = 14
 rejectionCode OtherLength = 15
 rejectionCode AlreadyReceived = 16
 rejectionCode NoSlot = 17
+
+-- a frame's bounds
+abbrev pub leastLength : ℕ
+leastLength = 32
+
+abbrev pub mostLength : ℕ
+mostLength = 1532
 
 -- check 14 passes
 pub record Fits (g : Seg) : Type 0 where
@@ -73,7 +80,7 @@ choose row g (some s) = cond (eqb (getD row s free .«frame_length») (g .frame-
 unfoldable pub chosen : List Slot → Seg → Choice
 chosen row g =
     cond (eqb (length (g .bytes)) 0) (reject Empty)
-    (cond (ltb (g .frame-length) 32 || ltb 1532 (g .frame-length)) (reject FrameLength)
+    (cond (ltb (g .frame-length) leastLength || ltb mostLength (g .frame-length)) (reject FrameLength)
     (cond (ltb (g .frame-length) (g .offset + length (g .bytes))) (reject PastEnd)
     (choose row g (first (bears (g .identifier)) row))))
 
@@ -102,7 +109,7 @@ decisionOf (fresh s) = Open s
 
 -- slot s of peer p, among the 32
 abbrev pub slotNo : ℕ → ℕ → ℕ
-slotNo p s = 4 * p + s
+slotNo p s = mostSlots * p + s
 
 -- how many bytes of a segment check 16 looks at: all
 abbrev pub testedBytes : Seg → ℕ

@@ -6,6 +6,7 @@ ghost use Prim.Native.Nat.{_+_, _-_, _≤_, _^_};
 ghost use lib.ListN.{length, drop, replicate};
 ghost use Rattle.reassembly.specs.Base.{someBelow, allBelow};
 ghost use Rattle.reassembly.specs.Store.{setBits, bitAt};
+use crate::number::MAP_BYTES;
 
 // The mask of bits lo up to, not including, hi of a byte. A bit is shifted in 32 bits, since hi may be 8.
 pub(crate) fn mask(lo: usize, hi: usize) -> u8
@@ -23,7 +24,7 @@ pub(crate) fn clear(map: &mut [u8])
     ensures { λ _. ⌜ now (map .exit) ≡ replicate 192 0 ++ drop 192 (now (map .entry)) ⌝ }
 {
     let mut i: usize = 0;
-    while i < 192 {
+    while i < MAP_BYTES {
         map[i] = 0;
         i += 1;
     }

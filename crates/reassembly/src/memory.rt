@@ -5,22 +5,15 @@ ghost use lib.ListN.{length};
 ghost use Rattle.reassembly.specs.Base.{someBelow, allBelow};
 ghost use Rattle.reassembly.specs.Store.{receivedAt, clearAt, putAt};
 use crate::map;
+use crate::number::FRAME_BYTES;
+use crate::number::SLOT_BYTES;
 
-// The bytes of a slot.
-const SLOT: usize = 1728;
-
-// Where a slot's map starts in it.
-const MAP: usize = 1536;
-
-// The bytes of the slots of all eight peers: under this, no segment is taken.
-pub const LEAST: usize = 55296;
-
-// Forgets what slot k received: its whole map. The frame's bytes stay.
+// Forgets what slot k received: all of its map. The frame's bytes stay.
 pub(crate) fn clear(memory: &mut [u8], k: usize)
     requires { ⌜ (k < 32) × (55296 ≤ length (now memory)) ⌝ }
     ensures { λ _. ⌜ now (memory .exit) ≡ clearAt (now (memory .entry)) k ⌝ }
 {
-    let start = k * SLOT + MAP;
+    let start = k * SLOT_BYTES + FRAME_BYTES;
     map::clear(&mut memory[start..]);
 }
 
@@ -29,8 +22,8 @@ pub(crate) fn put(memory: &mut [u8], k: usize, offset: usize, bytes: &[u8])
     requires { ⌜ (k < 32) × (offset + length (now bytes) ≤ 1532) × (55296 ≤ length (now memory)) ⌝ }
     ensures { λ _. ⌜ now (memory .exit) ≡ putAt (now (memory .entry)) k offset (now (bytes .entry)) ⌝ }
 {
-    let place = k * SLOT + offset;
-    let start = k * SLOT + MAP;
+    let place = k * SLOT_BYTES + offset;
+    let start = k * SLOT_BYTES + FRAME_BYTES;
     bytes::copy(bytes, &mut memory[place..]);
     map::set_bits(&mut memory[start..], offset, bytes.len());
 }
@@ -40,7 +33,7 @@ pub(crate) fn some_received(memory: &[u8], k: usize, offset: usize, n: usize) ->
     requires { ⌜ (k < 32) × (offset + n ≤ 1532) × (55296 ≤ length (now memory)) ⌝ }
     ensures { λ r. ⌜ r ≡ someBelow n (λ i. receivedAt (now (memory .entry)) k (offset + i)) ⌝ }
 {
-    let start = k * SLOT + MAP;
+    let start = k * SLOT_BYTES + FRAME_BYTES;
     map::any_bit(&memory[start..], offset, n)
 }
 
@@ -49,6 +42,6 @@ pub(crate) fn all_received(memory: &[u8], k: usize, n: usize) -> bool
     requires { ⌜ (k < 32) × (n ≤ 1532) × (55296 ≤ length (now memory)) ⌝ }
     ensures { λ r. ⌜ r ≡ allBelow n (λ i. receivedAt (now (memory .entry)) k i) ⌝ }
 {
-    let start = k * SLOT + MAP;
+    let start = k * SLOT_BYTES + FRAME_BYTES;
     map::all_bits(&memory[start..], n)
 }

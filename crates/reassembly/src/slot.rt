@@ -1,6 +1,7 @@
-// The slots of a peer's row (document 01, "Reassembly memory").
+// The slots of a peer (document 01, "Reassembly memory").
 ghost use mathlib.Core.Path.{_≡_};
-ghost use Rattle.reassembly.specs.Slots.{free, first, bears, isFree, foundOf};
+ghost use Rattle.reassembly.specs.Slots.{free, freePeer, first, bears, isFree, foundOf};
+use crate::number::SLOTS;
 
 // A slot holds a pending frame or is free. The paper leaves open what numbers a free slot has: here they are all 0.
 #[repr(C)]
@@ -11,13 +12,13 @@ pub struct Slot {
     pub pending: bool,
 }
 
-// Each peer has a row of four slots.
+// A peer record: each peer has four slots.
 #[repr(C)]
 pub struct Peer {
-    pub slots: [Slot; 4],
+    pub slots: [Slot; SLOTS],
 }
 
-// The number of a slot in its row.
+// The number of a slot in its peer record.
 pub enum FoundSlot {
     At(usize),
     Nothing,
@@ -31,6 +32,16 @@ pub fn free_slot() -> Slot
         frame_length: 0,
         age: 0,
         pending: false,
+    }
+}
+
+// A peer record with every slot free.
+pub fn free_peer() -> Peer
+    ensures { λ r. ⌜ r ≡ freePeer ⌝ }
+{
+    let slot = free_slot();
+    Peer {
+        slots: [slot; SLOTS],
     }
 }
 
@@ -49,7 +60,7 @@ pub fn find_pending(row: Peer, identifier: u32) -> FoundSlot
     ensures { λ r. ⌜ r ≡ foundOf (first (bears identifier) (row .slots)) ⌝ }
 {
     let mut s: usize = 0;
-    while s < 4 {
+    while s < SLOTS {
         let slot = row.slots[s];
         if bears_identifier(slot, identifier) {
             return FoundSlot::At(s);
@@ -64,7 +75,7 @@ pub fn find_free(row: Peer) -> FoundSlot
     ensures { λ r. ⌜ r ≡ foundOf (first isFree (row .slots)) ⌝ }
 {
     let mut s: usize = 0;
-    while s < 4 {
+    while s < SLOTS {
         let slot = row.slots[s];
         if !slot.pending {
             return FoundSlot::At(s);

@@ -6,6 +6,11 @@ ghost use lib.ListN.{length};
 ghost use Rattle.reassembly.specs.Take.{segOf, chosen, placed, old, fresh, Old, Fresh, decisionOf};
 ghost use Rattle.reassembly.specs.Store.{bytesOf, takeIn, takenOf, finished};
 use crate::memory;
+use crate::number::LENGTH_LEAST;
+use crate::number::LENGTH_MOST;
+use crate::number::MEMORY_BYTES;
+use crate::number::PEERS;
+use crate::number::SLOTS;
 use crate::slot;
 use crate::slot::FoundSlot;
 use crate::slot::Peer;
@@ -22,7 +27,7 @@ pub enum Rejection {
     NoSlot,
 }
 
-// Complete names the slot in its row; the frame lies in the memory. NoMemory: the peer's slots do not lie in the memory.
+// Complete names the slot in its peer record; the frame lies in the memory. NoMemory: the peer's slots do not lie in the memory.
 pub enum Outcome {
     Rejected(Rejection),
     Pending,
@@ -42,18 +47,18 @@ pub(crate) enum Decision {
     Open(usize),
 }
 
-// Takes a segment of this peer's, whose slots are `row`. A rejection changes neither row nor memory.
+// Takes a segment of this peer's, whose record is `row`. A rejection changes neither the record nor the memory.
 pub fn take(row: Peer, peer: usize, segment: Segment, bytes: &[u8], memory: &mut [u8]) -> Taken
     ensures { λ r. ⌜ r ≡ takenOf (takeIn peer row (now (memory .entry)) (segOf segment (now (bytes .entry)))) ⌝ }
     ensures { λ _. ⌜ now (memory .exit) ≡ takeIn peer row (now (memory .entry)) (segOf segment (now (bytes .entry))) .mem ⌝ }
 {
-    if 8 <= peer {
+    if PEERS <= peer {
         return Taken {
             row,
             outcome: Outcome::NoMemory,
         };
     }
-    if memory.len() < memory::LEAST {
+    if memory.len() < MEMORY_BYTES {
         return Taken {
             row,
             outcome: Outcome::NoMemory,
@@ -83,17 +88,17 @@ fn end_of(offset: u16, bytes: &[u8]) -> usize
     offset as usize + bytes.len()
 }
 
-// The checks 14, 15 and 17, in this order. The search is in this peer's row alone: a frame is known by peer and identifier.
+// The checks 14, 15 and 17, in this order. The search is in this peer's record alone: a frame is known by peer and identifier.
 pub(crate) fn decide(row: Peer, segment: Segment, bytes: &[u8]) -> Decision
     ensures { λ r. ⌜ r ≡ decisionOf (chosen (row .slots) (segOf segment (now (bytes .entry)))) ⌝ }
 {
     if bytes.len() == 0 {
         return Decision::Reject(Rejection::Empty);
     }
-    if segment.frame_length < 32 {
+    if segment.frame_length < LENGTH_LEAST {
         return Decision::Reject(Rejection::FrameLength);
     }
-    if 1532 < segment.frame_length {
+    if LENGTH_MOST < segment.frame_length {
         return Decision::Reject(Rejection::FrameLength);
     }
     let end = end_of(segment.offset, bytes);
@@ -128,7 +133,7 @@ fn further(
     ensures { λ r. ⌜ r ≡ takenOf (placed bytesOf peer (row .slots) (now (memory .entry)) (segOf segment (now (bytes .entry))) (old s)) ⌝ }
     ensures { λ _. ⌜ now (memory .exit) ≡ placed bytesOf peer (row .slots) (now (memory .entry)) (segOf segment (now (bytes .entry))) (old s) .mem ⌝ }
 {
-    let k = 4 * peer + s;
+    let k = SLOTS * peer + s;
     let offset = segment.offset as usize;
     if memory::some_received(memory, k, offset, bytes.len()) {
         return Taken {
@@ -153,7 +158,7 @@ fn open(
     ensures { λ r. ⌜ r ≡ takenOf (placed bytesOf peer (row .slots) (now (memory .entry)) (segOf segment (now (bytes .entry))) (fresh s)) ⌝ }
     ensures { λ _. ⌜ now (memory .exit) ≡ placed bytesOf peer (row .slots) (now (memory .entry)) (segOf segment (now (bytes .entry))) (fresh s) .mem ⌝ }
 {
-    let k = 4 * peer + s;
+    let k = SLOTS * peer + s;
     let offset = segment.offset as usize;
     memory::clear(memory, k);
     memory::put(memory, k, offset, bytes);
@@ -172,7 +177,7 @@ fn finish(row: Peer, peer: usize, s: usize, size: u16, memory: &[u8]) -> Taken
     requires { ⌜ (peer < 8) × (s < 4) × (size ≤ 1532) × (55296 ≤ length (now memory)) ⌝ }
     ensures { λ r. ⌜ r ≡ finished peer s row (now (memory .entry)) size ⌝ }
 {
-    if memory::all_received(memory, 4 * peer + s, size as usize) {
+    if memory::all_received(memory, SLOTS * peer + s, size as usize) {
         let mut next = row;
         next.slots[s] = slot::free_slot();
         return Taken {

@@ -83,7 +83,8 @@ fn vxlan_packet(out: &mut [u8], source: u32, destination: u32, vni: u32, frame: 
 
 // A packet that carries the frame over VXLAN (RFC 7348, 5): its length, or 0.
 pub fn vxlan(out: &mut [u8], source: u32, destination: u32, vni: u32, frame: &[u8]) -> usize
-    ensures { λ r. ⌜ Written (fits 36 (length (now (frame .entry))) (length (now (out .entry)))) (vxlanPacket source destination vni (now (frame .entry))) (now (out .entry)) (now (out .exit)) r ⌝ }
+    ensures { λ r. ⌜ Written (fits 36 (length (now (frame .entry))) (length (now (out .entry)))) (vxlanPacket source destination vni (now (frame .entry)))
+        (now (out .entry)) (now (out .exit)) r ⌝ }
 {
     if !frame_fits(VXLAN_OVERHEAD, frame.len(), out.len()) {
         return 0;
@@ -112,7 +113,8 @@ fn nvgre_packet(out: &mut [u8], source: u32, destination: u32, vsid: u32, frame:
 
 // A packet that carries the frame over NVGRE (RFC 7637, 3.2): its length, or 0.
 pub fn nvgre(out: &mut [u8], source: u32, destination: u32, vsid: u32, frame: &[u8]) -> usize
-    ensures { λ r. ⌜ Written (fits 28 (length (now (frame .entry))) (length (now (out .entry)))) (nvgrePacket source destination vsid (now (frame .entry))) (now (out .entry)) (now (out .exit)) r ⌝ }
+    ensures { λ r. ⌜ Written (fits 28 (length (now (frame .entry))) (length (now (out .entry)))) (nvgrePacket source destination vsid (now (frame .entry)))
+        (now (out .entry)) (now (out .exit)) r ⌝ }
 {
     if !frame_fits(NVGRE_OVERHEAD, frame.len(), out.len()) {
         return 0;
@@ -216,7 +218,8 @@ fn segment_body(
     last: bool,
     frame: &[u8],
 )
-    requires { ⌜ (14 ≤ length (now frame)) × (length (now frame) ≤ 65517) × (20 ≤ length (now s)) × (length (now s) ≤ 65535) × (offset + (length (now s) - 20) ≤ 18 + length (now frame)) ⌝ }
+    requires { ⌜ (14 ≤ length (now frame)) × (length (now frame) ≤ 65517) × (20 ≤ length (now s)) × (length (now s) ≤ 65535)
+        × (offset + (length (now s) - 20) ≤ 18 + length (now frame)) ⌝ }
     ensures { λ _. ⌜ now (s .exit) ≡ segmentBody source destination port context identifier offset (length (now (s .entry)) - 20) last (now (frame .entry)) ⌝ }
 {
     let count = s.len() - TCP_HEADER;
@@ -247,8 +250,10 @@ fn segment_packet(
     last: bool,
     frame: &[u8],
 )
-    requires { ⌜ (14 ≤ length (now frame)) × (length (now frame) ≤ 65517) × (offset + count ≤ 18 + length (now frame)) × (40 + count ≤ 65535) × (40 + count ≤ length (now out)) ⌝ }
-    ensures { λ _. ⌜ now (out .exit) ≡ wrote (now (out .entry)) (segmentPacket source destination port context identifier offset count last (now (frame .entry))) ⌝ }
+    requires { ⌜ (14 ≤ length (now frame)) × (length (now frame) ≤ 65517) × (offset + count ≤ 18 + length (now frame)) × (40 + count ≤ 65535)
+        × (40 + count ≤ length (now out)) ⌝ }
+    ensures { λ _. ⌜ now (out .exit) ≡ wrote (now (out .entry))
+        (segmentPacket source destination port context identifier offset count last (now (frame .entry))) ⌝ }
 {
     let end = SEGMENT_OVERHEAD + count;
     let ip = head::ipv4(PROTOCOL_TCP, end as u64, source as u64, destination as u64);
@@ -279,7 +284,8 @@ pub fn segment(
     last: bool,
     frame: &[u8],
 ) -> usize
-    ensures { λ r. ⌜ Written (segmentFits (length (now (frame .entry))) offset count (length (now (out .entry)))) (segmentPacket source destination port context identifier offset count last (now (frame .entry))) (now (out .entry)) (now (out .exit)) r ⌝ }
+    ensures { λ r. ⌜ Written (segmentFits (length (now (frame .entry))) offset count (length (now (out .entry))))
+        (segmentPacket source destination port context identifier offset count last (now (frame .entry))) (now (out .entry)) (now (out .exit)) r ⌝ }
 {
     if !segment_fits(frame.len(), offset, count, out.len()) {
         return 0;

@@ -21,7 +21,8 @@ use Rattle.endpoint.specs.declared.config.Endpoint.{Endpoint}
 use Rattle.endpoint.specs.declared.config.StartResult.{StartResult}
 use Rattle.endpoint.specs.declared.config.AddResult.{AddResult}
 use Rattle.endpoint.specs.Laws.Search.{lowest-none, lowest-is, binds-hit, binds-all}
-use Rattle.endpoint.specs.Config.{freeRow, tickOf, configOf, hasAddress, findPeer, binds, findBinding, isSome, fresh, startChecks, refusedStart, startOf}
+use Rattle.endpoint.specs.Config.{addressAt, freeRow, tickOf, configOf, hasAddress, findPeer, binds, findBinding, isSome, fresh, startChecks}
+use Rattle.endpoint.specs.Config.{refusedStart, startOf}
 use Rattle.endpoint.specs.Config.{addressChecks, refusedAdd, addPeerChecks, withAddress, addPeerOf, isNetwork, addBindingChecks, withBinding}
 use Rattle.endpoint.specs.Config.{addBindingOf, Adding, addPeer, addBinding, added, addedAll, setUp}
 use Rattle.endpoint.specs.Laws.ConfigExits.{peerAdded, bindingAdded, add-binding-exit}
@@ -77,10 +78,6 @@ unfolding configOf tickOf
 config-tick e = refl
 
 -- ---- set-ups
-
--- the address of peer number i
-unfoldable pub addressAt : Endpoint → ℕ → ℕ
-addressAt e i = getD (e .addresses) i 0
 
 -- what holds of every set-up
 pub record Valid (e : Endpoint) : Type 0 where

@@ -46,7 +46,6 @@ use Rattle.endpoint.specs.Config.{Config, configOf, binds, fresh, startC
 use Rattle.endpoint.specs.Config.{addBindingChecks, withBinding, addBindingOf, tickOf}
 use Rattle.endpoint.specs.Laws.Config.{cases, rows-tick}
 use Rattle.endpoint.specs.Laws.ConfigExits.{peerAdded, bindingAdded}
-use Rattle.endpoint.specs.Laws.View.{view-rule}
 use Rattle.endpoint.specs.Receive.{answers, byBinding, innerFrom, byStt, sttFrom, headerOf, judgeOf, Step, rowAt, stepped, stepOf, withRow}
 use Rattle.endpoint.specs.Laws.Formats.{segment-sound, segment-complete}
 use Rattle.endpoint.specs.Wrap.{Wrote, wrapChecks, refusedWrap, wrapOf, packetAt}
@@ -62,7 +61,7 @@ use Rattle.endpoint.specs.declared.answer.WrapRefusal.the-variants as X
 use Rattle.endpoint.specs.declared.config.Endpoint.{Endpoint}
 use Rattle.endpoint.specs.declared.config.StartResult.{StartResult}
 use Rattle.endpoint.specs.Demand1.{_among_, slotAt, Entered, SameConfiguration, Blank, StartRule, PeerAdded, BindingAdded, AddRule, Empties, Unchanged}
-use Rattle.endpoint.specs.Demand1.{FoundBad, ReceiveRule, TickRule, WrapRule, Demand1}
+use Rattle.endpoint.specs.Demand1.{FoundBad, ReceiveRule, TickRule, WrapRule}
 
 -- ---- start. Each of its checks refuses by 18
 
@@ -96,7 +95,7 @@ blank own port mtu = record {
   slots = refl;
 }
 
-start-rule : (own port mtu : ℕ) → StartRule own port mtu (startOf own port mtu)
+pub start-rule : (own port mtu : ℕ) → StartRule own port mtu (startOf own port mtu)
 unfolding startOf startChecks
 start-rule own port mtu =
     start-by (StartRule own port mtu) (startChecks own port mtu) (record { endpoint = fresh own port mtu; answer = S.Done }) refl
@@ -136,7 +135,7 @@ peer-added e address = record {
   refused = λ d. absurd (d refl);
 }
 
-add-peer-rule : (e : Endpoint) (address : ℕ) → AddRule e (PeerAdded e address) (addPeerOf e address)
+pub add-peer-rule : (e : Endpoint) (address : ℕ) → AddRule e (PeerAdded e address) (addPeerOf e address)
 unfolding addPeerOf
 add-peer-rule e address =
     cases (AddRule e (PeerAdded e address)) (refusedAdd e) (addPeerChecks e address) (peerAdded e address)
@@ -161,7 +160,7 @@ module _ (e : Endpoint) (peer kind network tenant : ℕ) where
     refused = λ d. absurd (d refl);
   }
 
-  add-binding-rule : AddRule e (BindingAdded e peer kind network tenant) (addBindingOf e peer kind network tenant)
+  pub add-binding-rule : AddRule e (BindingAdded e peer kind network tenant) (addBindingOf e peer kind network tenant)
   unfolding addBindingOf
   add-binding-rule =
       cases (AddRule e (BindingAdded e peer kind network tenant)) (refusedAdd e) (addBindingChecks e peer kind network tenant)
@@ -363,7 +362,7 @@ module _ (e : Endpoint) (m k : List ℕ) (p : ℕ) (g : Seg) (h : headerOf (conf
       (λ b. let z : _≡_ {A = Bool} false true = rw b at n in clash (cc (z)))
       (λ b. rw (b, h) (told-bad (takeIn p (rowAt e p) m g .outcome) refl (rw (b, h) at n)))
 
-receive-rule : (e : Endpoint) (m k : List ℕ)
+pub receive-rule : (e : Endpoint) (m k : List ℕ)
     → ReceiveRule e m k (valuesOf (stepOf e m k .answer)) (withRow e (stepOf e m k .peer) (stepOf e m k .row)) (stepOf e m k .mem)
 receive-rule e m k = record {
   number = number-most (stepOf e m k .answer);
@@ -400,7 +399,7 @@ tick-number : (e : Endpoint) → tickCode (tickOf e .answer) ≡ 0
 unfolding tickOf
 tick-number e = refl
 
-tick-rule : (e : Endpoint) → TickRule e (tickCode (tickOf e .answer)) (tickOf e .endpoint)
+pub tick-rule : (e : Endpoint) → TickRule e (tickCode (tickOf e .answer)) (tickOf e .endpoint)
 tick-rule e = record {
   is = tick-number e;
   younger = λ p s a l. slot-older e p s ∙ older-younger (slotAt e p s) a l;
@@ -434,7 +433,7 @@ module _ (e : Endpoint) (b : ℕ) (frame : List ℕ) (segment identifier : ℕ) 
   wrap-refused : (r : WrapRefusal) → Ruled (refusedWrap output r)
   wrap-refused r = record { number = wrap-among r; refused = λ d. (refl, (refl, refl)); size = refl; beyond = λ i l. refl }
 
-  wrap-rule : Ruled (wrapOf e b frame segment identifier output)
+  pub wrap-rule : WrapRule output (wrapValuesOf (wrapOf e b frame segment identifier output .answer)) (wrapOf e b frame segment identifier output .output)
   unfolding wrapOf wrapChecks
   wrap-rule =
       cases Ruled (refusedWrap output) (wrapChecks e b frame segment identifier output) _ wrap-refused
@@ -446,16 +445,3 @@ module _ (e : Endpoint) (b : ℕ) (frame : List ℕ) (segment identifier : ℕ) 
             (ltb-false (length output) (length (packetAt e b frame segment identifier)) (p .1 .1 .1 .1 .1 .0));
         beyond = wrote-beyond output (packetAt e b frame segment identifier);
       })
-
--- ---- the demand
-
-pub demand-one : Demand1
-demand-one = record {
-  start = start-rule;
-  add-peer = add-peer-rule;
-  add-binding = add-binding-rule;
-  receive = receive-rule;
-  tick = tick-rule;
-  view = view-rule;
-  wrap = wrap-rule;
-}

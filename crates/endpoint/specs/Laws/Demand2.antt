@@ -27,6 +27,7 @@ use Rattle.reassembly.specs.Laws.TakeIn.{take-whole, take-length, frame-part}
 use Rattle.reassembly.specs.Receive.{viewOf, Reading, otherSender, direct, segment, Verdict, bad, good, frameAnswer, takeAnswer, Event, receive, tick}
 use Rattle.reassembly.specs.declared.take.Outcome.{Outcome}
 use Rattle.reassembly.specs.declared.take.Outcome.the-variants as O
+use Rattle.reassembly.specs.EveryRun.{IfAndOnlyIf}
 use Rattle.endpoint.specs.Answer.{placeOf}
 use Rattle.endpoint.specs.Config.{Config, configOf, findPeer, Adding, setUp}
 use Rattle.endpoint.specs.Laws.Receive.{slot-view}
@@ -45,10 +46,11 @@ use Rattle.reassembly.specs.SetUp.{World, runs}
 use Rattle.reassembly.specs.History.{taking}
 use Rattle.reassembly.specs.Laws.MadeUp.{complete-gathers, gathers-complete}
 use Rattle.endpoint.specs.Laws.Config.{config-tick}
-use Rattle.endpoint.specs.Calls.{config-row, Left, called, calls, calls-are}
+use Rattle.endpoint.specs.Run.{Left, called, calls}
+use Rattle.endpoint.specs.Laws.Calls.{config-row, calls-are}
 use Rattle.endpoint.specs.Run.{Left, called, calls, left, endsOf}
-use Rattle.endpoint.specs.Demand2.{Delivers, MadeUp, Packets, Demand2}
-use Rattle.endpoint.specs.Laws.Demand3.{demand-three}
+use Rattle.endpoint.specs.Demand2.{Delivers, MadeUp, Packets}
+use Rattle.endpoint.specs.Laws.Demand3.{set-up-every}
 
 -- the packet carries a segment of a listed peer's that makes its frame complete, and the complete frame is good, for the target, and carries the inner frame
 pub record Completes (e : Endpoint) (m k : List ℕ) (t : Target) (frame : List ℕ) : Type 0 where
@@ -279,7 +281,7 @@ module _ (own port mtu : ℕ) (adds : List Adding) (m : List ℕ) (enough : 5529
           let carries : CarriesSegment (configOf e) k (w .p) (w .g) = subst (λ (x : Config). CarriesSegment x k (w .p) (w .g)) config-same (w .carried) in
           let complete : taking answers Config layers (w .p) (runs answers Config layers (worldOf e m) es) (w .g) .outcome ≡ O.Complete (w .slot) =
           subst (λ (x : World Config). taking answers Config layers (w .p) x (w .g) .outcome ≡ O.Complete (w .slot)) world-same (w .complete) in
-          let x = complete-gathers answers Config layers (w .p) (endsOf e) (demand-three own port mtu adds (w .p) p< .every) m enough es k (w .g)
+          let x = complete-gathers answers Config layers (w .p) (endsOf e) (set-up-every own port mtu adds (w .p) p<) m enough es k (w .g)
           (segment-complete (configOf e) k (w .p) (w .g) carries) (w .slot) complete in
           inr (record {
             p = w .p;
@@ -299,7 +301,7 @@ module _ (own port mtu : ℕ) (adds : List Adding) (m : List ℕ) (enough : 5529
   all : CarriesFrame (configOf e) k t frame ⊎ MadeUp e m es k t frame → Delivers (at .endpoint) (at .mem) k t frame
   all (inl w) = complete-packet (at .endpoint) (at .mem) k still-enough packet t frame (subst (λ (x : Config). CarriesFrame x k t frame) (sym config-same) w)
   all (inr w) =
-      let x = gathers-complete answers Config layers (w .p) (endsOf e) (demand-three own port mtu adds (w .p) (w .is-peer) .every) m enough es k (w .g)
+      let x = gathers-complete answers Config layers (w .p) (endsOf e) (set-up-every own port mtu adds (w .p) (w .is-peer)) m enough es k (w .g)
       (segment-complete (configOf e) k (w .p) (w .g) (w .carried)) (w .segments) (w .complete) (w .gathers) (w .makes) in
       let complete : takeIn (w .p) (rowAt (at .endpoint) (w .p)) (at .mem) (w .g) .outcome ≡ O.Complete (x .0) =
       subst (λ (y : World Config). taking answers Config layers (w .p) y (w .g) .outcome ≡ O.Complete (x .0)) (sym world-same) (x .1 .0) in
@@ -317,12 +319,12 @@ module _ (own port mtu : ℕ) (adds : List Adding) (m : List ℕ) (enough : 5529
             (subst (λ (y : Config). GoodFrame y (w .p) (w .complete) t frame) (sym config-same) (w .good-frame));
       })
 
-pub demand-two : (own port mtu : ℕ) (adds : List Adding) → Demand2 (setUp own port mtu adds)
-demand-two own port mtu adds =
+pub receiving : (own port mtu : ℕ) (adds : List Adding) (m : List ℕ) → 55296 ≤ length m → Bytes m → (es : List Event) → Packets es → (k : List ℕ) → Bytes k
+    → (t : Target) (frame : List ℕ)
+    → let e : Endpoint = setUp own port mtu adds in
+    IfAndOnlyIf (Delivers (left e m es .endpoint) (left e m es .mem) k t frame) (CarriesFrame (configOf e) k t frame ⊎ MadeUp e m es k t frame)
+receiving own port mtu adds m enough bytes es packets k packet t frame =
     record {
-      delivers = λ m enough bytes es packets k packet t frame.
-          record {
-            only = only own port mtu adds m enough es k packet t frame (calls-bytes (record { endpoint = setUp own port mtu adds; mem = m }) es bytes packets);
-            all = all own port mtu adds m enough es k packet t frame;
-          };
+      only = only own port mtu adds m enough es k packet t frame (calls-bytes (record { endpoint = setUp own port mtu adds; mem = m }) es bytes packets);
+      all = all own port mtu adds m enough es k packet t frame;
     }

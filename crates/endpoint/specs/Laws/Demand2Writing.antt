@@ -1,14 +1,14 @@
 -- DEMAND 2, writing: the theorem (statement: Demand2Writing).
 -- Assumes nothing.
 use Prim.Native.Nat.{ℕ, zero, suc, _+_, _-_, _*_, _/_, _^_, _<_, _≤_, min}
-use mathlib.Core.Path.{_≡_, sym, ap, ap₂, subst, _∙_}
+use mathlib.Core.Path.{_≡_, refl, sym, ap, ap₂, subst, _∙_}
 use mathlib.Core.Logic.{_⊎_, inl, inr}
 use mathlib.Core.Bool.{Bool, false}
 use mathlib.Core.List.{List, [], _++_, append-nil}
 use native.Mathlib.Omega.{arith}
 use native.Mathlib.Nat.{suc-mul, zero-mul}
 use borrow.Author.Tests.{le-ltb, ltb-false}
-use lib.ListN.{length}
+use lib.ListN.{length, getD}
 use lib.Dec.{eqb}
 use Rattle.wire.specs.Bytes.{part}
 use Rattle.wire.specs.Laws.Bytes.{part-empty}
@@ -24,7 +24,8 @@ use Rattle.endpoint.specs.Config.{configOf}
 use Rattle.endpoint.specs.Wrap.{segmentsOf, segmentSize, packetOf, exceeds, kindAt, networkAt, peerAt, packetAt}
 use Rattle.endpoint.specs.Laws.Wrap.{Says, written-says, written-when, Ready, Listed, ready-listed, ByKind, vxlan, nvgre, stt, by-kind, packet-vxlan}
 use Rattle.endpoint.specs.Laws.Wrap.{packet-nvgre, packet-stt, one-vxlan, one-nvgre, many-stt, starts-within, ends-past}
-use Rattle.endpoint.specs.Reached.{Reached, reached-ready}
+use Rattle.endpoint.specs.Reached.{Reached}
+use Rattle.endpoint.specs.Laws.Reached.{reached-ready}
 use Rattle.endpoint.specs.Demand2Writing.{CarriesWhole, portion, joinedTo, CarriesPart, LaidOutBy, packetLength, Demand2Writing}
 use Rattle.endpoint.specs.declared.answer.Wrapped.the-variants as Y
 use Rattle.endpoint.specs.declared.config.Endpoint.{Endpoint}
@@ -207,6 +208,10 @@ in-mtu kind size mtu k n least (inl a) x = omega (arith, a .1, ltb-false mtu (36
 in-mtu kind size mtu k n least (inr (inl a)) x = omega (arith, a .1, ltb-false mtu (28 + size) (rw (a .0) at x))
 in-mtu kind size mtu k n least (inr (inr a)) x = omega (arith, a .1)
 
+peer-address : (e : Endpoint) (b : ℕ) → peerAt e b ≡ getD (e .addresses) (getD (e .owners) b 0) 0
+unfolding configOf
+peer-address e b = refl
+
 -- ---- THE THEOREM
 
 pub demand-two-writing : (e : Endpoint) (b : ℕ) (frame : List ℕ) → Reached e → b < configOf e .bindings → Demand2Writing e b frame
@@ -217,6 +222,9 @@ demand-two-writing e b frame reached listed =
     let whole : List ℕ = sttFrame (networkAt e b) frame in
     let size : length whole ≡ 18 + length frame = stt-length (networkAt e b) frame in
     record {
+      kind-is = refl;
+      network-is = refl;
+      peer-is = peer-address e b;
       one = λ q. either q (λ x. rw x (one-vxlan (length frame) (e .mtu))) (λ x. rw x (one-nvgre (length frame) (e .mtu)));
       count = λ q. rw q (many-stt (length frame) (e .mtu) (l .mtu-least));
       whole = whole;

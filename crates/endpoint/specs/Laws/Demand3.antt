@@ -1,7 +1,7 @@
--- Demand 3, proved of every set-up.
+-- Demand 3: the claim and the rules of every run, proved of every set-up, and what their words mean.
 -- Assumes nothing.
 use Prim.Native.Nat.{ℕ, _<_}
-use mathlib.Core.Path.{_≡_, refl, sym, ap, subst}
+use mathlib.Core.Path.{_≡_, refl, sym, subst}
 use mathlib.Core.Bool.{Bool, true, false, cond}
 use mathlib.Core.List.{List, []}
 use mathlib.Core.Option.{none, some}
@@ -13,7 +13,6 @@ use Rattle.wire.specs.Ipv4.{ipv4Of}
 use Rattle.wire.specs.Laws.Ipv4 as P
 use Rattle.wire.specs.declared.ipv4.Ipv4Read.{Ipv4Read}
 use Rattle.wire.specs.declared.ipv4.Ipv4Read.the-variants as I
-use Rattle.reassembly.specs.SetUp.{Replied}
 use Rattle.reassembly.specs.Claim.{Claim}
 use Rattle.reassembly.specs.SetUp as U
 use Rattle.reassembly.specs.Laws.Claim.{claim}
@@ -23,10 +22,11 @@ use Rattle.reassembly.specs.declared.slot.Peer.{Peer}
 use Rattle.endpoint.specs.Config.{Config, configOf, findPeer, Adding, setUp}
 use Rattle.endpoint.specs.Laws.Config.{set-up-valid}
 use Rattle.endpoint.specs.Receive.{answers, layers, bySender, sourceOf}
-use Rattle.endpoint.specs.Calls.{calls-are, receive-is, promised}
+use Rattle.endpoint.specs.Laws.Calls.{promised}
 use Rattle.endpoint.specs.Laws.Formats.{peer-listed, peer-found, segment-sound, segment-complete, judge-sound, judge-complete}
 use Rattle.endpoint.specs.declared.config.Endpoint.{Endpoint}
-use Rattle.endpoint.specs.Demand3.{From, Demand3}
+use Rattle.endpoint.specs.Run.{endsOf}
+use Rattle.endpoint.specs.Demand3.{From, WordsMean}
 
 from-by : (c : Config) (k : List ℕ) (p : ℕ) → Bytes k → (x : Ipv4Read) → ipv4Of k ≡ x → bySender c x ≡ some p → From c k p
 from-by c k p b (I.Refused r) ip e = let z : _≡_ {A = ℕ} 0 1 = cc in absurd (omega arith)
@@ -54,22 +54,33 @@ from-complete c k p w = rw (P.complete (w .ipv4) .0, eq-eqb (c .own) (c .own) re
 abbrev noAdding : Config → Adding → Config
 noAdding c a = c
 
-pub demand-three : (own port mtu : ℕ) (adds : List Adding) (p : ℕ) → p < 8 → Demand3 (setUp own port mtu adds) p
-demand-three own port mtu adds p p< = of (setUp own port mtu adds) (set-up-valid own port mtu adds .peers)
-  where
-    of : (e : Endpoint) → e .peers ≡ U.setUp Config Adding noAdding (configOf e) [] .peers → Demand3 e p
-    of e rows =
-        record {
-          claims = subst (λ (r : List Peer). Claim answers Config layers (record { config = configOf e; peers = r }) p) (sym rows)
-              (claim answers Config layers Adding noAdding (configOf e) [] (promised e) p p<);
-          every = subst (λ (r : List Peer). EveryRun answers Config layers p (record { config = configOf e; peers = r })) (sym rows)
-              (every-run answers Config layers p Adding noAdding (configOf e) [] (promised e) p<);
-          calls-are-runs = λ m es. calls-are (record { endpoint = e; mem = m }) es;
-          answers-are = λ w k. ap (λ (s : Replied answers Config layers). s .reply) (receive-is (w .endpoint) (w .mem) k);
-          whose = λ k b q. from-sound (configOf e) k p b q;
-          whose-all = λ k w. from-complete (configOf e) k p w;
-          sound = λ k g b q. segment-sound (configOf e) k p g b q;
-          sound-all = λ k g w. segment-complete (configOf e) k p g w;
-          good-frame = λ note frame t b q. judge-sound (configOf e) p note frame t b q;
-          good-all = λ note frame t inner w. judge-complete (configOf e) p note frame t inner w;
-        }
+-- a set-up has every slot free
+abbrev startsFree : Endpoint → Type 0
+startsFree e = e .peers ≡ U.setUp Config Adding noAdding (configOf e) [] .peers
+
+module _ (own port mtu : ℕ) (adds : List Adding) (p : ℕ) (is-peer : p < 8) where
+  pub set-up-claims : Claim answers Config layers (endsOf (setUp own port mtu adds)) p
+  set-up-claims = of (setUp own port mtu adds) (set-up-valid own port mtu adds .peers)
+    where
+      of : (e : Endpoint) → startsFree e → Claim answers Config layers (endsOf e) p
+      of e rows =
+          subst (λ (r : List Peer). Claim answers Config layers (record { config = configOf e; peers = r }) p) (sym rows)
+          (claim answers Config layers Adding noAdding (configOf e) [] (promised e) p is-peer)
+
+  pub set-up-every : EveryRun answers Config layers p (endsOf (setUp own port mtu adds))
+  set-up-every = of (setUp own port mtu adds) (set-up-valid own port mtu adds .peers)
+    where
+      of : (e : Endpoint) → startsFree e → EveryRun answers Config layers p (endsOf e)
+      of e rows =
+          subst (λ (r : List Peer). EveryRun answers Config layers p (record { config = configOf e; peers = r })) (sym rows)
+          (every-run answers Config layers p Adding noAdding (configOf e) [] (promised e) is-peer)
+
+pub words-mean : (c : Config) (p : ℕ) → WordsMean c p
+words-mean c p = record {
+  whose = λ k b q. from-sound c k p b q;
+  whose-all = λ k w. from-complete c k p w;
+  sound = λ k g b q. segment-sound c k p g b q;
+  sound-all = λ k g w. segment-complete c k p g w;
+  good-frame = λ note frame t b q. judge-sound c p note frame t b q;
+  good-all = λ note frame t inner w. judge-complete c p note frame t inner w;
+}

@@ -16,7 +16,7 @@ use Rattle.reassembly.specs.Mix.{Right, Frame, partOf, states, frameOf, event, 
 use Rattle.reassembly.specs.Laws.MixTest.{mixing}
 use Rattle.reassembly.specs.Laws.OneByOne.{turns-in-turn}
 use Rattle.reassembly.specs.Claim.{SameFrame, answerIn, deliveries, Cuts, Claim}
-use Rattle.endpoint.specs.Laws.Demand3.{demand-three}
+use Rattle.endpoint.specs.Laws.Demand3.{set-up-claims}
 use Rattle.endpoint.specs.Config.{Config, configOf}
 use Rattle.endpoint.specs.Receive.{answers, inMemory, headerOf, judgeOf, layers, worldOf}
 use Rattle.endpoint.specs.Laws.Receive.{header-whose}
@@ -142,7 +142,7 @@ possible = rw ready-config (record { cuts = cuts; mixing = is-mixing; in-turn = 
 -- ---- the consequences, over every memory of 55,296 bytes or more
 
 claimed : Claim answers Config layers (record { config = configOf ready; peers = ready .peers }) 0
-claimed = demand-three 167772161 7471 1500 calls 0 (omega arith) .claims
+claimed = set-up-claims 167772161 7471 1500 calls 0 (omega arith)
 
 -- an answer that delivers this inner frame from the memory, to this tenant by this binding
 pub record Delivers (tenant binding : ℕ) (frame : List ℕ) (a : Answer answers) : Type 0 where

@@ -13,7 +13,7 @@ use Rattle.wire.specs.Table.{numbered}
 use Rattle.endpoint.specs.Table.{startRows, addPeerRows, addBindingRows, receiveRows, wrapRows}
 use Rattle.endpoint.specs.Laws.Table.{document-table}
 use Rattle.endpoint.specs.Demand1.{StartRule, PeerAdded, BindingAdded, AddRule, ReceiveRule, TickRule, WrapRule}
-use Rattle.endpoint.specs.Laws.Demand1.{demand-one}
+use Rattle.endpoint.specs.Laws.Demand1.{start-rule, add-peer-rule, add-binding-rule, receive-rule, tick-rule, wrap-rule}
 use Rattle.endpoint.specs.declared.answer.Added.{Added}
 use Rattle.endpoint.specs.declared.answer.Added.the-variants as A
 use Rattle.endpoint.specs.declared.answer.Wrapped.{Wrapped}
@@ -27,7 +27,7 @@ use Rattle.endpoint.specs.declared.tick.TickResult.{TickResult}
 
 pub start-promised : (own port mtu : ℕ) (r : StartResult) → r ≡ startOf own port mtu
     → (r ≡ startOf own port mtu) × ((startCode (r .answer) ≡ numbered (startRows own port mtu)) × StartRule own port mtu r)
-start-promised own port mtu r is = (is, (rw is (document-table .start own port mtu), rw is (demand-one .start own port mtu)))
+start-promised own port mtu r is = (is, (rw is (document-table .start own port mtu), rw is (start-rule own port mtu)))
 
 -- ---- adding
 
@@ -38,7 +38,7 @@ added-number (A.Refused r) = refl
 pub add-peer-promised : (e : Endpoint) (address : ℕ) (r : AddResult) → r ≡ addPeerOf e address
     → (r ≡ addPeerOf e address) × ((addedValuesOf (r .answer) .number ≡ numbered (addPeerRows e address)) × AddRule e (PeerAdded e address) r)
 add-peer-promised e address r is =
-    (is, (added-number (r .answer) ∙ rw is (document-table .add-peer e address), rw is (demand-one .add-peer e address)))
+    (is, (added-number (r .answer) ∙ rw is (document-table .add-peer e address), rw is (add-peer-rule e address)))
 
 pub add-binding-promised : (e : Endpoint) (peer kind network tenant : ℕ) (r : AddResult) → r ≡ addBindingOf e peer kind network tenant
     → (r ≡ addBindingOf e peer kind network tenant)
@@ -46,7 +46,7 @@ pub add-binding-promised : (e : Endpoint) (peer kind network tenant : ℕ) (r : 
 add-binding-promised e peer kind network tenant r is =
     let number : addedValuesOf (r .answer) .number ≡ numbered (addBindingRows e peer kind network tenant) =
     added-number (r .answer) ∙ rw is (document-table .add-binding e peer kind network tenant) in
-    (is, (number, rw is (demand-one .add-binding e peer kind network tenant)))
+    (is, (number, rw is (add-binding-rule e peer kind network tenant)))
 
 -- ---- receive
 
@@ -54,12 +54,12 @@ pub receive-promised : (e : Endpoint) (m k : List ℕ) (r : ReceiveResult) (m′
     → (r ≡ receiptOf e (stepOf e m k))
     × ((m′ ≡ stepOf e m k .mem)
     × ((Bytes k → valuesOf (r .answer) .number ≡ numbered (receiveRows e m k)) × ReceiveRule e m k (valuesOf (r .answer)) (r .endpoint) m′))
-receive-promised e m k r m′ is left = (is, (left, (λ b. rw is (document-table .receive e m k b), rw (is, left) (demand-one .receive e m k))))
+receive-promised e m k r m′ is left = (is, (left, (λ b. rw is (document-table .receive e m k b), rw (is, left) (receive-rule e m k))))
 
 -- ---- a tick
 
 pub tick-promised : (e : Endpoint) (r : TickResult) → r ≡ tickOf e → (r ≡ tickOf e) × TickRule e (tickCode (r .answer)) (r .endpoint)
-tick-promised e r is = (is, rw is (demand-one .tick e))
+tick-promised e r is = (is, rw is (tick-rule e))
 
 -- ---- wrap
 
@@ -69,5 +69,5 @@ pub wrap-promised : (e : Endpoint) (b : ℕ) (frame : List ℕ) (segment identif
     × ((output′ ≡ wrapOf e b frame segment identifier output .output)
     × ((Reached e → wrapValuesOf r .number ≡ numbered (wrapRows e b frame segment output)) × WrapRule output (wrapValuesOf r) output′))
 wrap-promised e b frame segment identifier output r output′ is left =
-    let rule : WrapRule output (wrapValuesOf r) output′ = rw (is, left) (demand-one .wrap e b frame segment identifier output) in
+    let rule : WrapRule output (wrapValuesOf r) output′ = rw (is, left) (wrap-rule e b frame segment identifier output) in
     (is, (left, (λ reached. rw is (document-table .wrap e reached b frame segment identifier output), rule)))

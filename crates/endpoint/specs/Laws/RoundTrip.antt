@@ -27,19 +27,21 @@ use Rattle.reassembly.specs.SetUp.{World, runs, answerOf}
 use Rattle.endpoint.specs.Config.{Config, configOf, findPeer, findBinding}
 use Rattle.endpoint.specs.Laws.Config.{Valid, set-up-valid, listed-peer-found, listed-binding-found}
 use Rattle.endpoint.specs.Receive.{answers, layers, headerOf, judgeOf, worldOf}
-use Rattle.endpoint.specs.Calls.{Left, calls}
+use Rattle.endpoint.specs.Run.{Left, calls, endsOf}
 use Rattle.endpoint.specs.Formats.{ListedPeer, Bound, CarriesFrame, CarriesSegment, GoodFrame}
 use Rattle.endpoint.specs.Laws.Formats.{peer-listed, binding-bound, segment-complete, judge-complete}
 use Rattle.endpoint.specs.Wrap.{segmentsOf, kindAt, networkAt, ownerAt, peerAt, packetOf, packetAt}
 use Rattle.endpoint.specs.Laws.Wrap.{Says, written-says, Ready, Listed, ready-listed, ByKind, vxlan, nvgre, stt, by-kind, packet-vxlan, packet-nvgre}
 use Rattle.endpoint.specs.Laws.Wrap.{one-vxlan, one-nvgre, many-stt, starts-within, ends-past}
-use Rattle.endpoint.specs.Reached.{Reached, reached-ready}
+use Rattle.endpoint.specs.Reached.{Reached}
+use Rattle.endpoint.specs.Laws.Reached.{reached-ready}
 use Rattle.endpoint.specs.Demand2.{Delivers}
 use Rattle.endpoint.specs.Laws.Demand2.{complete-packet}
 use Rattle.endpoint.specs.Demand2Writing.{CarriesWhole, CarriesPart, portion}
 use Rattle.endpoint.specs.Laws.Demand2Writing.{sent-vxlan, sent-nvgre, sent-stt}
-use Rattle.endpoint.specs.Demand3.{Demand3}
-use Rattle.endpoint.specs.Laws.Demand3.{demand-three}
+use Rattle.reassembly.specs.Claim.{Claim}
+use Rattle.endpoint.specs.Laws.Calls.{calls-are}
+use Rattle.endpoint.specs.Laws.Demand3.{set-up-claims}
 use Rattle.endpoint.specs.RoundTrip.{segmentsFor, Wraps, Matches, Order, arrivals, Answered, RoundTrip}
 use Rattle.endpoint.specs.Laws.RoundTripLaws.{now-below, before-below, only-one, same-arrivals, one-frame, right-answered}
 use Rattle.endpoint.specs.declared.answer.Target.{Target}
@@ -67,7 +69,7 @@ record Meets (own peer port kind network : ℕ) (e′ : Endpoint) (b′ p : ℕ)
   port-is : configOf e′ .port ≡ port
   listed : ListedPeer (configOf e′) own p
   bound : Bound (configOf e′) p kind network (targetOf e′ b′)
-  demand : Demand3 e′ p
+  claims : Claim answers Config layers (endsOf e′) p
 
 meets : (e : Endpoint) (b : ℕ) (e′ : Endpoint) (b′ : ℕ) (w : Matches e b e′ b′)
     → Meets (e .own) (peerAt e b) (e .port) (kindAt e b) (networkAt e b) e′ b′ (w .peer)
@@ -83,7 +85,9 @@ meets e b e′ b′ w =
           peer-listed (configOf e′) (e .own) (w .peer)
           (subst (λ (a : ℕ). findPeer (configOf e′) a ≡ some (w .peer)) (w .peer-is) (listed-peer-found e′ v (w .peer) (w .peer-listed)));
       bound = binding-bound (configOf e′) (w .peer) (kindAt e b) (networkAt e b) (targetOf e′ b′) (rw (w .owner-is, w .kind-is, w .network-is) at found) refl;
-      demand = subst (λ (x : Endpoint). Demand3 x (w .peer)) (sym (w .set-up)) (demand-three (w .own) (w .stt-port) (w .mtu) (w .adds) (w .peer) p);
+      claims =
+          subst (λ (x : Endpoint). Claim answers Config layers (endsOf x) (w .peer)) (sym (w .set-up))
+          (set-up-claims (w .own) (w .stt-port) (w .mtu) (w .adds) (w .peer) p);
     }
 
 module _ (own peer port kind network : ℕ) (e′ : Endpoint) (b′ p : ℕ) (w : Meets own peer port kind network e′ b′ p) (frame : List ℕ)
@@ -254,8 +258,8 @@ module _ (own peer port network : ℕ) (e′ : Endpoint) (b′ p : ℕ) (w : Mee
       let world : runs answers Config layers (worldOf e′ m) (arrivals (λ j. M.partOf sentFrame j .packet) before) ≡ worldOf (left .endpoint) (left .mem) =
       ap (runs answers Config layers (worldOf e′ m)) (same-arrivals (λ j. M.partOf sentFrame j .packet) packets count here before
       (before-below count order o before k after is))
-      ∙ sym (w .demand .calls-are-runs m (arrivals packets before)) in
-      let right = one-frame e′ p (w .demand) sentFrame cut order parts m enough before k after is in
+      ∙ sym (calls-are (record { endpoint = e′; mem = m }) (arrivals packets before)) in
+      let right = one-frame e′ p (w .claims) sentFrame cut order parts m enough before k after is in
       right-answered left (packets k) p sentFrame (targetOf e′ b′) frame (length after)
       (judge-complete (configOf e′) p (M.frameNote sentFrame) whole (targetOf e′ b′) frame worth .1)
       (subst (λ (x : World Config). Right answers p sentFrame (targetOf e′ b′) (length after) (answerOf answers Config layers x (packets k))) world

@@ -19,9 +19,10 @@ use Rattle.reassembly.specs.Claim.{Cuts}
 use Rattle.endpoint.specs.Answer.{placeOf, valuesOf}
 use Rattle.endpoint.specs.Config.{Config, configOf}
 use Rattle.endpoint.specs.Receive.{answers, layers, headerOf, judgeOf, stepOf, worldOf, inMemory}
-use Rattle.endpoint.specs.Calls.{Left, receive-is}
+use Rattle.endpoint.specs.Run.{Left, endsOf}
+use Rattle.endpoint.specs.Laws.Calls.{receive-is}
 use Rattle.endpoint.specs.Demand2.{Delivers}
-use Rattle.endpoint.specs.Demand3.{Demand3}
+use Rattle.reassembly.specs.Claim.{Claim}
 use Rattle.endpoint.specs.RoundTrip.{timesIn, Order, arrivals, Answered}
 use Rattle.endpoint.specs.declared.answer.Target.{Target}
 use Rattle.endpoint.specs.declared.answer.Place.{Place}
@@ -138,15 +139,16 @@ below-one P a zero l = a
 below-one P a (suc j) l = absurd (omega arith)
 
 -- by demand 3, each of them is answered as it should be
-pub one-frame : (e : Endpoint) (p : ℕ) → Demand3 e p → (fr : M.Frame) (cut : M.Cut answers (headerOf (configOf e)) (judgeOf (configOf e)) p fr)
+pub one-frame : (e : Endpoint) (p : ℕ) → Claim answers Config layers (endsOf e) p
+    → (fr : M.Frame) (cut : M.Cut answers (headerOf (configOf e)) (judgeOf (configOf e)) p fr)
     → (order : List ℕ) → Order (length (fr .parts)) order → (m : List ℕ) → 55296 ≤ length m → (before : List ℕ) (k : ℕ) (after : List ℕ) → order ≡ before
     ++ (k ∷ after)
     → Right answers p fr (cut .verdict) (length after)
     (answerOf answers Config layers (runs answers Config layers (worldOf e m) (arrivals (λ j. M.partOf fr j .packet) before)) (M.partOf fr k .packet))
-one-frame e p demand fr cut order o m enough before k after is =
+one-frame e p claims fr cut order o m enough before k after is =
     let cuts : Cuts answers Config layers (configOf e) p (fr ∷ []) =
     below-one (λ f. M.Cut answers (headerOf (configOf e)) (judgeOf (configOf e)) p (M.frameOf (fr ∷ []) f)) cut in
-    let right = demand .claims .delivers (fr ∷ []) cuts (labels order)
+    let right = claims .delivers (fr ∷ []) cuts (labels order)
     (in-turn answers (headerOf (configOf e)) p (fr ∷ []) (labels order) (labels-turn fr order o)) m enough
     (labels before) (labels after) 0 k (omega arith) (ap labels is ∙ labels-append before (k ∷ after)) in
     rw (labels-segments after, labels-events fr order o before) at right

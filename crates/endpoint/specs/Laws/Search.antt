@@ -47,9 +47,10 @@ module _ (networks kinds owners : List ℕ) (peer kind network i : ℕ) where
   unfolding binds
   other-kind a d = rw (eq-eqb (getD networks i 0) network a, ne-eqb (getD kinds i 0) kind d)
 
-  pub other-peer : getD networks i 0 ≡ network → getD kinds i 0 ≡ kind → (getD owners i 0 ≡ peer → ⊥) → binds networks kinds owners peer kind network i ≡ false
+  -- with this network and kind, its peer decides
+  pub binds-owner : getD networks i 0 ≡ network → getD kinds i 0 ≡ kind → eqb (getD owners i 0) peer ≡ binds networks kinds owners peer kind network i
   unfolding binds
-  other-peer a b d = rw (eq-eqb (getD networks i 0) network a, eq-eqb (getD kinds i 0) kind b) (ne-eqb (getD owners i 0) peer d)
+  binds-owner a b = rw (eq-eqb (getD networks i 0) network a, eq-eqb (getD kinds i 0) kind b)
 
   pub binds-all : binds networks kinds owners peer kind network i ≡ true → (getD networks i 0 ≡ network) × (getD kinds i 0 ≡ kind) × (getD owners i 0 ≡ peer)
   unfolding binds

@@ -52,7 +52,8 @@ use Rattle.endpoint.specs.Receive.{headerOf, byStt, sttFrom, judgeOf, ro
 use Rattle.endpoint.specs.Wrap.{capacity, segmentsOf, segmentStart, segmentSize, low32, packetOf, exceeds, isBad, kindAt, networkAt, ownerAt, peerAt}
 use Rattle.endpoint.specs.Wrap.{packetAt, wrapChecks, Wrote, refusedWrap, wrapOf}
 use Rattle.endpoint.specs.Laws.Wrap.{Listed, ready-listed, ByKind, vxlan, nvgre, stt, by-kind, many-stt, starts-within}
-use Rattle.endpoint.specs.Reached.{Reached, reached-ready}
+use Rattle.endpoint.specs.Reached.{Reached}
+use Rattle.endpoint.specs.Laws.Reached.{reached-ready}
 use Rattle.endpoint.specs.declared.answer.Place.{Place}
 use Rattle.endpoint.specs.declared.answer.Target.{Target}
 use Rattle.endpoint.specs.declared.answer.Received.{Received}

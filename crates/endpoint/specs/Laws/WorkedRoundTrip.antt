@@ -19,10 +19,11 @@ use Rattle.reassembly.specs.Laws.Base.{caseB}
 use Rattle.endpoint.specs.Search.{from, lowest}
 use Rattle.endpoint.specs.Config.{configOf, hasAddress, findPeer, binds, findBinding, fresh, startChecks, startOf, addPeerChecks, withAddress, addPeerOf}
 use Rattle.endpoint.specs.Config.{isNetwork, addBindingChecks, withBinding, addBindingOf, Adding, addPeer, addBinding, added, addedAll, setUp}
-use Rattle.endpoint.specs.Laws.Config.{addressAt}
+use Rattle.endpoint.specs.Config.{addressAt}
 use Rattle.endpoint.specs.Wrap.{segmentsOf, exceeds, kindAt, networkAt, ownerAt, peerAt, packetAt, wrapOf}
 use Rattle.endpoint.specs.Laws.Wrap.{written-says, written-when, ready-listed}
-use Rattle.endpoint.specs.Reached.{add, leftBy, Reached, reached-ready}
+use Rattle.endpoint.specs.Reached.{add, leftBy, Reached}
+use Rattle.endpoint.specs.Laws.Reached.{reached-ready}
 use Rattle.endpoint.specs.RoundTrip.{segmentsFor, Wraps, Matches, timesIn, Order, arrivals, RoundTrip}
 use Rattle.endpoint.specs.Laws.RoundTrip.{round-trip}
 use Rattle.endpoint.specs.Receive.{stepOf}

@@ -18,8 +18,8 @@ use Rattle.wire.specs.declared.frame.FrameRead.the-variants as F
 use Rattle.wire.specs.Bytes.{wrote}
 use Rattle.wire.specs.Write.{vxlanPacket, nvgrePacket, segmentPacket}
 use Rattle.reassembly.specs.Laws.Base.{caseB, either, clash, and-l, and-r, or-cases}
-use Rattle.endpoint.specs.Config.{Config, configOf, addressChecks, startChecks, fresh, isNetwork}
-use Rattle.endpoint.specs.Laws.Config.{Valid, addressAt}
+use Rattle.endpoint.specs.Config.{Config, configOf, addressAt, addressChecks, startChecks, fresh, isNetwork}
+use Rattle.endpoint.specs.Laws.Config.{Valid}
 use Rattle.endpoint.specs.Wrap.{capacity, segmentsOf, segmentStart, segmentSize, low32, packetOf, exceeds, isBad, kindAt, networkAt, ownerAt, peerAt}
 use Rattle.endpoint.specs.Wrap.{packetAt, wrapChecks, Wrote, refusedWrap, wrapOf}
 use Rattle.endpoint.specs.declared.answer.Packet.{Packet}

@@ -3,14 +3,13 @@
 use Prim.Native.Nat.{ℕ, suc, _+_, _-_, _*_, _/_, _<_, _≤_, min}
 use mathlib.Core.Path.{_≡_, refl, ap, subst}
 use mathlib.Core.Bool.{Bool, true, false}
-use mathlib.Core.List.{List, [], _∷_}
+use mathlib.Core.List.{List, []}
 use native.Mathlib.Omega.{arith}
 use native.Mathlib.Nat.{suc-mul, le-div-iff-mul-le}
 use borrow.Author.Tests.{eq-eqb, ne-eqb, lt-ltb, le-ltb, le-leb, lt-leb, leb-true, leb-false, eqb-false}
 use lib.ListN.{length, getD}
 use lib.Dec.{ltb, leb, eqb}
 use Rattle.wire.specs.Bytes.{wrote}
-use Rattle.wire.specs.Checks.{Check, _⇒_, first}
 use Rattle.wire.specs.Laws.Checks.{At, given, decided, tests}
 use Rattle.wire.specs.Frame.{frameOf}
 use Rattle.wire.specs.Write.{fits, segmentFits, vxlanPacket, nvgrePacket, segmentPacket, Written}
@@ -18,43 +17,23 @@ use Rattle.wire.specs.Laws.Write.{fits-met, fits-says, segment-fits-met, segmen
 use Rattle.wire.specs.declared.refusal.Refusal.{Refusal}
 use Rattle.wire.specs.declared.frame.FrameRead.the-variants as F
 use Rattle.reassembly.specs.Laws.Base.{caseB, same-test}
-use Rattle.endpoint.specs.declared.answer.WrapRefusal.{WrapRefusal}
 use Rattle.endpoint.specs.declared.answer.WrapRefusal.the-variants as X
 use Rattle.endpoint.specs.declared.answer.Wrapped.{Wrapped}
 use Rattle.endpoint.specs.declared.answer.Wrapped.the-variants as Y
 use Rattle.endpoint.specs.declared.config.Endpoint.{Endpoint}
 use Rattle.endpoint.specs.declared.wrap.Route.{Route}
 use Rattle.endpoint.specs.Config.{configOf, lent}
+use Rattle.endpoint.specs.Wrap.{packetOn, sendChecks, sent, sendOf, Put, pieceOf}
 use Rattle.endpoint.specs.Wrap.{segmentsOf, low32, packetOf, exceeds, isBad, kindAt, networkAt, ownerAt, wrapChecks, Wrote, refusedWrap, wrapOf}
 
 -- ---- checks 13, 22, 23 (segment), 21: what the call comes to once the binding is found
 
--- the packet on a route
-abbrev pub packetOn : Route → (frame : List ℕ) (segment identifier : ℕ) → List ℕ
-packetOn t frame segment identifier = packetOf (t .kind) (t .own) (t .peer) (t .port) (t .network) (t .mtu) frame segment identifier
-
 module _ (t : Route) (frame : List ℕ) (segment identifier : ℕ) (output : List ℕ) where
-  unfoldable pub sendChecks : List (Check WrapRefusal)
-  sendChecks =
-      (isBad (frameOf frame) ⇒ X.Frame)
-      ∷ (exceeds (t .kind) (length frame) (t .mtu) ⇒ X.Mtu)
-      ∷ (leb (segmentsOf (t .kind) (length frame) (t .mtu)) segment ⇒ X.Segment)
-      ∷ (ltb (length output) (length (packetOn t frame segment identifier)) ⇒ X.Output)
-      ∷ []
-
-  -- what is given where no check is met
-  abbrev pub sent : Wrote
-  sent = record {
-    answer = Y.Written (record { length = length (packetOn t frame segment identifier); segments = segmentsOf (t .kind) (length frame) (t .mtu) });
-    output = wrote output (packetOn t frame segment identifier);
-  }
-
-  unfoldable pub sendOf : Wrote
-  sendOf = first (refusedWrap output) sendChecks sent
-
-  pub send-exit : (n : ℕ) → At sendChecks n → sendOf ≡ given (refusedWrap output) sendChecks sent n
+  pub send-exit : (n : ℕ) → At (sendChecks t frame segment identifier output) n
+      → sendOf t frame segment identifier output
+      ≡ given (refusedWrap output) (sendChecks t frame segment identifier output) (sent t frame segment identifier output) n
   unfolding sendOf
-  send-exit n p = decided (refusedWrap output) sendChecks sent n p
+  send-exit n p = decided (refusedWrap output) (sendChecks t frame segment identifier output) (sent t frame segment identifier output) n p
 
 -- ---- check 22
 
@@ -113,10 +92,7 @@ module _ (kind size mtu k : ℕ) where
       let s : (18 + size + (mtu - 40) - 1) / (mtu - 40) ≡ segmentsOf kind size mtu = segments-stt kind size mtu a b r in
       begins size (mtu - 40) k (omega arith) (rw s h)
 
--- ---- what is put at the front of an output: the packet if there is room for it, or else nothing
-
-abbrev pub Put : (packet old new : List ℕ) (r : ℕ) → Type 0
-Put packet old new r = Written (leb (length packet) (length old)) packet old new r
+-- ---- what is put at the front of an output
 
 may-fit : (headers n room : ℕ) (packet : List ℕ) → length packet ≡ headers + n → 14 ≤ n → headers + n ≤ 65535 → fits headers n room ≡ leb (length packet) room
 may-fit headers n room packet l h k =
@@ -130,11 +106,6 @@ may-segment n offset count room packet l h k w s =
     same-test (segmentFits n offset count room) (leb (length packet) room)
     (λ e. le-leb (length packet) room (omega (arith, segment-fits-says (segmentFits n offset count room) n offset count room refl e .room-is)))
     (λ e. segment-fits-met n offset count room h k w s (omega (arith, tests)))
-
--- segment number k of an STT frame that is cut at every c bytes
-abbrev pub pieceOf : (own peer port context identifier c k : ℕ) (last : Bool) (frame : List ℕ) → List ℕ
-pieceOf own peer port context identifier c k last frame =
-    segmentPacket own peer port context identifier (k * c) (min (18 + length frame) (k * c + c) - k * c) last frame
 
 piece-length : (own peer port context identifier c k : ℕ) (last : Bool) (frame : List ℕ) → k * c < 18 + length frame
     → length (pieceOf own peer port context identifier c k last frame) ≡ 40 + (min (18 + length frame) (k * c + c) - k * c)

@@ -52,9 +52,6 @@ some-finds (suc n) f e =
     (λ q. record { at = n; is-below = omega arith; passes = q })
     (λ q. let r : FoundSlot n f = some-finds n f (rw q at e) in record { at = r .at; is-below = omega (arith, r .is-below); passes = r .passes })
 
-some-not : (n : ℕ) (f : ℕ → Bool) → someBelow n f ≡ false → (i : ℕ) → i < n → f i ≡ false
-some-not n f e i l = caseB (f i) (λ q. clash (cc (someBelow-some n f i l q))) (λ q. q)
-
 -- 16 and its contrary, of the segments gs that are in slot k
 pub covered-overlaps : (m : ℕ → List Piece) (k : ℕ) (g : Seg) (gs : List Seg) (i : ℕ) → m k ≡ map pieceOf gs → carries g i ≡ true → covered gs i ≡ true
     → overlaps ghost m k g ≡ true

@@ -136,13 +136,6 @@ pub total-none : (s : List ℕ) (i : ℕ) → i ≡ length s → total (drop i s
 unfolding total
 total-none s i h = rw (h, drop-length)
 
--- it is at most 65,535 for each byte
-pub total-le : (s : List ℕ) → Bytes s → total s ≤ 65535 * length s
-unfolding total
-total-le [] b = omega arith
-total-le (x ∷ []) b = omega (arith, b 0)
-total-le (x ∷ y ∷ s) b = omega (arith, b 0, b 1, total-le s (λ i. b (suc (suc i))))
-
 -- ---- a number's part in the sum
 
 pub total-be2 : (x : ℕ) (s : List ℕ) → x < 256 ^ 2 → total (be 2 x ++ s) ≡ x + total s

@@ -5,12 +5,12 @@ use Rattle.endpoint.specs.Config.{fresh}
 use Rattle.endpoint.proofs.config.blank.Statement.{statement}
 use Rattle.endpoint.proofs.config.blank.Tie as tie
 
-free-row-requires : tie.Need-free-row-requires
-free-row-requires c κs = search needs
+free-peer-requires : tie.Need-free-peer-requires
+free-peer-requires c κs = search needs
 
 returns : tie.Need-returns
 unfolding fresh
-returns c = rw (c .free-row .ensures)
+returns c = rw (c .free-peer .ensures)
 
 pub blank-spec : {M : Type 1} → statement M
-blank-spec = tie.close (tie.spec free-row-requires returns)
+blank-spec = tie.close (tie.spec free-peer-requires returns)

@@ -1,39 +1,33 @@
--- `endpoint::search::find_binding` meets its contract. The loop's invariant: no binding before i matches.
+-- `endpoint::search::find_binding` meets its contract. The loop's invariant: i is even, and no binding before i matches.
 -- Assumes nothing.
 use mathlib.Core.Path.{_≡_, _∙_, sym}
 use mathlib.Core.Bool.{false}
-use mathlib.Core.Logic.{⊎-elim}
-use Prim.Native.Nat.{ℕ, _≤_, _<_, _-_}
+use Prim.Native.Nat.{ℕ, _+_, _≤_, _<_, _-_, _%_}
 use native.Mathlib.Omega.{arith}
 use Rattle.endpoint.specs.Config.{binds}
 use Rattle.reassembly.specs.Laws.Base.{more-not}
-use Rattle.endpoint.specs.Laws.Search.{found-at, found-nothing, binds-hit, other-network, other-kind, other-peer}
+use Rattle.endpoint.specs.Laws.Search.{found-at, found-nothing}
 use Rattle.endpoint.proofs.search.find_binding.Statement.{statement}
 use Rattle.endpoint.proofs.search.find_binding.Tie as tie
 
 abbrev Inv-loop : tie.InvT-loop
-Inv-loop networks kinds owners n peer kind network i₀ i = ((i ≤ n) × (n ≤ 64)) × ((j : ℕ) → j < i → binds networks kinds owners peer kind network j ≡ false)
+Inv-loop networks kinds owners n peer kind network i₀ i =
+    ((i % 2 ≡ 0) × ((i ≤ 64) × (n ≤ 64))) × ((j : ℕ) → j < i → binds networks kinds owners peer kind network j ≡ false)
 
 abbrev μ-loop : tie.MeasureT-loop
-μ-loop networks kinds owners n peer kind network i₀ i = n - i
+μ-loop networks kinds owners n peer kind network i₀ i = 64 - i
 
 loop-holds : tie.Need-loop-holds Inv-loop μ-loop
-loop-holds c = ((omega arith, c .pre), λ j h. absurd (omega arith))
+loop-holds c = ((omega arith, (omega arith, c .pre)), λ j h. absurd (omega arith))
 
-mul-if2 : tie.Need-mul-if2 Inv-loop μ-loop
-mul-if2 c = omega arith
+is-binding-requires : tie.Need-is-binding-requires Inv-loop μ-loop
+is-binding-requires c κs = omega arith
 
-element-copy-out-if2 : tie.Need-element-copy-out-if2 Inv-loop μ-loop
-element-copy-out-if2 c = omega arith
+add-next : tie.Need-add-next Inv-loop μ-loop
+add-next c = omega arith
 
-element-copy-out-if3 : tie.Need-element-copy-out-if3 Inv-loop μ-loop
-element-copy-out-if3 c = omega arith
-
-element-copy-out-wide : tie.Need-element-copy-out-wide Inv-loop μ-loop
-element-copy-out-wide c = omega arith
-
-wide-requires : tie.Need-wide-requires Inv-loop μ-loop
-wide-requires c κs = tt
+is-binding-requires-2 : tie.Need-is-binding-requires-2 Inv-loop μ-loop
+is-binding-requires-2 c κs = omega arith
 
 add-i : tie.Need-add-i Inv-loop μ-loop
 add-i c = omega arith
@@ -43,22 +37,41 @@ loop-less c = omega arith
 
 loop-again : tie.Need-loop-again Inv-loop μ-loop
 loop-again c =
-    let at = c .before .before .before .loop in (
-      (omega arith, at .inv .0 .1),
-      more-not _ (at .i) (at .inv .1)
-          (⊎-elim (λ v. other-peer _ _ _ _ _ _ (at .i) (v .0 .taken) (v .2 .taken) (λ e. v .5 .left (v .4 .ensures ∙ e)))
-          (⊎-elim (λ v. other-kind _ _ _ _ _ _ (at .i) (v .0 .taken) (v .2 .left)) (λ v. other-network _ _ _ _ _ _ (at .i) (v .left))) (c .if2 .came)),
-    )
+    let first = c .before .before in
+    let at = first .before .before .before .loop in
+    let one = more-not _ (at .i) (at .inv .1) (sym (first .before .is-binding .ensures) ∙ first .if2 .left) in
+    let two = more-not _ (at .i + 1) one (sym (c .before .is-binding2 .ensures) ∙ c .if3 .left) in
+    ((omega arith, (omega arith, at .inv .0 .1 .1)), λ j h. two j (omega arith))
 
 returns : tie.Need-returns Inv-loop μ-loop
 returns c = found-nothing _ _ _ (c .before .loop .i) (omega arith) (c .before .loop .inv .1)
 
 returns-2 : tie.Need-returns-2 Inv-loop μ-loop
 returns-2 c =
-    let at = c .before .before .before .before .before .before .before .before .loop in
-    found-at _ _ _ (at .i) (omega arith) (at .inv .1)
-    (binds-hit _ _ _ _ _ _ (at .i) (c .before .before .before .before .before .if2 .taken) (c .before .before .before .if3 .taken) (sym
-    (c .before .wide .ensures) ∙ c .if4 .taken))
+    let at = c .before .before .before .loop in
+    found-at _ _ _ (at .i) (omega arith) (at .inv .1) (sym (c .before .is-binding .ensures) ∙ c .if2 .taken)
+
+-- not the first of the two
+passed : (c : tie.Then3 Inv-loop μ-loop) →
+    let at = c .before .before .before .before .before .loop in
+    let a = c .before .before .before .before .before .before .args in
+    (j : ℕ) → j < at .i + 1 → binds (a .networks .now) (a .kinds .now) (a .owners .now) (a .peer) (a .kind) (a .network) j ≡ false
+passed c =
+    let first = c .before .before in
+    let at = first .before .before .before .loop in
+    more-not _ (at .i) (at .inv .1) (sym (first .before .is-binding .ensures) ∙ first .if2 .left)
+
+returns-3 : tie.Need-returns-3 Inv-loop μ-loop
+returns-3 c =
+    let second = c .before in
+    let at = second .before .before .before .before .before .loop in
+    found-at _ _ _ (at .i + 1) (omega arith) (passed second) (sym (second .before .is-binding2 .ensures) ∙ second .if3 .taken)
+
+returns-4 : tie.Need-returns-4 Inv-loop μ-loop
+returns-4 c =
+    let second = c .before in
+    let at = second .before .before .before .before .before .loop in
+    found-nothing _ _ _ (at .i + 1) (omega arith) (passed second)
 
 pub find-binding-spec : {M : Type 1} → statement M
 find-binding-spec =
@@ -67,13 +80,13 @@ find-binding-spec =
     Inv-loop
     μ-loop
     loop-holds
-    mul-if2
-    element-copy-out-if2
-    element-copy-out-if3
-    element-copy-out-wide
-    wide-requires
+    is-binding-requires
+    add-next
+    is-binding-requires-2
     add-i
     loop-less
     loop-again
     returns
-    returns-2)
+    returns-2
+    returns-3
+    returns-4)

@@ -3,7 +3,7 @@
 use mathlib.Core.Path.{ap}
 use Rattle.endpoint.specs.Receive.{Step}
 use Rattle.endpoint.specs.Laws.Receive.{settled-out}
-use Rattle.niulassenc.specs.Receive.{outcome-out}
+use Rattle.niulassenc.specs.Laws.Receive.{outcome-out}
 use borrow.Author.Needs.{needs}
 use Rattle.niulassenc.proofs.receive.flat_settled.Statement.{statement}
 use Rattle.niulassenc.proofs.receive.flat_settled.Tie as tie

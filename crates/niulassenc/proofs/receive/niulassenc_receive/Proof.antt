@@ -52,9 +52,9 @@ use denote.Exit.{yes}
 use Rattle.endpoint.specs.declared.config.Endpoint.{Endpoint}
 use Rattle.niulassenc.specs.declared.receive.PeerUpdate.{PeerUpdate}
 use Rattle.endpoint.specs.Receive.{Step, rowAt, stepOf, withRow}
-use Rattle.niulassenc.specs.Receive.{outcomeOf, outcome-below, put-back}
+use Rattle.niulassenc.specs.Receive.{outcomeOf}
+use Rattle.niulassenc.specs.Laws.Receive.{outcome-below, put-back}
 use Rattle.endpoint.proofs.config.Endpoint as T
-use Rattle.endpoint.proofs.config.Endpoint.Laws as T′
 use Rattle.reassembly.proofs.slot.Peer as R
 use Rattle.reassembly.proofs.slot.Peer.Laws as R′
 use Rattle.niulassenc.proofs.answer.Receipt as N
@@ -110,9 +110,6 @@ module _ {M : Type 1} (𝓤 : URA M) (H : Heap 𝓤) (A : Atoms 𝓤) (W : Given
 
   abbrev Post : Val → SProp 𝓤
   Post = walkOf 𝓤 H A f.ended stayed (f.clauses 𝓤 H A at-mem run) .post ((κs, qs, tt, a, at), tt)
-
-  abbrev mach : Val
-  mach = LL.val T.the-type T′.the-laws h
 
   abbrev step : Step
   step = stepOf h (m .now) (p .now)

@@ -52,7 +52,8 @@ use Rattle.niulassenc.specs.declared.receive.PeerUpdate.{PeerUpdate}
 use Rattle.endpoint.specs.Receive.{Step, rowAt}
 use Rattle.endpoint.specs.Stages.{openedBy, settledBy}
 use Rattle.endpoint.specs.Laws.Demand1.{same-row}
-use Rattle.niulassenc.specs.Receive.{outcomeOf, arrival-listed, settled-step}
+use Rattle.niulassenc.specs.Receive.{outcomeOf}
+use Rattle.niulassenc.specs.Laws.Receive.{arrival-listed, settled-step}
 use Rattle.endpoint.proofs.config.Endpoint as T
 use Rattle.endpoint.proofs.config.Endpoint.Laws as T′
 use Rattle.reassembly.proofs.slot.Peer as R

@@ -20,7 +20,7 @@ use Rattle.endpoint.specs.Laws.Receive.{header-kept, header-whose, confi
 use Rattle.endpoint.specs.declared.answer.Drop.the-variants as D
 use Rattle.endpoint.specs.declared.answer.Received.the-variants as R
 use Rattle.endpoint.specs.declared.config.Endpoint.{Endpoint}
-pub use Rattle.endpoint.specs.Run.{Left, called, calls}
+use Rattle.endpoint.specs.Run.{Left, called, calls}
 
 -- ---- a row put back
 
@@ -41,7 +41,7 @@ same-world e p m = world-row e p (getD (e .peers) p noRow) m ∙ rw (set-getD (e
 -- ---- a receive
 
 -- what the call answers, and the endpoint and memory that it leaves
-abbrev pub afterStep : Endpoint → Step → Replied answers Config layers
+abbrev afterStep : Endpoint → Step → Replied answers Config layers
 afterStep e s = record { reply = s .answer; world = worldOf (withRow e (s .peer) (s .row)) (s .mem) }
 
 stepped-is : (e : Endpoint) (m : List ℕ) (x : Reading answers) → afterStep e (stepped e m x) ≡ receiveBy answers Config layers (worldOf e m) x
