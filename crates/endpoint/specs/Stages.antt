@@ -26,7 +26,7 @@ use Rattle.reassembly.specs.declared.take.Outcome.{Outcome}
 use Rattle.reassembly.specs.declared.take.Outcome.the-variants as O
 use Rattle.endpoint.specs.Answer.{placeOf}
 use Rattle.endpoint.specs.Search.{lowest}
-use Rattle.endpoint.specs.Config.{hasAddress}
+use Rattle.endpoint.specs.Config.{hasAddress, mostBindings}
 use Rattle.endpoint.specs.Receive.{answerAt, innerFrom, Step}
 use Rattle.endpoint.specs.declared.answer.Drop.{Drop}
 use Rattle.endpoint.specs.declared.answer.Drop.the-variants as D
@@ -148,4 +148,4 @@ abbrev pub openedBy : Endpoint → (packet : List ℕ) → (room : ℕ) → Arri
 openedBy e k room = openOf (e .addresses) (e .own) (e .port) (min (e .«peer_count») 8) k room
 
 abbrev pub settledBy : Endpoint → Arrival → Peer → (packet memory : List ℕ) → Step
-settledBy e x row k m = settleOf (e .networks) (e .kinds) (e .owners) (e .tenants) (min (e .«binding_count») 64) x row k m
+settledBy e x row k m = settleOf (e .networks) (e .kinds) (e .owners) (e .tenants) (min (e .«binding_count») mostBindings) x row k m

@@ -9,6 +9,7 @@ ghost use Rattle.endpoint.specs.Table.{receiveRows};
 ghost use Rattle.endpoint.specs.Demand1.{ReceiveRule};
 ghost use Rattle.endpoint.specs.Receive.{stepOf, receiptOf};
 ghost use Rattle.endpoint.specs.Stages.{ipDrop, sttDrop, fromOther, contentFrom, openOf, offerAt, Lies, offerOf, takeOf, changedOf, deliverOf};
+ghost use Rattle.endpoint.specs.Config.{mostBindings};
 use crate::answer::Drop;
 use crate::answer::Place;
 use crate::answer::Received;
@@ -262,7 +263,7 @@ pub fn deliver<'a, 'r>(
     packet: &'r [u8],
     memory: &'r [u8],
 ) -> Received
-    ensures { λ r. ⌜ r ≡ deliverOf (now (networks .entry)) (now (kinds .entry)) (now (owners .entry)) (now (tenants .entry)) (min «binding_count» 64) peer
+    ensures { λ r. ⌜ r ≡ deliverOf (now (networks .entry)) (now (kinds .entry)) (now (owners .entry)) (now (tenants .entry)) (min «binding_count» mostBindings) peer
         offer (now (packet .entry)) (now (memory .entry)) ⌝ }
 {
     match offer {

@@ -3,7 +3,7 @@ ghost use mathlib.Core.Path.{_≡_};
 ghost use Prim.Native.Nat.{_<_, _≤_, min};
 ghost use Rattle.endpoint.specs.declared.answer.Drop.the-variants as D;
 ghost use Rattle.endpoint.specs.Search.{lowest, foundOf};
-ghost use Rattle.endpoint.specs.Config.{hasAddress, binds};
+ghost use Rattle.endpoint.specs.Config.{hasAddress, binds, mostBindings};
 use crate::answer::Drop;
 use crate::number::BINDINGS;
 use reassembly::number::PEERS;
@@ -60,7 +60,7 @@ fn is_binding<'a>(
     kind: u8,
     network: u64,
 ) -> bool
-    requires { ⌜ i < 64 ⌝ }
+    requires { ⌜ i < mostBindings ⌝ }
     ensures { λ r. ⌜ r ≡ binds (now (networks .entry)) (now (kinds .entry)) (now (owners .entry)) peer kind network i ⌝ }
 {
     if networks[i] != network {
@@ -83,7 +83,7 @@ pub(crate) fn find_binding<'a>(
     kind: u8,
     network: u64,
 ) -> Lookup
-    requires { ⌜ n ≤ 64 ⌝ }
+    requires { ⌜ n ≤ mostBindings ⌝ }
     ensures { λ r. ⌜ r ≡ foundOf D.Binding (lowest (binds (now (networks .entry)) (now (kinds .entry)) (now (owners .entry)) peer kind network) n) ⌝ }
 {
     let mut i: usize = 0;

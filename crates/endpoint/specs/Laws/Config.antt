@@ -24,7 +24,7 @@ use Rattle.endpoint.specs.Laws.Search.{lowest-none, lowest-is, binds-hit
 use Rattle.endpoint.specs.Config.{addressAt, freeRow, tickOf, configOf, hasAddress, findPeer, binds, findBinding, isSome, fresh, startChecks}
 use Rattle.endpoint.specs.Config.{refusedStart, startOf}
 use Rattle.endpoint.specs.Config.{addressChecks, refusedAdd, addPeerChecks, withAddress, addPeerOf, isNetwork, addBindingChecks, withBinding}
-use Rattle.endpoint.specs.Config.{addBindingOf, Adding, addPeer, addBinding, added, addedAll, setUp}
+use Rattle.endpoint.specs.Config.{addBindingOf, Adding, addPeer, addBinding, added, addedAll, setUp, mostBindings}
 use Rattle.endpoint.specs.Laws.ConfigExits.{peerAdded, bindingAdded, add-binding-exit}
 
 -- ---- what a call leaves: the endpoint as it came, or the one with the addition
@@ -85,12 +85,12 @@ pub record Valid (e : Endpoint) : Type 0 where
   pub settings : Passed (startChecks (e .own) (e .port) (e .mtu)) ⊎ (e ≡ fresh 0 0 0)
   pub peers : e .peers ≡ replicate 8 freeRow
   pub peer-count : e .«peer_count» ≤ 8
-  pub binding-count : e .«binding_count» ≤ 64
+  pub binding-count : e .«binding_count» ≤ mostBindings
   pub addresses-length : length (e .addresses) ≡ 8
-  pub networks-length : length (e .networks) ≡ 64
-  pub kinds-length : length (e .kinds) ≡ 64
-  pub owners-length : length (e .owners) ≡ 64
-  pub tenants-length : length (e .tenants) ≡ 64
+  pub networks-length : length (e .networks) ≡ mostBindings
+  pub kinds-length : length (e .kinds) ≡ mostBindings
+  pub owners-length : length (e .owners) ≡ mostBindings
+  pub tenants-length : length (e .tenants) ≡ mostBindings
   -- no two listed peers share an address, and none has ours
   pub address-once : (i j : ℕ) → i < e .«peer_count» → j < e .«peer_count» → addressAt e i ≡ addressAt e j → i ≡ j
   pub address-other : (i : ℕ) → i < e .«peer_count» → addressAt e i ≢ e .own
@@ -201,8 +201,8 @@ module _ (e : Endpoint) (peer kind network tenant : ℕ) where
       → (i : ℕ) → i < e .«binding_count» → getD (e .owners) i 0 ≡ peer → getD (e .kinds) i 0 ≡ kind → getD (e .networks) i 0 ≢ network
   unfolding findBinding configOf
   unlisted-binding v h i l o k m =
-      let c : e .«binding_count» ≤ 64 = v .binding-count in
-      let miss = lowest-none (binds (e .networks) (e .kinds) (e .owners) peer kind network) (min (e .«binding_count») 64)
+      let c : e .«binding_count» ≤ mostBindings = v .binding-count in
+      let miss = lowest-none (binds (e .networks) (e .kinds) (e .owners) peer kind network) (min (e .«binding_count») mostBindings)
       (none-of (findBinding (configOf e) peer kind network) h) i (omega arith) in
       differ (sym (binds-hit (e .networks) (e .kinds) (e .owners) peer kind network i m k o) ∙ miss)
 
@@ -211,10 +211,10 @@ module _ (e : Endpoint) (peer kind network tenant : ℕ) where
   binding-added-valid v p =
       let n : ℕ = e .«binding_count» in
       let owner : peer < min (e .«peer_count») 8 = leb-false (min (e .«peer_count») 8) peer (p .0) in
-      let room : e .«binding_count» < 64 = leb-false 64 (e .«binding_count») (p .1 .1 .1 .1 .0) in
-      let wn : length (e .networks) ≡ 64 = v .networks-length in
-      let wk : length (e .kinds) ≡ 64 = v .kinds-length in
-      let wo : length (e .owners) ≡ 64 = v .owners-length in
+      let room : e .«binding_count» < mostBindings = leb-false mostBindings (e .«binding_count») (p .1 .1 .1 .1 .0) in
+      let wn : length (e .networks) ≡ mostBindings = v .networks-length in
+      let wk : length (e .kinds) ≡ mostBindings = v .kinds-length in
+      let wo : length (e .owners) ≡ mostBindings = v .owners-length in
       let other = unlisted-binding v (p .1 .1 .1 .0) in
       record {
         settings = either (v .settings) (λ s. inl s) (λ q. let z : e .«peer_count» ≡ 0 = ap (λ (x : Endpoint). x .«peer_count») q in absurd (omega arith));
@@ -257,10 +257,10 @@ module _ (e : Endpoint) (peer kind network tenant : ℕ) where
           → Valid e → Passed (addBindingChecks e peer kind network tenant) → ⊥
       clashes i j x y o k m v p =
           let n : ℕ = e .«binding_count» in
-          let room : e .«binding_count» < 64 = leb-false 64 (e .«binding_count») (p .1 .1 .1 .1 .0) in
-          let wn : length (e .networks) ≡ 64 = v .networks-length in
-          let wk : length (e .kinds) ≡ 64 = v .kinds-length in
-          let wo : length (e .owners) ≡ 64 = v .owners-length in
+          let room : e .«binding_count» < mostBindings = leb-false mostBindings (e .«binding_count») (p .1 .1 .1 .1 .0) in
+          let wn : length (e .networks) ≡ mostBindings = v .networks-length in
+          let wk : length (e .kinds) ≡ mostBindings = v .kinds-length in
+          let wo : length (e .owners) ≡ mostBindings = v .owners-length in
           unlisted-binding v (p .1 .1 .1 .0) i x
           (sym (at-before (e .owners) n peer i x) ∙ o ∙ at-last (e .owners) n peer j (omega arith) y)
           (sym (at-before (e .kinds) n kind i x) ∙ k ∙ at-last (e .kinds) n kind j (omega arith) y)
@@ -299,11 +299,11 @@ module _ (e : Endpoint) (v : Valid e) (i : ℕ) where
   pub listed-binding-found : i < e .«binding_count» → findBinding (configOf e) (getD (e .owners) i 0) (getD (e .kinds) i 0) (getD (e .networks) i 0) ≡ some i
   unfolding findBinding configOf
   listed-binding-found h =
-      let c : e .«binding_count» ≤ 64 = v .binding-count in
+      let c : e .«binding_count» ≤ mostBindings = v .binding-count in
       let owner : ℕ = getD (e .owners) i 0 in
       let kind : ℕ = getD (e .kinds) i 0 in
       let network : ℕ = getD (e .networks) i 0 in
-      lowest-is (binds (e .networks) (e .kinds) (e .owners) owner kind network) (min (e .«binding_count») 64) i
+      lowest-is (binds (e .networks) (e .kinds) (e .owners) owner kind network) (min (e .«binding_count») mostBindings) i
       (record {
         below = omega arith;
         passes = binds-hit (e .networks) (e .kinds) (e .owners) owner kind network i refl refl refl;

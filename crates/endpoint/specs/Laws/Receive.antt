@@ -47,7 +47,7 @@ use Rattle.endpoint.specs.Search.{lowest, foundOf}
 use Rattle.endpoint.specs.Laws.Search.{lowest-some}
 use Rattle.endpoint.specs.declared.search.Lookup.{Lookup}
 use Rattle.endpoint.specs.declared.search.Lookup.the-variants as L
-use Rattle.endpoint.specs.Config.{Config, configOf, hasAddress, findPeer, binds}
+use Rattle.endpoint.specs.Config.{Config, configOf, hasAddress, findPeer, binds, mostBindings}
 use Rattle.endpoint.specs.Receive.{answers, innerFrom, answerAt, tunnelFrom, byPayload, byPeer, headerOf, byDestination, byIpv4, bySender, sourceOf}
 use Rattle.endpoint.specs.Receive.{byStt, sttFrom, judgeOf, Step, rowAt, unchanged, stepped, stepOf}
 use Rattle.endpoint.specs.declared.answer.Drop.{Drop}
@@ -327,7 +327,7 @@ module _ (e : Endpoint) (m k : List ℕ) where
       let in-payload : t .start ≤ length (part k (h .start) (h .end)) =
       tunnel-within (h .protocol) (h .source) (h .destination) (e .port) (part k (h .start) (h .end)) t q in
       ap (unchanged e p m)
-      (tunnel-out (e .networks) (e .kinds) (e .owners) (e .tenants) (min (e .«binding_count») 64) p (t .kind) (t .network) (h .start + t .start) (h .end) k m
+      (tunnel-out (e .networks) (e .kinds) (e .owners) (e .tenants) (min (e .«binding_count») mostBindings) p (t .kind) (t .network) (h .start + t .start) (h .end) k m
       (omega (arith, part-length k (h .start) (h .end) (b .1))) (b .1))
   carried-adds h b p (C.Segment g) q =
       let in-payload : g .start ≤ length (part k (h .start) (h .end)) =

@@ -46,7 +46,7 @@ use Rattle.reassembly.specs.Laws.Table.{reassembly-table, under-segment}
 use Rattle.reassembly.specs.Receive.{nowhere, Reading, segment, frameAnswer, takeAnswer, Verdict, bad, good}
 use Rattle.endpoint.specs.Answer.{dropCode, addedCode, startCode, valuesOf, wrapValuesOf}
 use Rattle.endpoint.specs.Config.{isSome, configOf, hasAddress, findPeer, binds, findBinding, fresh, startChecks, refusedStart, startOf, refusedAdd}
-use Rattle.endpoint.specs.Config.{addPeerChecks, withAddress, addPeerOf, isNetwork, addBindingChecks, withBinding, addBindingOf}
+use Rattle.endpoint.specs.Config.{addPeerChecks, withAddress, addPeerOf, isNetwork, addBindingChecks, withBinding, addBindingOf, mostBindings}
 use Rattle.endpoint.specs.Receive.{byBinding, byFrame, innerFrom, answerAt, tunnelFrom, tunnelOf, answers, byPayload, byPeer, byDestination, byIpv4}
 use Rattle.endpoint.specs.Receive.{headerOf, byStt, sttFrom, judgeOf, rowAt, stepped, stepOf}
 use Rattle.endpoint.specs.Wrap.{capacity, segmentsOf, segmentStart, segmentSize, low32, packetOf, exceeds, isBad, kindAt, networkAt, ownerAt, peerAt}
@@ -129,7 +129,7 @@ pub add-binding-number : (e : Endpoint) (peer kind network tenant : ℕ)
     → addedCode (addBindingOf e peer kind network tenant .answer) ≡ T.numbered (P.addBindingRows e peer kind network tenant)
 unfolding addBindingOf addBindingChecks findBinding configOf binds P.addBindingRows
 add-binding-number e peer kind network tenant =
-    rw (some-lowest (min (e .«binding_count») 64) (P.isBinding e peer kind network), sym (network-bad kind network))
+    rw (some-lowest (min (e .«binding_count») mostBindings) (P.isBinding e peer kind network), sym (network-bad kind network))
     (pull (λ (s : AddResult). addedCode (s .answer)) (refusedAdd e) (addBindingChecks e peer kind network tenant)
     (record { endpoint = withBinding e (e .«binding_count») peer kind network tenant; answer = A.Number (e .«binding_count») })
     ∙ row3 18 (leb (min (e .«peer_count») 8) peer) (not (isNetwork kind network)) (ltb 65535 tenant) _)

@@ -6,7 +6,7 @@ use mathlib.Core.Path.{_∙_, sym, ap}
 use native.Mathlib.Omega.{arith}
 use lib.ListN.{getD}
 use Rattle.endpoint.specs.declared.config.Endpoint.{Endpoint}
-use Rattle.endpoint.specs.Config.{lent}
+use Rattle.endpoint.specs.Config.{lent, mostBindings}
 use Rattle.endpoint.specs.Wrap.{Wrote}
 use Rattle.endpoint.specs.Laws.WrapExits.{wrap-unlisted, wrap-ownerless, wrap-sends}
 use borrow.Author.Needs.{needs}
@@ -19,7 +19,7 @@ least-requires c κs = search needs
 returns : tie.Need-returns
 returns c =
     let a = c .before .before .before .before .args in
-    let h : min (a .binding-count) 64 ≤ a .binding = omega (arith, c .before .least .ensures) in
+    let h : min (a .binding-count) mostBindings ≤ a .binding = omega (arith, c .before .least .ensures) in
     wrap-unlisted _ (a .binding) (a .frame .now) (a .segment) (a .identifier) (a .output .now) h
 
 element-copy-out-owner : tie.Need-element-copy-out-owner
@@ -28,7 +28,7 @@ element-copy-out-owner c = search needs
 returns-2 : tie.Need-returns-2
 returns-2 c =
     let a = c .before .before .before .before .before .before .args in
-    let h : a .binding < min (a .binding-count) 64 = omega (arith, c .before .before .before .least .ensures) in
+    let h : a .binding < min (a .binding-count) mostBindings = omega (arith, c .before .before .before .least .ensures) in
     wrap-ownerless _ (a .binding) (a .frame .now) (a .segment) (a .identifier) (a .output .now) h (c .if2 .taken)
 
 cast-p : tie.Need-cast-p
@@ -59,7 +59,7 @@ returns-3 : tie.Need-returns-3
 returns-3 c =
     let a = c .before .before .before .before .before .before .before .before .before .before .before .before .before .args in
     let e : Endpoint = lent (a .networks .now) (a .kinds .now) (a .owners .now) [] (a .addresses .now) (a .own) (a .port) (a .mtu) 0 (a .binding-count) in
-    let h : a .binding < min (a .binding-count) 64 = omega (
+    let h : a .binding < min (a .binding-count) mostBindings = omega (
       arith,
       c .before .before .before .before .before .before .before .before .before .before .least .ensures,
     ) in
