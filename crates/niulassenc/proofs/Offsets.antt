@@ -1,8 +1,27 @@
--- Where an endpoint's fields lie in memory, in bytes from its start: `#[repr(C)]`, each behind the one before it.
+-- An endpoint's fields in memory: the types of its columns, and where each field lies, in bytes from the endpoint's start: `#[repr(C)]`, each behind the one
+-- before it.
 -- Assumes nothing.
 use Prim.Native.Nat.{ℕ, _+_, _*_}
+use denote.RattleType.{RattleType}
+use denote.Builtin.{u8, u16, u32, u64}
+use denote.Array.{Array}
 use Rattle.reassembly.specs.Slots.{mostPeers}
 use Rattle.endpoint.specs.Config.{mostBindings}
+
+abbrev pub Networks : RattleType
+Networks = Array u64 mostBindings
+
+abbrev pub Addresses : RattleType
+Addresses = Array u32 mostPeers
+
+abbrev pub Tenants : RattleType
+Tenants = Array u16 mostBindings
+
+abbrev pub Kinds : RattleType
+Kinds = Array u8 mostBindings
+
+abbrev pub Owners : RattleType
+Owners = Array u8 mostBindings
 
 -- the bytes of a peer's record
 abbrev pub peerBytes : ℕ

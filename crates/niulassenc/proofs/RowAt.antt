@@ -19,7 +19,7 @@ use ghost.Atoms.{Atoms, sem}
 use types.Kit.{Given, Item, ‵, raw, _⊛_, _$_, _∵_, !, qed, fjoin, fpack, done}
 use types.Share.{parts}
 use denote.RattleType.{RattleType}
-use denote.Builtin.{u8, u16, u32, u64}
+use denote.Builtin.{u16, u32}
 use denote.Memory.{cellAt, partAt, partOf, mem, shares}
 use denote.Array.{Array}
 use denote.ArrayMemory.{array-apart, array-whole}
@@ -38,7 +38,7 @@ use Rattle.reassembly.proofs.slot.Peer as R
 use Rattle.reassembly.proofs.slot.Peer.Laws as R′
 use Rattle.endpoint.proofs.config.Endpoint as T
 use Rattle.endpoint.proofs.config.Endpoint.Laws as T′
-use Rattle.niulassenc.proofs.Offsets.{peersAt, peerBytes}
+use Rattle.niulassenc.proofs.Offsets.{peersAt, peerBytes, Networks, Addresses, Tenants, Kinds, Owners}
 use Rattle.endpoint.specs.Config.{mostBindings}
 
 -- where the row of peer p lies, of an endpoint at o
@@ -59,17 +59,17 @@ into-row r = field R.the-type .into r
 -- the endpoint's fields, each with its MIR type
 abbrev pub members : List Member
 members =
-    record { row = Array u64 mostBindings; ty = tyArray (tyInt w64) mostBindings }
+    record { row = Networks; ty = tyArray (tyInt w64) mostBindings }
     ∷ record { row = Array RowS mostPeers; ty = tyArray R′.mir mostPeers }
-    ∷ record { row = Array u32 mostPeers; ty = tyArray (tyInt w32) mostPeers }
+    ∷ record { row = Addresses; ty = tyArray (tyInt w32) mostPeers }
     ∷ record { row = u32; ty = tyInt w32 }
-    ∷ record { row = Array u16 mostBindings; ty = tyArray (tyInt w16) mostBindings }
+    ∷ record { row = Tenants; ty = tyArray (tyInt w16) mostBindings }
     ∷ record { row = u16; ty = tyInt w16 }
     ∷ record { row = u16; ty = tyInt w16 }
     ∷ record { row = u16; ty = tyInt w16 }
     ∷ record { row = u16; ty = tyInt w16 }
-    ∷ record { row = Array u8 mostBindings; ty = tyArray (tyInt w8) mostBindings }
-    ∷ record { row = Array u8 mostBindings; ty = tyArray (tyInt w8) mostBindings }
+    ∷ record { row = Kinds; ty = tyArray (tyInt w8) mostBindings }
+    ∷ record { row = Owners; ty = tyArray (tyInt w8) mostBindings }
     ∷ []
 
 abbrev elems : Endpoint → List (RowS .Denot)

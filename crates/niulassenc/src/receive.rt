@@ -36,7 +36,8 @@ pub(crate) fn flat_settled<'a>(
 ) -> PeerUpdate
     ensures { λ r. ⌜ (r ≡ outcomeOf (settleOf (now (networks .entry)) (now (kinds .entry)) (now (owners .entry)) (now (tenants .entry))
         (min «binding_count» mostBindings) arrival row (now (packet .entry)) (now (memory .entry))))
-        × (now (memory .exit) ≡ settleOf (now (networks .entry)) (now (kinds .entry)) (now (owners .entry)) (now (tenants .entry)) (min «binding_count» mostBindings)
+        × (now (memory .exit) ≡ settleOf (now (networks .entry)) (now (kinds .entry)) (now (owners .entry)) (now (tenants .entry))
+        (min «binding_count» mostBindings)
         arrival row (now (packet .entry)) (now (memory .entry)) .mem) ⌝ }
 {
     let peer = arrival.peer;

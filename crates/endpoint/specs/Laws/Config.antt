@@ -14,7 +14,7 @@ use lib.Dec.{eqb}
 use borrow.Author.Tests.{eq-eqb, ne-eqb, le-leb, leb-false, eqb-true, eqb-false, not-false}
 use Rattle.wire.specs.Checks.{Check, _⇒_, first, Passed}
 use Rattle.reassembly.specs.Laws.Base.{caseB, either, clash}
-use Rattle.reassembly.specs.Slots.{olderRow}
+use Rattle.reassembly.specs.Slots.{olderRow, mostPeers}
 use Rattle.endpoint.specs.declared.answer.ConfigRefusal.the-variants as C
 use Rattle.endpoint.specs.declared.answer.Start.the-variants as S
 use Rattle.endpoint.specs.declared.config.Endpoint.{Endpoint}
@@ -65,7 +65,7 @@ refused-start-binding peer kind network tenant = add-binding-exit (fresh 0 0 0) 
 
 -- ---- the rows of slots
 
-pub rows-fresh : (own port mtu : ℕ) → fresh own port mtu .peers ≡ replicate 8 freeRow
+pub rows-fresh : (own port mtu : ℕ) → fresh own port mtu .peers ≡ replicate mostPeers freeRow
 unfolding fresh
 rows-fresh own port mtu = refl
 
@@ -83,10 +83,10 @@ config-tick e = refl
 pub record Valid (e : Endpoint) : Type 0 where
   -- a refused start lists nothing
   pub settings : Passed (startChecks (e .own) (e .port) (e .mtu)) ⊎ (e ≡ fresh 0 0 0)
-  pub peers : e .peers ≡ replicate 8 freeRow
-  pub peer-count : e .«peer_count» ≤ 8
+  pub peers : e .peers ≡ replicate mostPeers freeRow
+  pub peer-count : e .«peer_count» ≤ mostPeers
   pub binding-count : e .«binding_count» ≤ mostBindings
-  pub addresses-length : length (e .addresses) ≡ 8
+  pub addresses-length : length (e .addresses) ≡ mostPeers
   pub networks-length : length (e .networks) ≡ mostBindings
   pub kinds-length : length (e .kinds) ≡ mostBindings
   pub owners-length : length (e .owners) ≡ mostBindings
@@ -147,16 +147,16 @@ module _ (e : Endpoint) (address : ℕ) where
   unlisted-address : (v : Valid e) → isSome (findPeer (configOf e) address) ≡ false → (i : ℕ) → i < e .«peer_count» → addressAt e i ≢ address
   unfolding findPeer configOf hasAddress addressAt
   unlisted-address v h i l =
-      let c : e .«peer_count» ≤ 8 = v .peer-count in
+      let c : e .«peer_count» ≤ mostPeers = v .peer-count in
       eqb-false (getD (e .addresses) i 0) address
-      (lowest-none (hasAddress (e .addresses) address) (min (e .«peer_count») 8) (none-of (findPeer (configOf e) address) h) i (omega arith))
+      (lowest-none (hasAddress (e .addresses) address) (min (e .«peer_count») mostPeers) (none-of (findPeer (configOf e) address) h) i (omega arith))
 
   peer-added-valid : Valid e → Passed (addPeerChecks e address) → Valid (withAddress e (e .«peer_count») address)
   unfolding addPeerChecks withAddress fresh
   peer-added-valid v p =
       let n : ℕ = e .«peer_count» in
-      let full : e .«peer_count» < 8 = leb-false 8 (e .«peer_count») (p .1 .1 .1 .1 .1 .0) in
-      let size : length (e .addresses) ≡ 8 = v .addresses-length in
+      let full : e .«peer_count» < mostPeers = leb-false mostPeers (e .«peer_count») (p .1 .1 .1 .1 .1 .0) in
+      let size : length (e .addresses) ≡ mostPeers = v .addresses-length in
       let here = new-address (omega arith) in
       let other = unlisted-address v (p .1 .1 .1 .1 .0) in
       record {
@@ -210,7 +210,7 @@ module _ (e : Endpoint) (peer kind network tenant : ℕ) where
   unfolding addBindingChecks withBinding fresh configOf addressAt
   binding-added-valid v p =
       let n : ℕ = e .«binding_count» in
-      let owner : peer < min (e .«peer_count») 8 = leb-false (min (e .«peer_count») 8) peer (p .0) in
+      let owner : peer < min (e .«peer_count») mostPeers = leb-false (min (e .«peer_count») mostPeers) peer (p .0) in
       let room : e .«binding_count» < mostBindings = leb-false mostBindings (e .«binding_count») (p .1 .1 .1 .1 .0) in
       let wn : length (e .networks) ≡ mostBindings = v .networks-length in
       let wk : length (e .kinds) ≡ mostBindings = v .kinds-length in
@@ -288,8 +288,8 @@ module _ (e : Endpoint) (v : Valid e) (i : ℕ) where
   pub listed-peer-found : i < e .«peer_count» → findPeer (configOf e) (addressAt e i) ≡ some i
   unfolding findPeer configOf hasAddress addressAt
   listed-peer-found h =
-      let c : e .«peer_count» ≤ 8 = v .peer-count in
-      lowest-is (hasAddress (e .addresses) (addressAt e i)) (min (e .«peer_count») 8) i
+      let c : e .«peer_count» ≤ mostPeers = v .peer-count in
+      lowest-is (hasAddress (e .addresses) (addressAt e i)) (min (e .«peer_count») mostPeers) i
       (record {
         below = omega arith;
         passes = eq-eqb (addressAt e i) (addressAt e i) refl;

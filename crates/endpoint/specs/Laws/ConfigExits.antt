@@ -26,6 +26,7 @@ use Rattle.endpoint.specs.Search.{lowest, foundOf}
 use Rattle.endpoint.specs.Config.{configOf, hasAddress, findPeer, binds, findBinding, isSome, fresh, startChecks, refusedStart, startOf, refusedAdd}
 use Rattle.endpoint.specs.Config.{addPeerChecks, withAddress, addPeerOf, isNetwork, addBindingChecks, withBinding, addBindingOf, peersOf, bindingsOf}
 use Rattle.endpoint.specs.Config.{mostBindings}
+use Rattle.reassembly.specs.Slots.{mostPeers}
 
 -- ---- ordered checks: behind k that are passed
 
@@ -183,11 +184,11 @@ is-found : (d : Drop) (o : Option ℕ) → isFound (foundOf d o) ≡ isSome o
 is-found d none = refl
 is-found d (some i) = refl
 
-pub peer-found : (e : Endpoint) (address n : ℕ) (f : Lookup) → n ≡ min (e .«peer_count») 8
+pub peer-found : (e : Endpoint) (address n : ℕ) (f : Lookup) → n ≡ min (e .«peer_count») mostPeers
     → f ≡ foundOf D.Peer (lowest (hasAddress (e .addresses) address) n) → isSome (findPeer (configOf e) address) ≡ isFound f
 unfolding findPeer configOf
 peer-found e address n f k r =
-    sym (is-found D.Peer (lowest (hasAddress (e .addresses) address) (min (e .«peer_count») 8)))
+    sym (is-found D.Peer (lowest (hasAddress (e .addresses) address) (min (e .«peer_count») mostPeers)))
     ∙ ap (λ (k : ℕ). isFound (foundOf D.Peer (lowest (hasAddress (e .addresses) address) k))) (sym k)
     ∙ ap isFound (sym r)
 

@@ -5,7 +5,7 @@
 use Prim.Native.Nat.{ℕ, _-_}
 use mathlib.Core.List.{List, [], _∷_, _++_}
 use lib.ListN.{replicate}
-use Rattle.reassembly.specs.Slots.{noMark}
+use Rattle.reassembly.specs.Slots.{noMark, mostPeers}
 use Rattle.reassembly.specs.Receive.{receive, tick}
 use Rattle.reassembly.specs.Mix.{Frame, Item, given, other}
 use Rattle.endpoint.specs.Config.{Config, Adding, addPeer, addBinding, setUp, mostBindings}
@@ -35,7 +35,7 @@ listed = record {
   own = 167772161;
   port = 7471;
   mtu = 1500;
-  addresses = 167772162 ∷ 167772163 ∷ replicate 6 0;
+  addresses = 167772162 ∷ 167772163 ∷ replicate (mostPeers - 2) 0;
   peers = 2;
   owners = 0 ∷ 0 ∷ 1 ∷ 0 ∷ replicate (mostBindings - 4) 0;
   kinds = 3 ∷ 3 ∷ 1 ∷ 1 ∷ replicate (mostBindings - 4) 0;

@@ -18,6 +18,7 @@ use Rattle.endpoint.specs.declared.answer.ConfigRefusal.{ConfigRefusal}
 use Rattle.endpoint.specs.declared.config.Endpoint.{Endpoint}
 use Rattle.endpoint.specs.declared.config.AddResult.{AddResult}
 use Rattle.endpoint.specs.Reached.{Call, add, got, ticked, left, leftBy, Typed, AllTyped, Reached}
+use Rattle.reassembly.specs.Slots.{mostPeers}
 
 -- ---- ordered checks of two endpoints
 
@@ -56,7 +57,7 @@ withPeerIn c n address = record {
   port = c .port;
   mtu = c .mtu;
   addresses = set (c .addresses) n address;
-  peers = min (n + 1) 8;
+  peers = min (n + 1) mostPeers;
   owners = c .owners;
   kinds = c .kinds;
   networks = c .networks;

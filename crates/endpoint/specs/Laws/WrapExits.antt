@@ -25,6 +25,7 @@ use Rattle.endpoint.specs.declared.wrap.Route.{Route}
 use Rattle.endpoint.specs.Config.{configOf, lent, mostBindings}
 use Rattle.endpoint.specs.Wrap.{packetOn, sendChecks, sent, sendOf, Put, pieceOf}
 use Rattle.endpoint.specs.Wrap.{segmentsOf, low32, packetOf, exceeds, isBad, kindAt, networkAt, ownerAt, wrapChecks, Wrote, refusedWrap, wrapOf}
+use Rattle.reassembly.specs.Slots.{mostPeers}
 
 -- ---- checks 13, 22, 23 (segment), 21: what the call comes to once the binding is found
 
@@ -236,12 +237,12 @@ module _ (e : Endpoint) (b : ℕ) (frame : List ℕ) (k identifier : ℕ) (old :
   wrap-unlisted h = rw (le-leb (min (e .«binding_count») mostBindings) b h) (refl, refl)
 
   module _ (listed : b < min (e .«binding_count») mostBindings) where
-    pub wrap-ownerless : 8 ≤ ownerAt e b → Leaves (wrapOf e b frame k identifier old) (Y.Refused X.Binding) old
+    pub wrap-ownerless : mostPeers ≤ ownerAt e b → Leaves (wrapOf e b frame k identifier old) (Y.Refused X.Binding) old
     unfolding wrapOf wrapChecks configOf
-    wrap-ownerless h = rw (lt-leb (min (e .«binding_count») mostBindings) b listed, le-leb 8 (ownerAt e b) h) (refl, refl)
+    wrap-ownerless h = rw (lt-leb (min (e .«binding_count») mostBindings) b listed, le-leb mostPeers (ownerAt e b) h) (refl, refl)
 
     -- the peer's address, as the code reads it
-    pub wrap-sends : ownerAt e b < 8
+    pub wrap-sends : ownerAt e b < mostPeers
         → wrapOf e b frame k identifier old
         ≡ sendOf
         (record {
@@ -255,7 +256,7 @@ module _ (e : Endpoint) (b : ℕ) (frame : List ℕ) (k identifier : ℕ) (old :
         frame k identifier old
     unfolding wrapOf wrapChecks configOf sendOf sendChecks
     wrap-sends h =
-        rw (lt-leb (min (e .«binding_count») mostBindings) b listed, lt-leb 8 (ownerAt e b) h)
+        rw (lt-leb (min (e .«binding_count») mostBindings) b listed, lt-leb mostPeers (ownerAt e b) h)
 
 -- it knows of an endpoint only the columns and settings that it is lent
 pub wrap-lent : (e : Endpoint) (b : ℕ) (frame : List ℕ) (k identifier : ℕ) (old : List ℕ)

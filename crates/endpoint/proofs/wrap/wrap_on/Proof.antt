@@ -12,6 +12,7 @@ use Rattle.endpoint.specs.Laws.WrapExits.{wrap-unlisted, wrap-ownerless,
 use borrow.Author.Needs.{needs}
 use Rattle.endpoint.proofs.wrap.wrap_on.Statement.{statement}
 use Rattle.endpoint.proofs.wrap.wrap_on.Tie as tie
+use Rattle.reassembly.specs.Slots.{mostPeers}
 
 least-requires : tie.Need-least-requires
 least-requires c κs = search needs
@@ -63,7 +64,7 @@ returns-3 c =
       arith,
       c .before .before .before .before .before .before .before .before .before .before .least .ensures,
     ) in
-    let o : getD (a .owners .now) (a .binding) 0 < 8 = omega arith in
+    let o : getD (a .owners .now) (a .binding) 0 < mostPeers = omega arith in
     let same = wrap-sends e (a .binding) (a .frame .now) (a .segment) (a .identifier) (a .output .now) h o in (
       c .before .before .send .ensures .0 ∙ ap (λ (w : Wrote). w .answer) (sym same),
       c .before .before .send .ensures .1

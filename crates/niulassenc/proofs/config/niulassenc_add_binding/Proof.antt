@@ -229,16 +229,22 @@ module _ {M : Type 1} (𝓤 : URA M) (H : Heap 𝓤) (A : Atoms 𝓤) (W : Given
         spelt ! T.the-row (Is T.the-row) (shows 𝓤 H A T.the-row) (LL.vals T.the-type T′.the-laws) (LL.tells T.the-type T′.the-laws) fullShare h vs b o $
         move ! (1 ∷ []) $ peeks ! T.the-row (Is T.the-row) (shows 𝓤 H A T.the-row) h (mach ∷ []) (λ was. move ! (1 ∷ 0 ∷ []) $
         -- [the endpoint's cell; what it owns; the open borrow; obs; auth; _11; …; _0; …]
-        assigns ! (addr ! (from ! (hop ! (look ! 25 refl) (fld ! {τ = tyArray (tyInt w64) mostBindings} {d = networksAt} refl (stop !))))) (from ! (stop !)) (init ! 15 refl
+        assigns ! (addr ! (from ! (hop ! (look ! 25 refl) (fld ! {τ = tyArray (tyInt w64) mostBindings} {d = networksAt} refl (stop !))))) (from ! (stop !))
+        (init ! 15 refl
         (tt, tt)) $
-        assigns ! (addr ! (from ! (hop ! (look ! 25 refl) (fld ! {τ = tyArray (tyInt w8) mostBindings} {d = kindsAt} refl (stop !))))) (from ! (stop !)) (init ! 13 refl
+        assigns ! (addr ! (from ! (hop ! (look ! 25 refl) (fld ! {τ = tyArray (tyInt w8) mostBindings} {d = kindsAt} refl (stop !))))) (from ! (stop !))
+        (init ! 13 refl
         (tt, tt)) $
-        assigns ! (addr ! (from ! (hop ! (look ! 25 refl) (fld ! {τ = tyArray (tyInt w8) mostBindings} {d = ownersAt} refl (stop !))))) (from ! (stop !)) (init ! 11 refl
+        assigns ! (addr ! (from ! (hop ! (look ! 25 refl) (fld ! {τ = tyArray (tyInt w8) mostBindings} {d = ownersAt} refl (stop !))))) (from ! (stop !))
+        (init ! 11 refl
         (tt, tt)) $
-        assigns ! (addr ! (from ! (hop ! (look ! 25 refl) (fld ! {τ = tyArray (tyInt w16) mostBindings} {d = tenantsAt} refl (stop !))))) (from ! (stop !)) (init ! 9 refl
+        assigns ! (addr ! (from ! (hop ! (look ! 25 refl) (fld ! {τ = tyArray (tyInt w16) mostBindings} {d = tenantsAt} refl (stop !))))) (from ! (stop !))
+        (init ! 9 refl
         (tt, tt)) $
-        assigns ! (addr ! (from ! (hop ! (look ! 25 refl) (fld ! {τ = tyInt w16} {d = bindingCountAt} refl (stop !))))) (from ! (stop !)) (init ! 7 refl (tt, tt)) $
-        assigns ! (of-opd ! (load ! (from ! (hop ! (look ! 25 refl) (fld ! {τ = tyInt w16} {d = peerCountAt} refl (stop !)))) (look-in ! 0 (sub ! 7 refl (whole !)))))
+        assigns ! (addr ! (from ! (hop ! (look ! 25 refl) (fld ! {τ = tyInt w16} {d = bindingCountAt} refl (stop !))))) (from ! (stop !)) (init ! 7 refl
+        (tt, tt)) $
+        assigns ! (of-opd ! (load ! (from ! (hop ! (look ! 25 refl) (fld ! {τ = tyInt w16} {d = peerCountAt} refl (stop !)))) (look-in ! 0 (sub ! 7 refl
+        (whole !)))))
         (from ! (stop !)) (init ! 5 refl (tt, record { fits = peers-fit h was })) $
         -- the fields are lent
         use2 W (‵ (partAt T.the-row fullShare h b o)) (lies-in 𝓤 H A W fullShare T.the-row h b o (mach ∷ [])) $ lft-new ! tt (λ α₀. lft-new ! tt (λ α₁.

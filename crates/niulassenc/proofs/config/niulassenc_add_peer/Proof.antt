@@ -163,12 +163,15 @@ module _ {M : Type 1} (𝓤 : URA M) (H : Heap 𝓤) (A : Atoms 𝓤) (W : Given
         spelt ! T.the-row (Is T.the-row) (shows 𝓤 H A T.the-row) (LL.vals T.the-type T′.the-laws) (LL.tells T.the-type T′.the-laws) fullShare h vs b o $
         move ! (1 ∷ []) $ peeks ! T.the-row (Is T.the-row) (shows 𝓤 H A T.the-row) h (mach ∷ []) (λ was. move ! (1 ∷ 0 ∷ []) $
         -- [the endpoint's cell; what it owns; the open borrow; obs; auth; _6; …; _0; …]
-        assigns ! (addr ! (from ! (hop ! (look ! 15 refl) (fld ! {τ = tyArray (tyInt w32) mostPeers} {d = addressesAt} refl (stop !))))) (from ! (stop !)) (init ! 11 refl
+        assigns ! (addr ! (from ! (hop ! (look ! 15 refl) (fld ! {τ = tyArray (tyInt w32) mostPeers} {d = addressesAt} refl (stop !))))) (from ! (stop !))
+        (init ! 11 refl
         (tt, tt)) $
-        assigns ! (addr ! (from ! (hop ! (look ! 15 refl) (fld ! {τ = tyInt w16} {d = peerCountAt} refl (stop !))))) (from ! (stop !)) (init ! 9 refl (tt, tt)) $
+        assigns ! (addr ! (from ! (hop ! (look ! 15 refl) (fld ! {τ = tyInt w16} {d = peerCountAt} refl (stop !))))) (from ! (stop !)) (init ! 9 refl
+        (tt, tt)) $
         assigns ! (of-opd ! (load ! (from ! (hop ! (look ! 15 refl) (fld ! {τ = tyInt w32} {d = ownAt} refl (stop !)))) (look-in ! 0 (sub ! 3 refl (whole !)))))
         (from ! (stop !)) (init ! 7 refl (tt, record { fits = own-fits h was })) $
-        assigns ! (of-opd ! (load ! (from ! (hop ! (look ! 15 refl) (fld ! {τ = tyInt w16} {d = portAt} refl (stop !)))) (look-in ! 0 (sub ! 5 refl (whole !)))))
+        assigns ! (of-opd ! (load ! (from ! (hop ! (look ! 15 refl) (fld ! {τ = tyInt w16} {d = portAt} refl (stop !)))) (look-in ! 0 (sub ! 5 refl
+        (whole !)))))
         (from ! (stop !)) (init ! 5 refl (tt, record { fits = port-fits h was })) $
         -- the fields are lent
         use2 W (‵ (partAt T.the-row fullShare h b o)) (lies-in 𝓤 H A W fullShare T.the-row h b o (mach ∷ [])) $ lft-new ! tt (λ α₀. lft-new ! tt (λ α₁.

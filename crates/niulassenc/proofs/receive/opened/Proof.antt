@@ -179,9 +179,11 @@ module _ {M : Type 1} (𝓤 : URA M) (H : Heap 𝓤) (A : Atoms 𝓤) (W : Given
         (init ! 10 refl (tt, tt)) $
         assigns ! (of-opd ! (load ! (from ! (hop ! (look ! 16 refl) (fld ! {τ = tyInt w32} {d = ownAt} refl (stop !)))) (look-in ! 0 (sub ! 3 refl (whole !)))))
         (from ! (stop !)) (init ! 8 refl (tt, record { fits = own-fits h was })) $
-        assigns ! (of-opd ! (load ! (from ! (hop ! (look ! 16 refl) (fld ! {τ = tyInt w16} {d = portAt} refl (stop !)))) (look-in ! 0 (sub ! 5 refl (whole !)))))
+        assigns ! (of-opd ! (load ! (from ! (hop ! (look ! 16 refl) (fld ! {τ = tyInt w16} {d = portAt} refl (stop !)))) (look-in ! 0 (sub ! 5 refl
+        (whole !)))))
         (from ! (stop !)) (init ! 6 refl (tt, record { fits = port-fits h was })) $
-        assigns ! (of-opd ! (load ! (from ! (hop ! (look ! 16 refl) (fld ! {τ = tyInt w16} {d = peerCountAt} refl (stop !)))) (look-in ! 0 (sub ! 7 refl (whole !)))))
+        assigns ! (of-opd ! (load ! (from ! (hop ! (look ! 16 refl) (fld ! {τ = tyInt w16} {d = peerCountAt} refl (stop !)))) (look-in ! 0 (sub ! 7 refl
+        (whole !)))))
         (from ! (stop !)) (init ! 4 refl (tt, record { fits = peers-fit h was })) $
         shuts ! tt T.the-row q′ h (mach ∷ []) b o $ move ! (1 ∷ 0 ∷ []) $
         use2 W (later (some (λ (g : GName). ‵ (Addresses g) ⊛ (‵ Shared ⊛ ‵ (flft κe qe)))))

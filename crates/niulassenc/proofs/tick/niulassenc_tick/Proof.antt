@@ -118,7 +118,8 @@ aged h p = withRows h (olderBefore (h .peers) p)
 eight-rows : (h : Endpoint) → Is T.the-row h (LL.vals T.the-type T′.the-laws h) → length (h .peers) ≡ mostPeers
 eight-rows h is = sym (length-map (h .peers) _) ∙ LL.owed T.the-type T′.the-laws h (LL.vals T.the-type T′.the-laws h) is .1 .0 .1 .0 .1
 
-older-row : (h : Endpoint) (p : ℕ) (r : Peer) → length (h .peers) ≡ mostPeers → p < mostPeers → r ≡ olderRow (rowAt (aged h p) p) → withRow (aged h p) p r ≡ aged h (p + 1)
+older-row : (h : Endpoint) (p : ℕ) (r : Peer) → length (h .peers) ≡ mostPeers → p < mostPeers → r ≡ olderRow (rowAt (aged h p) p) → withRow (aged h p) p r
+    ≡ aged h (p + 1)
 older-row h p r eight l e = one-older h (aged h p) p r (omega (arith, eight)) refl e
 
 -- the only answer

@@ -30,7 +30,6 @@ use denote.Laws.{Is, shows}
 use denote.Memory.{partAt}
 use denote.Plain.{uint-makes, uint-vals, uint-tells}
 use denote.Builtin.{u8, u16, u32}
-use denote.Array.{Array}
 use denote.Ref.{RefT, ShrRef, ptr-vals, shr-tells}
 use denote.Signature.{plain}
 use denote.Slice.{sliceVal, ShrSlice, MutSlice, finally, slice-vals, shr-slice-tells, shr-slice-lawful, shr-slice-copy, mut-slice-tells, mut-slice-lawful}
@@ -66,7 +65,7 @@ use Rattle.niulassenc.proofs.wrap.niulassenc_wrap.Key.{name as #niulass
 use Rattle.niulassenc.proofs.wrap.niulassenc_wrap as f
 use Rattle.niulassenc.proofs.wrap.niulassenc_wrap.Statement as stated
 use Rattle.niulassenc.proofs.wrap.niulassenc_wrap.Code as code
-use Rattle.niulassenc.proofs.Offsets.{networksAt, addressesAt, ownAt, portAt, mtuAt, bindingCountAt, kindsAt, ownersAt}
+use Rattle.niulassenc.proofs.Offsets.{networksAt, addressesAt, ownAt, portAt, mtuAt, bindingCountAt, kindsAt, ownersAt, Addresses}
 use Rattle.reassembly.specs.Slots.{mostPeers}
 
 abbrev stayed : Stays (f.ended .signature .params) (f.ended .kept)
@@ -134,7 +133,7 @@ module _ {M : Type 1} (𝓤 : URA M) (H : Heap 𝓤) (A : Atoms 𝓤) (W : Given
   Says r zs = (r ≡ writingOf (wrapValuesOf (wrote .answer))) × (zs ≡ wrote .output)
 
   abbrev Cols : Names → Item 𝓤
-  Cols g = columns 𝓤 H A W (named 0) κe h b o (Array u32 mostPeers) (h .addresses) addressesAt g
+  Cols g = columns 𝓤 H A W (named 0) κe h b o Addresses (h .addresses) addressesAt g
 
   -- the call of `wrapped`
   module _ (was : Is T.the-row h (mach ∷ [])) (g : Names) where
@@ -255,11 +254,13 @@ module _ {M : Type 1} (𝓤 : URA M) (H : Heap 𝓤) (A : Atoms 𝓤) (W : Given
         (init ! 16 refl (tt, tt)) $
         assigns ! (of-opd ! (load ! (from ! (hop ! (look ! 34 refl) (fld ! {τ = tyInt w32} {d = ownAt} refl (stop !)))) (look-in ! 0 (sub ! 3 refl (whole !)))))
         (from ! (stop !)) (init ! 14 refl (tt, record { fits = own-fits h was })) $
-        assigns ! (of-opd ! (load ! (from ! (hop ! (look ! 34 refl) (fld ! {τ = tyInt w16} {d = portAt} refl (stop !)))) (look-in ! 0 (sub ! 5 refl (whole !)))))
+        assigns ! (of-opd ! (load ! (from ! (hop ! (look ! 34 refl) (fld ! {τ = tyInt w16} {d = portAt} refl (stop !)))) (look-in ! 0 (sub ! 5 refl
+        (whole !)))))
         (from ! (stop !)) (init ! 12 refl (tt, record { fits = port-fits h was })) $
         assigns ! (of-opd ! (load ! (from ! (hop ! (look ! 34 refl) (fld ! {τ = tyInt w16} {d = mtuAt} refl (stop !)))) (look-in ! 0 (sub ! 6 refl (whole !)))))
         (from ! (stop !)) (init ! 10 refl (tt, record { fits = mtu-fits h was })) $
-        assigns ! (of-opd ! (load ! (from ! (hop ! (look ! 34 refl) (fld ! {τ = tyInt w16} {d = bindingCountAt} refl (stop !)))) (look-in ! 0 (sub ! 8 refl (whole !)))))
+        assigns ! (of-opd ! (load ! (from ! (hop ! (look ! 34 refl) (fld ! {τ = tyInt w16} {d = bindingCountAt} refl (stop !)))) (look-in ! 0 (sub ! 8 refl
+        (whole !)))))
         (from ! (stop !)) (init ! 8 refl (tt, record { fits = bindings-fit h was })) $
         shuts ! tt T.the-row q′ h (mach ∷ []) b o $
         -- [the token; the borrow; _16; …]
@@ -268,7 +269,7 @@ module _ {M : Type 1} (𝓤 : URA M) (H : Heap 𝓤) (A : Atoms 𝓤) (W : Given
         (and-then ! (load ! (from ! (fld ! refl (stop !))) (look-in ! 22 (sub ! 1 refl (whole !)))) (no-more !)))) (from ! (stop !))
         (init ! 2 refl (tt, (tt, (record { fits = im .0 .1 .0 }, tt)))) $
         move ! (1 ∷ 0 ∷ []) $ use2 W (later (some (λ (g : Names). Cols g ⊛ (‵ Shared ⊛ ‵ (flft κe qe)))))
-        (lends-columns 𝓤 H A W (named 0) κe qe h b o (Array u32 mostPeers) (h .addresses) addressesAt (lends-addresses 𝓤 H A W (named 0) κe qe h b o)) $ await ! tt $ pick
+        (lends-columns 𝓤 H A W (named 0) κe qe h b o Addresses (h .addresses) addressesAt (lends-addresses 𝓤 H A W (named 0) κe qe h b o)) $ await ! tt $ pick
         ! (λ g. split ! $ move ! (1 ∷ []) $ split ! $
         -- [the borrow; its token; columns; _16; …; res; frame; frame; output; true; the other tokens]
         move ! (2 ∷ 38 ∷ 40 ∷ 1 ∷ 42 ∷ []) $ join ! $ join ! $ use3 W (raw (Wrapped 𝓤 H A at-mem run .pre (to was g))) (goes-in was g) $
