@@ -18,7 +18,7 @@ use Rattle.wire.specs.declared.carriage.Carried.{Carried}
 use Rattle.wire.specs.declared.carriage.Carried.the-variants as C
 use Rattle.wire.specs.declared.stt.SttRead.{SttRead}
 use Rattle.wire.specs.declared.stt.SttRead.the-variants as T
-use Rattle.reassembly.specs.Take.{segOf, Effect}
+use Rattle.reassembly.specs.Take.{segOf, Effect, slotNo}
 use Rattle.reassembly.specs.Store.{bytesOf, takeIn}
 use Rattle.reassembly.specs.Receive.{partOfSlice, viewOf}
 use Rattle.reassembly.specs.declared.slot.Peer.{Peer}
@@ -26,7 +26,7 @@ use Rattle.reassembly.specs.declared.take.Outcome.{Outcome}
 use Rattle.reassembly.specs.declared.take.Outcome.the-variants as O
 use Rattle.endpoint.specs.Answer.{placeOf}
 use Rattle.endpoint.specs.Search.{lowest}
-use Rattle.endpoint.specs.Config.{hasAddress}
+use Rattle.endpoint.specs.Config.{hasAddress, mostBindings}
 use Rattle.endpoint.specs.Receive.{answerAt, innerFrom, Step}
 use Rattle.endpoint.specs.declared.answer.Drop.{Drop}
 use Rattle.endpoint.specs.declared.answer.Drop.the-variants as D
@@ -40,6 +40,7 @@ use Rattle.endpoint.specs.declared.receive.Arrival.{Arrival}
 use Rattle.endpoint.specs.declared.receive.Offer.{Offer}
 use Rattle.endpoint.specs.declared.receive.Offer.the-variants as B
 use Rattle.endpoint.specs.declared.receive.Changed.{Changed}
+use Rattle.reassembly.specs.Slots.{mostPeers, mostSlots}
 
 -- the cause, where a reader refused
 abbrev pub ipDrop : Ipv4Read → Drop
@@ -96,14 +97,14 @@ unfoldable pub offerOf : (peer : ℕ) → Outcome → (size : ℕ) → (memory :
 offerOf peer (O.Rejected r) size m = B.Refused (D.Segment r)
 offerOf peer O.Pending size m = B.Pending
 offerOf peer O.NoMemory size m = B.Refused D.Memory
-offerOf peer (O.Complete s) size m = offerAt ((4 * peer + s) * 1728) (part m ((4 * peer + s) * 1728) ((4 * peer + s) * 1728 + size))
+offerOf peer (O.Complete s) size m = offerAt (slotNo peer s * 1728) (part m (slotNo peer s * 1728) (slotNo peer s * 1728 + size))
 
 -- a complete frame lies in the memory
 unfoldable pub Lies : (peer : ℕ) → Outcome → (size : ℕ) → List ℕ → Type 0
 Lies peer (O.Rejected r) size m = Unit {0}
 Lies peer O.Pending size m = Unit {0}
 Lies peer O.NoMemory size m = Unit {0}
-Lies peer (O.Complete s) size m = (peer < 8) × ((s < 4) × ((size ≤ 1532) × (55296 ≤ length m)))
+Lies peer (O.Complete s) size m = (peer < mostPeers) × ((s < mostSlots) × ((size ≤ 1532) × (55296 ≤ length m)))
 
 -- the row and the memory that taking leaves, and what there is to deliver
 pub record Change : Type 0 where
@@ -145,7 +146,7 @@ settleOf networks kinds owners tenants n x row k m =
 -- ---- with an endpoint's own columns
 
 abbrev pub openedBy : Endpoint → (packet : List ℕ) → (room : ℕ) → Arrival
-openedBy e k room = openOf (e .addresses) (e .own) (e .port) (min (e .«peer_count») 8) k room
+openedBy e k room = openOf (e .addresses) (e .own) (e .port) (min (e .«peer_count») mostPeers) k room
 
 abbrev pub settledBy : Endpoint → Arrival → Peer → (packet memory : List ℕ) → Step
-settledBy e x row k m = settleOf (e .networks) (e .kinds) (e .owners) (e .tenants) (min (e .«binding_count») 64) x row k m
+settledBy e x row k m = settleOf (e .networks) (e .kinds) (e .owners) (e .tenants) (min (e .«binding_count») mostBindings) x row k m

@@ -19,6 +19,7 @@ use Rattle.endpoint.specs.declared.answer.Wrapped.{Wrapped}
 use Rattle.endpoint.specs.declared.answer.Wrapped.the-variants as Y
 use Rattle.endpoint.specs.declared.config.Endpoint.{Endpoint}
 use Rattle.endpoint.specs.declared.wrap.Route.{Route}
+use Rattle.reassembly.specs.Slots.{mostPeers}
 
 -- ---- the segments of an STT frame: with F = 18 plus the frame's length and C = MTU − 40, (F + C − 1) div C of them; segment k carries bytes kC up to the
 -- smaller of F and kC + C
@@ -81,7 +82,7 @@ packetAt e b frame segment identifier = packetOf (kindAt e b) (e .own) (peerAt e
 unfoldable pub wrapChecks : Endpoint → (b : ℕ) (frame : List ℕ) (segment identifier : ℕ) (output : List ℕ) → List (Check WrapRefusal)
 wrapChecks e b frame segment identifier output =
     (leb (configOf e .bindings) b ⇒ X.Binding)
-    ∷ (leb 8 (ownerAt e b) ⇒ X.Binding)
+    ∷ (leb mostPeers (ownerAt e b) ⇒ X.Binding)
     ∷ (isBad (frameOf frame) ⇒ X.Frame)
     ∷ (exceeds (kindAt e b) (length frame) (e .mtu) ⇒ X.Mtu)
     ∷ (leb (segmentsOf (kindAt e b) (length frame) (e .mtu)) segment ⇒ X.Segment)

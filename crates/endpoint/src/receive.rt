@@ -3,12 +3,14 @@ ghost use mathlib.Core.Path.{_≡_};
 ghost use Prim.Native.Nat.{_+_, _≤_, min};
 ghost use lib.ListN.{length};
 ghost use Rattle.wire.specs.Bytes.{Bytes};
+ghost use Rattle.reassembly.specs.Slots.{mostPeers};
 ghost use Rattle.endpoint.specs.Answer.{valuesOf};
 ghost use Rattle.wire.specs.Table.{numbered};
 ghost use Rattle.endpoint.specs.Table.{receiveRows};
 ghost use Rattle.endpoint.specs.Demand1.{ReceiveRule};
 ghost use Rattle.endpoint.specs.Receive.{stepOf, receiptOf};
 ghost use Rattle.endpoint.specs.Stages.{ipDrop, sttDrop, fromOther, contentFrom, openOf, offerAt, Lies, offerOf, takeOf, changedOf, deliverOf};
+ghost use Rattle.endpoint.specs.Config.{mostBindings};
 use crate::answer::Drop;
 use crate::answer::Place;
 use crate::answer::Received;
@@ -156,7 +158,7 @@ pub fn open(
     packet: &[u8],
     room: usize,
 ) -> Arrival
-    ensures { λ r. ⌜ r ≡ openOf (now (addresses .entry)) own port (min «peer_count» 8) (now (packet .entry)) room ⌝ }
+    ensures { λ r. ⌜ r ≡ openOf (now (addresses .entry)) own port (min «peer_count» mostPeers) (now (packet .entry)) room ⌝ }
 {
     if room < MEMORY_BYTES {
         return other_sender(Drop::Memory);
@@ -262,7 +264,8 @@ pub fn deliver<'a, 'r>(
     packet: &'r [u8],
     memory: &'r [u8],
 ) -> Received
-    ensures { λ r. ⌜ r ≡ deliverOf (now (networks .entry)) (now (kinds .entry)) (now (owners .entry)) (now (tenants .entry)) (min «binding_count» 64) peer
+    ensures { λ r. ⌜ r ≡ deliverOf (now (networks .entry)) (now (kinds .entry)) (now (owners .entry)) (now (tenants .entry))
+        (min «binding_count» mostBindings) peer
         offer (now (packet .entry)) (now (memory .entry)) ⌝ }
 {
     match offer {

@@ -1,9 +1,10 @@
 // Lookups (document 01, "Listing and numbers"): the lowest-numbered peer or binding that matches.
 ghost use mathlib.Core.Path.{_≡_};
 ghost use Prim.Native.Nat.{_<_, _≤_, min};
+ghost use Rattle.reassembly.specs.Slots.{mostPeers};
 ghost use Rattle.endpoint.specs.declared.answer.Drop.the-variants as D;
 ghost use Rattle.endpoint.specs.Search.{lowest, foundOf};
-ghost use Rattle.endpoint.specs.Config.{hasAddress, binds};
+ghost use Rattle.endpoint.specs.Config.{hasAddress, binds, mostBindings};
 use crate::answer::Drop;
 use crate::number::BINDINGS;
 use reassembly::number::PEERS;
@@ -31,7 +32,7 @@ fn wide(x: u8) -> usize
 // The lowest of the first n peers that has this address, or 7. The loop goes over all eight, whatever n is: with a fixed number of turns a
 // turn takes three instructions.
 pub(crate) fn find_peer(addresses: &[u32; PEERS], n: usize, address: u32) -> Lookup
-    requires { ⌜ n ≤ 8 ⌝ }
+    requires { ⌜ n ≤ mostPeers ⌝ }
     ensures { λ r. ⌜ r ≡ foundOf D.Peer (lowest (hasAddress (now (addresses .entry)) address) n) ⌝ }
 {
     let mut i: usize = 0;
@@ -60,7 +61,7 @@ fn is_binding<'a>(
     kind: u8,
     network: u64,
 ) -> bool
-    requires { ⌜ i < 64 ⌝ }
+    requires { ⌜ i < mostBindings ⌝ }
     ensures { λ r. ⌜ r ≡ binds (now (networks .entry)) (now (kinds .entry)) (now (owners .entry)) peer kind network i ⌝ }
 {
     if networks[i] != network {
@@ -83,7 +84,7 @@ pub(crate) fn find_binding<'a>(
     kind: u8,
     network: u64,
 ) -> Lookup
-    requires { ⌜ n ≤ 64 ⌝ }
+    requires { ⌜ n ≤ mostBindings ⌝ }
     ensures { λ r. ⌜ r ≡ foundOf D.Binding (lowest (binds (now (networks .entry)) (now (kinds .entry)) (now (owners .entry)) peer kind network) n) ⌝ }
 {
     let mut i: usize = 0;

@@ -30,6 +30,9 @@ use borrow.Struct.Share.{Parts, part-field}
 use Rattle.endpoint.specs.declared.config.Endpoint.{Endpoint}
 use Rattle.endpoint.proofs.config.Endpoint as T
 use Rattle.endpoint.proofs.config.Endpoint.Laws as T′
+use Rattle.niulassenc.proofs.Offsets.{networksAt, addressesAt, tenantsAt, kindsAt, ownersAt, Networks, Addresses, Tenants, Kinds, Owners}
+use Rattle.endpoint.specs.Config.{mostBindings}
+use Rattle.reassembly.specs.Slots.{mostPeers}
 
 -- the ghost names of four columns
 abbrev pub Names : Type 0
@@ -77,9 +80,9 @@ module _ {M : Type 1} (𝓤 : URA M) (H : Heap 𝓤) (A : Atoms 𝓤) (W : Given
   -- the bindings' networks, kinds and owners, and a fourth column, as one item of a walk
   abbrev pub columns : Lifetime → Lft → Endpoint → ℕ → ℕ → (F : RattleType) → F .Denot → ℕ → Names → Item 𝓤
   columns ℓ κ h b o F x d g =
-      ‵ (Field (Array u64 64) ℓ κ (h .networks) b (o + 0) (g .0))
-      ⊛ (‵ (Field (Array u8 64) ℓ κ (h .kinds) b (o + 940) (g .1 .0)) ⊛
-      (‵ (Field (Array u8 64) ℓ κ (h .owners) b (o + 1004) (g .1 .1 .0)) ⊛ ‵ (Field F ℓ κ x b (o + d) (g .1 .1 .1))))
+      ‵ (Field Networks ℓ κ (h .networks) b (o + networksAt) (g .0))
+      ⊛ (‵ (Field Kinds ℓ κ (h .kinds) b (o + kindsAt) (g .1 .0)) ⊛
+      (‵ (Field Owners ℓ κ (h .owners) b (o + ownersAt) (g .1 .1 .0)) ⊛ ‵ (Field F ℓ κ x b (o + d) (g .1 .1 .1))))
 
   lends-field : (F : RattleType) (d : ℕ) (get : Endpoint → F .Denot) → Parts 𝓤 H A T.the-row F (λ o. o + d) get
       → (ℓ : Lifetime) (κ : Lft) (q : Share) (h : Endpoint) (b o : ℕ) → Lends F ℓ κ q h (get h) b o d
@@ -97,22 +100,27 @@ module _ {M : Type 1} (𝓤 : URA M) (H : Heap 𝓤) (A : Atoms 𝓤) (W : Given
     column E n d get parts = subst (λ (l : List (E .Denot)). Lends (Array E n) ℓ κ q h l b o d) (map-id (get h))
         (lends-field (Array E n) d (λ e. map (λ (v : E .Denot). v) (get e)) parts ℓ κ q h b o)
 
-    lends-networks : Lends (Array u64 64) ℓ κ q h (h .networks) b o 0
-    lends-networks = column u64 64 0 (λ e. e .networks) (part-field 𝓤 H A W T.the-type T′.the-laws T′.the-copy 0 0 refl refl (T.struct .as-values) (λ e. refl))
+    lends-networks : Lends Networks ℓ κ q h (h .networks) b o networksAt
+    lends-networks = column u64 mostBindings networksAt (λ e. e .networks) (part-field 𝓤 H A W T.the-type T′.the-laws T′.the-copy 0 networksAt refl refl
+        (T.struct .as-values) (λ e. refl))
 
-    pub lends-addresses : Lends (Array u32 8) ℓ κ q h (h .addresses) b o 768
-    lends-addresses = column u32 8 768 (λ e. e .addresses) (part-field 𝓤 H A W T.the-type T′.the-laws T′.the-copy 2 768 refl refl (T.struct .as-values)
+    pub lends-addresses : Lends Addresses ℓ κ q h (h .addresses) b o addressesAt
+    lends-addresses = column u32 mostPeers addressesAt (λ e. e .addresses) (part-field 𝓤 H A W T.the-type T′.the-laws T′.the-copy 2 addressesAt refl refl
+        (T.struct .as-values)
         (λ e. refl))
 
-    pub lends-tenants : Lends (Array u16 64) ℓ κ q h (h .tenants) b o 804
-    lends-tenants = column u16 64 804 (λ e. e .tenants) (part-field 𝓤 H A W T.the-type T′.the-laws T′.the-copy 4 804 refl refl (T.struct .as-values)
+    pub lends-tenants : Lends Tenants ℓ κ q h (h .tenants) b o tenantsAt
+    lends-tenants = column u16 mostBindings tenantsAt (λ e. e .tenants) (part-field 𝓤 H A W T.the-type T′.the-laws T′.the-copy 4 tenantsAt refl refl
+        (T.struct .as-values)
         (λ e. refl))
 
-    lends-kinds : Lends (Array u8 64) ℓ κ q h (h .kinds) b o 940
-    lends-kinds = column u8 64 940 (λ e. e .kinds) (part-field 𝓤 H A W T.the-type T′.the-laws T′.the-copy 9 940 refl refl (T.struct .as-values) (λ e. refl))
+    lends-kinds : Lends Kinds ℓ κ q h (h .kinds) b o kindsAt
+    lends-kinds = column u8 mostBindings kindsAt (λ e. e .kinds) (part-field 𝓤 H A W T.the-type T′.the-laws T′.the-copy 9 kindsAt refl refl
+        (T.struct .as-values) (λ e. refl))
 
-    lends-owners : Lends (Array u8 64) ℓ κ q h (h .owners) b o 1004
-    lends-owners = column u8 64 1004 (λ e. e .owners) (part-field 𝓤 H A W T.the-type T′.the-laws T′.the-copy 10 1004 refl refl (T.struct .as-values)
+    lends-owners : Lends Owners ℓ κ q h (h .owners) b o ownersAt
+    lends-owners = column u8 mostBindings ownersAt (λ e. e .owners) (part-field 𝓤 H A W T.the-type T′.the-laws T′.the-copy 10 ownersAt refl refl
+        (T.struct .as-values)
         (λ e. refl))
 
     -- the bindings' networks, kinds and owners, and a fourth column at once
@@ -123,11 +131,11 @@ module _ {M : Type 1} (𝓤 : URA M) (H : Heap 𝓤) (A : Atoms 𝓤) (W : Given
       pub lends-columns : ent 𝓤 (⟦ Whole κ h b o ⟧ ∗ A .lft κ q) (H .⇛ (ex 𝓤 (λ (g : Names). mean 𝓤 H A (Four g) ∗ (⟦ Whole κ h b o ⟧ ∗ A .lft κ q))))
       lends-columns =
           qed W (‵ (Whole κ h b o) ∷ ‵ (flft κ q) ∷ []) ∵ updating ! $
-          use2 W (later (some (λ (γ : GName). ‵ (Field (Array u64 64) ℓ κ (h .networks) b (o + 0) γ) ⊛ (‵ (Whole κ h b o) ⊛ ‵ (flft κ q))))) lends-networks $
+          use2 W (later (some (λ (γ : GName). ‵ (Field Networks ℓ κ (h .networks) b (o + networksAt) γ) ⊛ (‵ (Whole κ h b o) ⊛ ‵ (flft κ q))))) lends-networks $
           await ! tt $ pick ! (λ γ₁. split ! $ move ! (1 ∷ []) $ split ! $
-          use2 W (later (some (λ (γ : GName). ‵ (Field (Array u8 64) ℓ κ (h .kinds) b (o + 940) γ) ⊛ (‵ (Whole κ h b o) ⊛ ‵ (flft κ q))))) lends-kinds $ await
+          use2 W (later (some (λ (γ : GName). ‵ (Field Kinds ℓ κ (h .kinds) b (o + kindsAt) γ) ⊛ (‵ (Whole κ h b o) ⊛ ‵ (flft κ q))))) lends-kinds $ await
           ! tt $ pick ! (λ γ₂. split ! $ move ! (1 ∷ []) $ split ! $
-          use2 W (later (some (λ (γ : GName). ‵ (Field (Array u8 64) ℓ κ (h .owners) b (o + 1004) γ) ⊛ (‵ (Whole κ h b o) ⊛ ‵ (flft κ q))))) lends-owners $
+          use2 W (later (some (λ (γ : GName). ‵ (Field Owners ℓ κ (h .owners) b (o + ownersAt) γ) ⊛ (‵ (Whole κ h b o) ⊛ ‵ (flft κ q))))) lends-owners $
           await ! tt $ pick ! (λ γ₃. split ! $ move ! (1 ∷ []) $ split ! $
           use2 W (later (some (λ (γ : GName). ‵ (Field F ℓ κ x b (o + d) γ) ⊛ (‵ (Whole κ h b o) ⊛ ‵ (flft κ q))))) fourth $ await ! tt $ pick !
           (λ γ₄. split ! $ move ! (1 ∷ []) $ split ! $

@@ -21,10 +21,9 @@ use types.Kit.{Given, Item, mean, ‵, raw, _⊛_, ⋆, some, later, _$_, _∵_,
 use types.Kit.{updating, now as at-once, show, done}
 use types.SemTy.{Body}
 use denote.RattleType.{RattleType, Denots}
-use denote.Builtin.{u8, u16, u32, u64}
+use denote.Builtin.{u16}
 use denote.Lend.{lends-ref, ref-back}
 use denote.Memory.{mem, partAt, partOf}
-use denote.Array.{Array}
 use denote.Ref.{MutRef}
 use denote.Struct.Laws.{lawfuls}
 use denote.Struct.Members.{rowsOf, partsAt}
@@ -36,6 +35,8 @@ use Rattle.endpoint.specs.Laws.ConfigExits.{withPeers, withBindings}
 use Rattle.endpoint.proofs.config.Endpoint as T
 use Rattle.endpoint.proofs.config.Endpoint.Laws as T′
 use Rattle.niulassenc.proofs.RowAt.{members}
+use Rattle.niulassenc.proofs.Offsets.{networksAt, addressesAt, tenantsAt, peerCountAt, bindingCountAt, kindsAt, ownersAt, Networks, Addresses}
+use Rattle.niulassenc.proofs.Offsets.{Tenants, Kinds, Owners}
 
 module _ {M : Type 1} (𝓤 : URA M) (H : Heap 𝓤) (A : Atoms 𝓤) (W : Given 𝓤 H A) (h : Endpoint) (b o : ℕ) where
   abbrev _⊢_ : SProp 𝓤 → SProp 𝓤 → Type 1
@@ -84,8 +85,8 @@ module _ {M : Type 1} (𝓤 : URA M) (H : Heap 𝓤) (A : Atoms 𝓤) (W : Given
   PeersRest = ⋆ 𝓤 H A (‵ ftrue ∷ ‵ (Fld 10) ∷ ‵ (Fld 9) ∷ ‵ (Fld 8) ∷ ‵ (Fld 6) ∷ ‵ (Fld 5) ∷ ‵ (Fld 4) ∷ ‵ (Fld 3) ∷ ‵ (Fld 1) ∷ ‵ (Fld 0) ∷ raw Back ∷ [])
 
   peers-out : ⟦ partAt T.the-row fullShare h b o ⟧ ⊢ ⋆ 𝓤 H A (
-      ‵ (partAt (Array u32 8) fullShare (h .addresses) b (o + 768))
-      ∷ ‵ (partAt u16 fullShare (h .«peer_count») b (o + 936))
+      ‵ (partAt Addresses fullShare (h .addresses) b (o + addressesAt))
+      ∷ ‵ (partAt u16 fullShare (h .«peer_count») b (o + peerCountAt))
       ∷ raw PeersRest
       ∷ [])
   peers-out =
@@ -93,20 +94,20 @@ module _ {M : Type 1} (𝓤 : URA M) (H : Heap 𝓤) (A : Atoms 𝓤) (W : Given
       fsplit ! $ move ! (1 ∷ []) $ fsplit ! $ move ! (1 ∷ []) $ fsplit ! $ move ! (1 ∷ []) $ fsplit ! $ move ! (1 ∷ []) $ fsplit ! $ move ! (1 ∷ []) $
       fsplit ! $ move ! (1 ∷ []) $ fsplit ! $ move ! (1 ∷ []) $ fsplit ! $ move ! (1 ∷ []) $ fsplit ! $ move ! (1 ∷ []) $ fsplit ! $ move ! (1 ∷ []) $
       fsplit ! $ move ! (9 ∷ 4 ∷ 1 ∷ 0 ∷ 2 ∷ 3 ∷ 5 ∷ 6 ∷ 7 ∷ 8 ∷ 10 ∷ 11 ∷ 12 ∷ []) $
-      rewrite ! 0 (λ (l : List ℕ). ‵ (partAt (Array u32 8) fullShare l b (o + 768))) (map-id (h .addresses)) refl $ done !
+      rewrite ! 0 (λ (l : List ℕ). ‵ (partAt Addresses fullShare l b (o + addressesAt))) (map-id (h .addresses)) refl $ done !
 
   peers-back : (xs : List ℕ) (n : ℕ) → ⋆ 𝓤 H A (
-      ‵ (partAt (Array u32 8) fullShare xs b (o + 768))
-      ∷ ‵ (partAt u16 fullShare n b (o + 936))
+      ‵ (partAt Addresses fullShare xs b (o + addressesAt))
+      ∷ ‵ (partAt u16 fullShare n b (o + peerCountAt))
       ∷ raw PeersRest
       ∷ []) ⊢ ⟦ partAt T.the-row fullShare (withPeers h xs n) b o ⟧
   peers-back xs n =
       qed W (
-      ‵ (partAt (Array u32 8) fullShare xs b (o + 768))
-      ∷ ‵ (partAt u16 fullShare n b (o + 936))
+      ‵ (partAt Addresses fullShare xs b (o + addressesAt))
+      ∷ ‵ (partAt u16 fullShare n b (o + peerCountAt))
       ∷ ‵ ftrue ∷ ‵ (Fld 10) ∷ ‵ (Fld 9) ∷ ‵ (Fld 8) ∷ ‵ (Fld 6) ∷ ‵ (Fld 5) ∷ ‵ (Fld 4) ∷ ‵ (Fld 3) ∷ ‵ (Fld 1) ∷ ‵ (Fld 0) ∷ raw Back
       ∷ []) ∵
-      rewrite ! 0 (λ (l : List ℕ). ‵ (partAt (Array u32 8) fullShare l b (o + 768))) (sym (map-id xs)) refl $ move ! (3 ∷ 2 ∷ []) $ fjoin ! $
+      rewrite ! 0 (λ (l : List ℕ). ‵ (partAt Addresses fullShare l b (o + addressesAt))) (sym (map-id xs)) refl $ move ! (3 ∷ 2 ∷ []) $ fjoin ! $
       move ! (3 ∷ 0 ∷ []) $ fjoin ! $ move ! (3 ∷ 0 ∷ []) $ fjoin ! $ move ! (2 ∷ 0 ∷ []) $ fjoin ! $ move ! (2 ∷ 0 ∷ []) $ fjoin ! $
       move ! (2 ∷ 0 ∷ []) $ fjoin ! $ move ! (2 ∷ 0 ∷ []) $ fjoin ! $ move ! (2 ∷ 0 ∷ []) $ fjoin ! $ move ! (1 ∷ 0 ∷ []) $ fjoin ! $
       move ! (1 ∷ 0 ∷ []) $ fjoin ! $ move ! (1 ∷ 0 ∷ []) $ fjoin ! $ by ! (together (withPeers h xs n))
@@ -118,37 +119,39 @@ module _ {M : Type 1} (𝓤 : URA M) (H : Heap 𝓤) (A : Atoms 𝓤) (W : Given
 
     abbrev pub PeersLent : PeersNames → Item 𝓤
     PeersLent g =
-        ‵ (Ref (Array u32 8) 0 α₀ (h .addresses) 768 (g .0))
-        ⊛ ‵ (Ref u16 1 α₁ (h .«peer_count») 936 (g .1))
+        ‵ (Ref Addresses 0 α₀ (h .addresses) addressesAt (g .0))
+        ⊛ ‵ (Ref u16 1 α₁ (h .«peer_count») peerCountAt (g .1))
 
     abbrev pub PeersOwed : PeersNames → SProp 𝓤
-    PeersOwed g = ⋆ 𝓤 H A (‵ (Lender (Array u32 8) α₀ 768 (g .0)) ∷ ‵ (Lender u16 α₁ 936 (g .1)) ∷ raw PeersRest ∷ [])
+    PeersOwed g = ⋆ 𝓤 H A (‵ (Lender Addresses α₀ addressesAt (g .0)) ∷ ‵ (Lender u16 α₁ peerCountAt (g .1)) ∷ raw PeersRest ∷ [])
 
     pub lends-peers : ⟦ partAt T.the-row fullShare h b o ⟧ ⊢ H .⇛ (ex 𝓤 (λ (g : PeersNames). mean 𝓤 H A (PeersLent g) ∗ PeersOwed g))
     lends-peers =
-        qed W (‵ (partAt T.the-row fullShare h b o) ∷ []) ∵ updating ! $ use1 W (‵ (partAt (Array u32 8) fullShare (h .addresses) b (o + 768)) ⊛ (‵
-        (partAt u16 fullShare (h .«peer_count») b (o + 936)) ⊛ (raw PeersRest))) peers-out $
+        qed W (‵ (partAt T.the-row fullShare h b o) ∷ []) ∵ updating ! $ use1 W (‵ (partAt Addresses fullShare (h .addresses) b (o + addressesAt)) ⊛ (‵
+        (partAt u16 fullShare (h .«peer_count») b (o + peerCountAt)) ⊛ (raw PeersRest))) peers-out $
         split ! $ move ! (1 ∷ []) $ split ! $ move ! (2 ∷ []) $
-        use1 W (later (some (λ (g : GName). ‵ (Ref (Array u32 8) 0 α₀ (h .addresses) 768 g) ⊛ ‵ (Lender (Array u32 8) α₀ 768 g)))) (lends-ref 𝓤 H A W
-        (Array u32 8) (named 0) (α₀ ∷ []) (h .addresses) b (o + 768)) $ await ! tt $ pick ! (λ g₀.
+        use1 W (later (some (λ (g : GName). ‵ (Ref Addresses 0 α₀ (h .addresses) addressesAt g) ⊛ ‵ (Lender Addresses α₀ addressesAt g)))) (lends-ref 𝓤 H A W
+        Addresses (named 0) (α₀ ∷ []) (h .addresses) b (o + addressesAt)) $ await ! tt $ pick ! (λ g₀.
         split ! $ move ! (2 ∷ []) $
-        use1 W (later (some (λ (g : GName). ‵ (Ref u16 1 α₁ (h .«peer_count») 936 g) ⊛ ‵ (Lender u16 α₁ 936 g)))) (lends-ref 𝓤 H A W u16 (named 1) (α₁ ∷ [])
-        (h .«peer_count») b (o + 936)) $ await ! tt $ pick ! (λ g₁.
+        use1 W (later (some (λ (g : GName). ‵ (Ref u16 1 α₁ (h .«peer_count») peerCountAt g) ⊛ ‵ (Lender u16 α₁ peerCountAt g)))) (lends-ref 𝓤 H A W u16
+        (named 1) (α₁ ∷ [])
+        (h .«peer_count») b (o + peerCountAt)) $ await ! tt $ pick ! (λ g₁.
         split ! $ at-once ! $ show ! (λ (g : PeersNames). mean 𝓤 H A (PeersLent g) ∗ PeersOwed g) (g₀, g₁) $ move ! (2 ∷ 0 ∷ []) $ join ! $
         move ! (0 ∷ 2 ∷ 1 ∷ 3 ∷ []) $ done !))
 
     pub peers-over : (g : PeersNames) (xs : List ℕ) (n : ℕ)
         → ⋆ 𝓤 H A (‵ (fdead (α₀ ∷ [])) ∷ ‵ (fdead (α₁ ∷ [])) ∷
-        ‵ (fres (g .0) ((Array u32 8) .coded .code xs)) ∷ ‵ (fres (g .1) (u16 .coded .code n)) ∷
+        ‵ (fres (g .0) (Addresses .coded .code xs)) ∷ ‵ (fres (g .1) (u16 .coded .code n)) ∷
         raw (PeersOwed g) ∷ []) ⊢ H .⇛ ⟦ partAt T.the-row fullShare (withPeers h xs n) b o ⟧
     peers-over g xs n =
         qed W (‵ (fdead (α₀ ∷ [])) ∷ ‵ (fdead (α₁ ∷ [])) ∷
-        ‵ (fres (g .0) ((Array u32 8) .coded .code xs)) ∷ ‵ (fres (g .1) (u16 .coded .code n)) ∷
-        ‵ (Lender (Array u32 8) α₀ 768 (g .0)) ∷ ‵ (Lender u16 α₁ 936 (g .1)) ∷ raw PeersRest ∷ []) ∵ updating ! $
+        ‵ (fres (g .0) (Addresses .coded .code xs)) ∷ ‵ (fres (g .1) (u16 .coded .code n)) ∷
+        ‵ (Lender Addresses α₀ addressesAt (g .0)) ∷ ‵ (Lender u16 α₁ peerCountAt (g .1)) ∷ raw PeersRest ∷ []) ∵ updating ! $
         move ! (0 ∷ 4 ∷ 2 ∷ []) $
-        use3 W (later (‵ (partAt (Array u32 8) fullShare xs b (o + 768)))) (ref-back 𝓤 H A W (Array u32 8) (α₀ ∷ []) (g .0) xs b (o + 768)) $ await ! tt $
+        use3 W (later (‵ (partAt Addresses fullShare xs b (o + addressesAt)))) (ref-back 𝓤 H A W Addresses (α₀ ∷ []) (g .0) xs b (o + addressesAt)) $
+        await ! tt $
         move ! (1 ∷ 3 ∷ 2 ∷ []) $
-        use3 W (later (‵ (partAt u16 fullShare n b (o + 936)))) (ref-back 𝓤 H A W u16 (α₁ ∷ []) (g .1) n b (o + 936)) $ await ! tt $ at-once ! $
+        use3 W (later (‵ (partAt u16 fullShare n b (o + peerCountAt)))) (ref-back 𝓤 H A W u16 (α₁ ∷ []) (g .1) n b (o + peerCountAt)) $ await ! tt $ at-once ! $
         move ! (1 ∷ 0 ∷ 2 ∷ []) $ by ! (peers-back xs n)
 
   -- ---- the bindings' networks, kinds, owners and tenants and their count
@@ -157,11 +160,11 @@ module _ {M : Type 1} (𝓤 : URA M) (H : Heap 𝓤) (A : Atoms 𝓤) (W : Given
   BindingsRest = ⋆ 𝓤 H A (‵ ftrue ∷ ‵ (Fld 7) ∷ ‵ (Fld 6) ∷ ‵ (Fld 5) ∷ ‵ (Fld 3) ∷ ‵ (Fld 2) ∷ ‵ (Fld 1) ∷ raw Back ∷ [])
 
   bindings-out : ⟦ partAt T.the-row fullShare h b o ⟧ ⊢ ⋆ 𝓤 H A (
-      ‵ (partAt (Array u64 64) fullShare (h .networks) b (o + 0))
-      ∷ ‵ (partAt (Array u8 64) fullShare (h .kinds) b (o + 940))
-      ∷ ‵ (partAt (Array u8 64) fullShare (h .owners) b (o + 1004))
-      ∷ ‵ (partAt (Array u16 64) fullShare (h .tenants) b (o + 804))
-      ∷ ‵ (partAt u16 fullShare (h .«binding_count») b (o + 938))
+      ‵ (partAt Networks fullShare (h .networks) b (o + networksAt))
+      ∷ ‵ (partAt Kinds fullShare (h .kinds) b (o + kindsAt))
+      ∷ ‵ (partAt Owners fullShare (h .owners) b (o + ownersAt))
+      ∷ ‵ (partAt Tenants fullShare (h .tenants) b (o + tenantsAt))
+      ∷ ‵ (partAt u16 fullShare (h .«binding_count») b (o + bindingCountAt))
       ∷ raw BindingsRest
       ∷ [])
   bindings-out =
@@ -169,32 +172,32 @@ module _ {M : Type 1} (𝓤 : URA M) (H : Heap 𝓤) (A : Atoms 𝓤) (W : Given
       fsplit ! $ move ! (1 ∷ []) $ fsplit ! $ move ! (1 ∷ []) $ fsplit ! $ move ! (1 ∷ []) $ fsplit ! $ move ! (1 ∷ []) $ fsplit ! $ move ! (1 ∷ []) $
       fsplit ! $ move ! (1 ∷ []) $ fsplit ! $ move ! (1 ∷ []) $ fsplit ! $ move ! (1 ∷ []) $ fsplit ! $ move ! (1 ∷ []) $ fsplit ! $ move ! (1 ∷ []) $
       fsplit ! $ move ! (11 ∷ 2 ∷ 0 ∷ 7 ∷ 3 ∷ 1 ∷ 4 ∷ 5 ∷ 6 ∷ 8 ∷ 9 ∷ 10 ∷ 12 ∷ []) $
-      rewrite ! 0 (λ (l : List ℕ). ‵ (partAt (Array u64 64) fullShare l b (o + 0))) (map-id (h .networks)) refl $
-      rewrite ! 1 (λ (l : List ℕ). ‵ (partAt (Array u8 64) fullShare l b (o + 940))) (map-id (h .kinds)) refl $
-      rewrite ! 2 (λ (l : List ℕ). ‵ (partAt (Array u8 64) fullShare l b (o + 1004))) (map-id (h .owners)) refl $
-      rewrite ! 3 (λ (l : List ℕ). ‵ (partAt (Array u16 64) fullShare l b (o + 804))) (map-id (h .tenants)) refl $ done !
+      rewrite ! 0 (λ (l : List ℕ). ‵ (partAt Networks fullShare l b (o + networksAt))) (map-id (h .networks)) refl $
+      rewrite ! 1 (λ (l : List ℕ). ‵ (partAt Kinds fullShare l b (o + kindsAt))) (map-id (h .kinds)) refl $
+      rewrite ! 2 (λ (l : List ℕ). ‵ (partAt Owners fullShare l b (o + ownersAt))) (map-id (h .owners)) refl $
+      rewrite ! 3 (λ (l : List ℕ). ‵ (partAt Tenants fullShare l b (o + tenantsAt))) (map-id (h .tenants)) refl $ done !
 
   bindings-back : (ns ks os ts : List ℕ) (n : ℕ) → ⋆ 𝓤 H A (
-      ‵ (partAt (Array u64 64) fullShare ns b (o + 0))
-      ∷ ‵ (partAt (Array u8 64) fullShare ks b (o + 940))
-      ∷ ‵ (partAt (Array u8 64) fullShare os b (o + 1004))
-      ∷ ‵ (partAt (Array u16 64) fullShare ts b (o + 804))
-      ∷ ‵ (partAt u16 fullShare n b (o + 938))
+      ‵ (partAt Networks fullShare ns b (o + networksAt))
+      ∷ ‵ (partAt Kinds fullShare ks b (o + kindsAt))
+      ∷ ‵ (partAt Owners fullShare os b (o + ownersAt))
+      ∷ ‵ (partAt Tenants fullShare ts b (o + tenantsAt))
+      ∷ ‵ (partAt u16 fullShare n b (o + bindingCountAt))
       ∷ raw BindingsRest
       ∷ []) ⊢ ⟦ partAt T.the-row fullShare (withBindings h ns ks os ts n) b o ⟧
   bindings-back ns ks os ts n =
       qed W (
-      ‵ (partAt (Array u64 64) fullShare ns b (o + 0))
-      ∷ ‵ (partAt (Array u8 64) fullShare ks b (o + 940))
-      ∷ ‵ (partAt (Array u8 64) fullShare os b (o + 1004))
-      ∷ ‵ (partAt (Array u16 64) fullShare ts b (o + 804))
-      ∷ ‵ (partAt u16 fullShare n b (o + 938))
+      ‵ (partAt Networks fullShare ns b (o + networksAt))
+      ∷ ‵ (partAt Kinds fullShare ks b (o + kindsAt))
+      ∷ ‵ (partAt Owners fullShare os b (o + ownersAt))
+      ∷ ‵ (partAt Tenants fullShare ts b (o + tenantsAt))
+      ∷ ‵ (partAt u16 fullShare n b (o + bindingCountAt))
       ∷ ‵ ftrue ∷ ‵ (Fld 7) ∷ ‵ (Fld 6) ∷ ‵ (Fld 5) ∷ ‵ (Fld 3) ∷ ‵ (Fld 2) ∷ ‵ (Fld 1) ∷ raw Back
       ∷ []) ∵
-      rewrite ! 0 (λ (l : List ℕ). ‵ (partAt (Array u64 64) fullShare l b (o + 0))) (sym (map-id ns)) refl $
-      rewrite ! 1 (λ (l : List ℕ). ‵ (partAt (Array u8 64) fullShare l b (o + 940))) (sym (map-id ks)) refl $
-      rewrite ! 2 (λ (l : List ℕ). ‵ (partAt (Array u8 64) fullShare l b (o + 1004))) (sym (map-id os)) refl $
-      rewrite ! 3 (λ (l : List ℕ). ‵ (partAt (Array u16 64) fullShare l b (o + 804))) (sym (map-id ts)) refl $ move ! (2 ∷ 5 ∷ []) $ fjoin ! $
+      rewrite ! 0 (λ (l : List ℕ). ‵ (partAt Networks fullShare l b (o + networksAt))) (sym (map-id ns)) refl $
+      rewrite ! 1 (λ (l : List ℕ). ‵ (partAt Kinds fullShare l b (o + kindsAt))) (sym (map-id ks)) refl $
+      rewrite ! 2 (λ (l : List ℕ). ‵ (partAt Owners fullShare l b (o + ownersAt))) (sym (map-id os)) refl $
+      rewrite ! 3 (λ (l : List ℕ). ‵ (partAt Tenants fullShare l b (o + tenantsAt))) (sym (map-id ts)) refl $ move ! (2 ∷ 5 ∷ []) $ fjoin ! $
       move ! (2 ∷ 0 ∷ []) $ fjoin ! $ move ! (3 ∷ 0 ∷ []) $ fjoin ! $ move ! (3 ∷ 0 ∷ []) $ fjoin ! $ move ! (3 ∷ 0 ∷ []) $ fjoin ! $
       move ! (3 ∷ 0 ∷ []) $ fjoin ! $ move ! (2 ∷ 0 ∷ []) $ fjoin ! $ move ! (2 ∷ 0 ∷ []) $ fjoin ! $ move ! (2 ∷ 0 ∷ []) $ fjoin ! $
       move ! (2 ∷ 0 ∷ []) $ fjoin ! $ move ! (1 ∷ 0 ∷ []) $ fjoin ! $ by ! (together (withBindings h ns ks os ts n))
@@ -206,61 +209,63 @@ module _ {M : Type 1} (𝓤 : URA M) (H : Heap 𝓤) (A : Atoms 𝓤) (W : Given
 
     abbrev pub BindingsLent : BindingsNames → Item 𝓤
     BindingsLent g =
-        ‵ (Ref (Array u64 64) 0 α₀ (h .networks) 0 (g .0))
-        ⊛ (‵ (Ref (Array u8 64) 1 α₁ (h .kinds) 940 (g .1 .0))
-        ⊛ (‵ (Ref (Array u8 64) 2 α₂ (h .owners) 1004 (g .1 .1 .0))
-        ⊛ (‵ (Ref (Array u16 64) 3 α₃ (h .tenants) 804 (g .1 .1 .1 .0))
-        ⊛ ‵ (Ref u16 4 α₄ (h .«binding_count») 938 (g .1 .1 .1 .1)))))
+        ‵ (Ref Networks 0 α₀ (h .networks) networksAt (g .0))
+        ⊛ (‵ (Ref Kinds 1 α₁ (h .kinds) kindsAt (g .1 .0))
+        ⊛ (‵ (Ref Owners 2 α₂ (h .owners) ownersAt (g .1 .1 .0))
+        ⊛ (‵ (Ref Tenants 3 α₃ (h .tenants) tenantsAt (g .1 .1 .1 .0))
+        ⊛ ‵ (Ref u16 4 α₄ (h .«binding_count») bindingCountAt (g .1 .1 .1 .1)))))
 
     abbrev pub BindingsOwed : BindingsNames → SProp 𝓤
-    BindingsOwed g = ⋆ 𝓤 H A (‵ (Lender (Array u64 64) α₀ 0 (g .0)) ∷ ‵ (Lender (Array u8 64) α₁ 940 (g .1 .0)) ∷ ‵ (Lender (Array u8 64) α₂ 1004
-        (g .1 .1 .0)) ∷ ‵ (Lender (Array u16 64) α₃ 804 (g .1 .1 .1 .0)) ∷ ‵ (Lender u16 α₄ 938 (g .1 .1 .1 .1)) ∷ raw BindingsRest ∷ [])
+    BindingsOwed g = ⋆ 𝓤 H A (‵ (Lender Networks α₀ networksAt (g .0)) ∷ ‵ (Lender Kinds α₁ kindsAt (g .1 .0)) ∷ ‵ (Lender Owners α₂ ownersAt
+        (g .1 .1 .0)) ∷ ‵ (Lender Tenants α₃ tenantsAt (g .1 .1 .1 .0)) ∷ ‵ (Lender u16 α₄ bindingCountAt (g .1 .1 .1 .1)) ∷ raw BindingsRest ∷ [])
 
     pub lends-bindings : ⟦ partAt T.the-row fullShare h b o ⟧ ⊢ H .⇛ (ex 𝓤 (λ (g : BindingsNames). mean 𝓤 H A (BindingsLent g) ∗ BindingsOwed g))
     lends-bindings =
-        qed W (‵ (partAt T.the-row fullShare h b o) ∷ []) ∵ updating ! $ use1 W (‵ (partAt (Array u64 64) fullShare (h .networks) b (o + 0)) ⊛ (‵ (partAt
-        (Array u8 64) fullShare (h .kinds) b (o + 940)) ⊛ (‵ (partAt (Array u8 64) fullShare (h .owners) b (o + 1004)) ⊛ (‵ (partAt (Array u16 64) fullShare
-        (h .tenants) b (o + 804)) ⊛ (‵ (partAt u16 fullShare (h .«binding_count») b (o + 938)) ⊛ (raw BindingsRest)))))) bindings-out $
+        qed W (‵ (partAt T.the-row fullShare h b o) ∷ []) ∵ updating ! $ use1 W (‵ (partAt Networks fullShare (h .networks) b (o + networksAt)) ⊛ (‵ (partAt
+        Kinds fullShare (h .kinds) b (o + kindsAt)) ⊛ (‵ (partAt Owners fullShare (h .owners) b (o + ownersAt)) ⊛ (‵ (partAt Tenants fullShare
+        (h .tenants) b (o + tenantsAt)) ⊛ (‵ (partAt u16 fullShare (h .«binding_count») b (o + bindingCountAt)) ⊛ (raw BindingsRest)))))) bindings-out $
         split ! $ move ! (1 ∷ []) $ split ! $ move ! (1 ∷ []) $ split ! $ move ! (1 ∷ []) $ split ! $ move ! (1 ∷ []) $ split ! $ move ! (5 ∷ []) $
-        use1 W (later (some (λ (g : GName). ‵ (Ref (Array u64 64) 0 α₀ (h .networks) 0 g) ⊛ ‵ (Lender (Array u64 64) α₀ 0 g)))) (lends-ref 𝓤 H A W
-        (Array u64 64) (named 0) (α₀ ∷ []) (h .networks) b (o + 0)) $ await ! tt $ pick ! (λ g₀.
+        use1 W (later (some (λ (g : GName). ‵ (Ref Networks 0 α₀ (h .networks) networksAt g) ⊛ ‵ (Lender Networks α₀ networksAt g)))) (lends-ref 𝓤 H A W
+        Networks (named 0) (α₀ ∷ []) (h .networks) b (o + networksAt)) $ await ! tt $ pick ! (λ g₀.
         split ! $ move ! (6 ∷ []) $
-        use1 W (later (some (λ (g : GName). ‵ (Ref (Array u8 64) 1 α₁ (h .kinds) 940 g) ⊛ ‵ (Lender (Array u8 64) α₁ 940 g)))) (lends-ref 𝓤 H A W
-        (Array u8 64) (named 1) (α₁ ∷ []) (h .kinds) b (o + 940)) $ await ! tt $ pick ! (λ g₁.
+        use1 W (later (some (λ (g : GName). ‵ (Ref Kinds 1 α₁ (h .kinds) kindsAt g) ⊛ ‵ (Lender Kinds α₁ kindsAt g)))) (lends-ref 𝓤 H A W
+        Kinds (named 1) (α₁ ∷ []) (h .kinds) b (o + kindsAt)) $ await ! tt $ pick ! (λ g₁.
         split ! $ move ! (7 ∷ []) $
-        use1 W (later (some (λ (g : GName). ‵ (Ref (Array u8 64) 2 α₂ (h .owners) 1004 g) ⊛ ‵ (Lender (Array u8 64) α₂ 1004 g)))) (lends-ref 𝓤 H A W
-        (Array u8 64) (named 2) (α₂ ∷ []) (h .owners) b (o + 1004)) $ await ! tt $ pick ! (λ g₂.
+        use1 W (later (some (λ (g : GName). ‵ (Ref Owners 2 α₂ (h .owners) ownersAt g) ⊛ ‵ (Lender Owners α₂ ownersAt g)))) (lends-ref 𝓤 H A W
+        Owners (named 2) (α₂ ∷ []) (h .owners) b (o + ownersAt)) $ await ! tt $ pick ! (λ g₂.
         split ! $ move ! (8 ∷ []) $
-        use1 W (later (some (λ (g : GName). ‵ (Ref (Array u16 64) 3 α₃ (h .tenants) 804 g) ⊛ ‵ (Lender (Array u16 64) α₃ 804 g)))) (lends-ref 𝓤 H A W
-        (Array u16 64) (named 3) (α₃ ∷ []) (h .tenants) b (o + 804)) $ await ! tt $ pick ! (λ g₃.
+        use1 W (later (some (λ (g : GName). ‵ (Ref Tenants 3 α₃ (h .tenants) tenantsAt g) ⊛ ‵ (Lender Tenants α₃ tenantsAt g)))) (lends-ref 𝓤 H A W
+        Tenants (named 3) (α₃ ∷ []) (h .tenants) b (o + tenantsAt)) $ await ! tt $ pick ! (λ g₃.
         split ! $ move ! (8 ∷ []) $
-        use1 W (later (some (λ (g : GName). ‵ (Ref u16 4 α₄ (h .«binding_count») 938 g) ⊛ ‵ (Lender u16 α₄ 938 g)))) (lends-ref 𝓤 H A W u16 (named 4)
-        (α₄ ∷ []) (h .«binding_count») b (o + 938)) $ await ! tt $ pick ! (λ g₄.
+        use1 W (later (some (λ (g : GName). ‵ (Ref u16 4 α₄ (h .«binding_count») bindingCountAt g) ⊛ ‵ (Lender u16 α₄ bindingCountAt g))))
+        (lends-ref 𝓤 H A W u16 (named 4)
+        (α₄ ∷ []) (h .«binding_count») b (o + bindingCountAt)) $ await ! tt $ pick ! (λ g₄.
         split ! $ at-once ! $ show ! (λ (g : BindingsNames). mean 𝓤 H A (BindingsLent g) ∗ BindingsOwed g) (g₀, (g₁, (g₂, (g₃, g₄)))) $
         move ! (2 ∷ 0 ∷ []) $ join ! $ move ! (3 ∷ 0 ∷ []) $ join ! $ move ! (4 ∷ 0 ∷ []) $ join ! $ move ! (5 ∷ 0 ∷ []) $ join ! $
         move ! (0 ∷ 5 ∷ 4 ∷ 3 ∷ 2 ∷ 1 ∷ 6 ∷ []) $ done !)))))
 
     pub bindings-over : (g : BindingsNames) (ns ks os ts : List ℕ) (n : ℕ)
         → ⋆ 𝓤 H A (‵ (fdead (α₀ ∷ [])) ∷ ‵ (fdead (α₁ ∷ [])) ∷ ‵ (fdead (α₂ ∷ [])) ∷ ‵ (fdead (α₃ ∷ [])) ∷ ‵ (fdead (α₄ ∷ [])) ∷
-        ‵ (fres (g .0) ((Array u64 64) .coded .code ns)) ∷ ‵ (fres (g .1 .0) ((Array u8 64) .coded .code ks)) ∷ ‵ (fres (g .1 .1 .0)
-        ((Array u8 64) .coded .code os)) ∷ ‵ (fres (g .1 .1 .1 .0) ((Array u16 64) .coded .code ts)) ∷ ‵ (fres (g .1 .1 .1 .1) (u16 .coded .code n)) ∷
+        ‵ (fres (g .0) (Networks .coded .code ns)) ∷ ‵ (fres (g .1 .0) (Kinds .coded .code ks)) ∷ ‵ (fres (g .1 .1 .0)
+        (Owners .coded .code os)) ∷ ‵ (fres (g .1 .1 .1 .0) (Tenants .coded .code ts)) ∷ ‵ (fres (g .1 .1 .1 .1) (u16 .coded .code n)) ∷
         raw (BindingsOwed g) ∷ []) ⊢ H .⇛ ⟦ partAt T.the-row fullShare (withBindings h ns ks os ts n) b o ⟧
     bindings-over g ns ks os ts n =
         qed W (‵ (fdead (α₀ ∷ [])) ∷ ‵ (fdead (α₁ ∷ [])) ∷ ‵ (fdead (α₂ ∷ [])) ∷ ‵ (fdead (α₃ ∷ [])) ∷ ‵ (fdead (α₄ ∷ [])) ∷
-        ‵ (fres (g .0) ((Array u64 64) .coded .code ns)) ∷ ‵ (fres (g .1 .0) ((Array u8 64) .coded .code ks)) ∷ ‵ (fres (g .1 .1 .0)
-        ((Array u8 64) .coded .code os)) ∷ ‵ (fres (g .1 .1 .1 .0) ((Array u16 64) .coded .code ts)) ∷ ‵ (fres (g .1 .1 .1 .1) (u16 .coded .code n)) ∷
-        ‵ (Lender (Array u64 64) α₀ 0 (g .0)) ∷ ‵ (Lender (Array u8 64) α₁ 940 (g .1 .0)) ∷ ‵ (Lender (Array u8 64) α₂ 1004 (g .1 .1 .0)) ∷ ‵ (Lender
-        (Array u16 64) α₃ 804 (g .1 .1 .1 .0)) ∷ ‵ (Lender u16 α₄ 938 (g .1 .1 .1 .1)) ∷ raw BindingsRest ∷ []) ∵ updating ! $
+        ‵ (fres (g .0) (Networks .coded .code ns)) ∷ ‵ (fres (g .1 .0) (Kinds .coded .code ks)) ∷ ‵ (fres (g .1 .1 .0)
+        (Owners .coded .code os)) ∷ ‵ (fres (g .1 .1 .1 .0) (Tenants .coded .code ts)) ∷ ‵ (fres (g .1 .1 .1 .1) (u16 .coded .code n)) ∷
+        ‵ (Lender Networks α₀ networksAt (g .0)) ∷ ‵ (Lender Kinds α₁ kindsAt (g .1 .0)) ∷ ‵ (Lender Owners α₂ ownersAt (g .1 .1 .0)) ∷ ‵ (Lender
+        Tenants α₃ tenantsAt (g .1 .1 .1 .0)) ∷ ‵ (Lender u16 α₄ bindingCountAt (g .1 .1 .1 .1)) ∷ raw BindingsRest ∷ []) ∵ updating ! $
         move ! (0 ∷ 10 ∷ 5 ∷ []) $
-        use3 W (later (‵ (partAt (Array u64 64) fullShare ns b (o + 0)))) (ref-back 𝓤 H A W (Array u64 64) (α₀ ∷ []) (g .0) ns b (o + 0)) $ await ! tt $
+        use3 W (later (‵ (partAt Networks fullShare ns b (o + networksAt)))) (ref-back 𝓤 H A W Networks (α₀ ∷ []) (g .0) ns b (o + networksAt)) $ await ! tt $
         move ! (1 ∷ 9 ∷ 5 ∷ []) $
-        use3 W (later (‵ (partAt (Array u8 64) fullShare ks b (o + 940)))) (ref-back 𝓤 H A W (Array u8 64) (α₁ ∷ []) (g .1 .0) ks b (o + 940)) $ await ! tt $
+        use3 W (later (‵ (partAt Kinds fullShare ks b (o + kindsAt)))) (ref-back 𝓤 H A W Kinds (α₁ ∷ []) (g .1 .0) ks b (o + kindsAt)) $ await ! tt $
         move ! (2 ∷ 8 ∷ 5 ∷ []) $
-        use3 W (later (‵ (partAt (Array u8 64) fullShare os b (o + 1004)))) (ref-back 𝓤 H A W (Array u8 64) (α₂ ∷ []) (g .1 .1 .0) os b (o + 1004)) $
+        use3 W (later (‵ (partAt Owners fullShare os b (o + ownersAt)))) (ref-back 𝓤 H A W Owners (α₂ ∷ []) (g .1 .1 .0) os b (o + ownersAt)) $
         await ! tt $
         move ! (3 ∷ 7 ∷ 5 ∷ []) $
-        use3 W (later (‵ (partAt (Array u16 64) fullShare ts b (o + 804)))) (ref-back 𝓤 H A W (Array u16 64) (α₃ ∷ []) (g .1 .1 .1 .0) ts b (o + 804)) $
+        use3 W (later (‵ (partAt Tenants fullShare ts b (o + tenantsAt)))) (ref-back 𝓤 H A W Tenants (α₃ ∷ []) (g .1 .1 .1 .0) ts b (o + tenantsAt)) $
         await ! tt $
         move ! (4 ∷ 6 ∷ 5 ∷ []) $
-        use3 W (later (‵ (partAt u16 fullShare n b (o + 938)))) (ref-back 𝓤 H A W u16 (α₄ ∷ []) (g .1 .1 .1 .1) n b (o + 938)) $ await ! tt $ at-once ! $
+        use3 W (later (‵ (partAt u16 fullShare n b (o + bindingCountAt)))) (ref-back 𝓤 H A W u16 (α₄ ∷ []) (g .1 .1 .1 .1) n b (o + bindingCountAt)) $
+        await ! tt $ at-once ! $
         move ! (4 ∷ 3 ∷ 2 ∷ 1 ∷ 0 ∷ 5 ∷ []) $ by ! (bindings-back ns ks os ts n)

@@ -1,4 +1,5 @@
 -- What the walks of this crate use.
+mod Offsets
 mod Columns
 mod RowAt
 mod Fields

@@ -1,6 +1,6 @@
 -- An endpoint in memory, or a share of one, and one peer's row within it: `endpoint.rows[p]`. The endpoint's field and the array's element are taken out one
 -- after the other, each in memory at its own address, and put back, with another row there.
---     Reached      the row of peer p, at (b, p * 32 + (o + 512)), which is the pointer that MIR computes, and all that was set aside on the way
+--     Reached      the row of peer p, at (b, p * peerBytes + (o + peersAt)), which is the pointer that MIR computes, and all that was set aside on the way
 --     reaches      the endpoint at (b, o)  ⊢  Reached at the row it has
 --     comes-back   Reached at any row  ⊢  the endpoint with that row at (b, o)
 -- Assumes `Given`.
@@ -19,7 +19,7 @@ use ghost.Atoms.{Atoms, sem}
 use types.Kit.{Given, Item, ‵, raw, _⊛_, _$_, _∵_, !, qed, fjoin, fpack, done}
 use types.Share.{parts}
 use denote.RattleType.{RattleType}
-use denote.Builtin.{u8, u16, u32, u64}
+use denote.Builtin.{u16, u32}
 use denote.Memory.{cellAt, partAt, partOf, mem, shares}
 use denote.Array.{Array}
 use denote.ArrayMemory.{array-apart, array-whole}
@@ -29,7 +29,7 @@ use denote.Struct.Laws.{lawfuls}
 use denote.Struct.Members.{Member}
 use denote.Struct.Parts.{PartsBack}
 use denote.Struct.Pick.{restAt, record-field-out, record-field-back}
-use Rattle.reassembly.specs.Slots.{noRow}
+use Rattle.reassembly.specs.Slots.{noRow, mostPeers}
 use Rattle.reassembly.specs.Laws.Base.{map-set}
 use Rattle.endpoint.specs.Receive.{rowAt, withRow}
 use Rattle.reassembly.specs.declared.slot.Peer.{Peer}
@@ -38,13 +38,15 @@ use Rattle.reassembly.proofs.slot.Peer as R
 use Rattle.reassembly.proofs.slot.Peer.Laws as R′
 use Rattle.endpoint.proofs.config.Endpoint as T
 use Rattle.endpoint.proofs.config.Endpoint.Laws as T′
+use Rattle.niulassenc.proofs.Offsets.{peersAt, peerBytes, Networks, Addresses, Tenants, Kinds, Owners}
+use Rattle.endpoint.specs.Config.{mostBindings}
 
 -- where the row of peer p lies, of an endpoint at o
 abbrev pub rowPlace : (o p : ℕ) → ℕ
-rowPlace o p = p * 32 + (o + 512)
+rowPlace o p = p * peerBytes + (o + peersAt)
 
 -- its byte offset within the array of rows
-pub offset-fits : (p : ℕ) → p < 8 → p * 32 < 2 ^ 64
+pub offset-fits : (p : ℕ) → p < mostPeers → p * peerBytes < 2 ^ 64
 offset-fits p l = omega arith
 
 -- a row where it stands as an element
@@ -57,17 +59,17 @@ into-row r = field R.the-type .into r
 -- the endpoint's fields, each with its MIR type
 abbrev pub members : List Member
 members =
-    record { row = Array u64 64; ty = tyArray (tyInt w64) 64 }
-    ∷ record { row = Array RowS 8; ty = tyArray R′.mir 8 }
-    ∷ record { row = Array u32 8; ty = tyArray (tyInt w32) 8 }
+    record { row = Networks; ty = tyArray (tyInt w64) mostBindings }
+    ∷ record { row = Array RowS mostPeers; ty = tyArray R′.mir mostPeers }
+    ∷ record { row = Addresses; ty = tyArray (tyInt w32) mostPeers }
     ∷ record { row = u32; ty = tyInt w32 }
-    ∷ record { row = Array u16 64; ty = tyArray (tyInt w16) 64 }
+    ∷ record { row = Tenants; ty = tyArray (tyInt w16) mostBindings }
     ∷ record { row = u16; ty = tyInt w16 }
     ∷ record { row = u16; ty = tyInt w16 }
     ∷ record { row = u16; ty = tyInt w16 }
     ∷ record { row = u16; ty = tyInt w16 }
-    ∷ record { row = Array u8 64; ty = tyArray (tyInt w8) 64 }
-    ∷ record { row = Array u8 64; ty = tyArray (tyInt w8) 64 }
+    ∷ record { row = Kinds; ty = tyArray (tyInt w8) mostBindings }
+    ∷ record { row = Owners; ty = tyArray (tyInt w8) mostBindings }
     ∷ []
 
 abbrev elems : Endpoint → List (RowS .Denot)
@@ -104,10 +106,10 @@ module _ {M : Type 1} (𝓤 : URA M) (H : Heap 𝓤) (A : Atoms 𝓤) (W : Given
   infixr 35 _∗_
   -- where the rows lie
   abbrev pub at-rows : ℕ
-  at-rows = o + 512
+  at-rows = o + peersAt
 
   abbrev the-array : List (RowS .Denot) → Pr
-  the-array xs = ⟦ partAt (Array RowS 8) q xs b at-rows ⟧
+  the-array xs = ⟦ partAt (Array RowS mostPeers) q xs b at-rows ⟧
 
   abbrev pub EndpointRest : Fml
   EndpointRest = restAt q members 0 (T.the-type .to h) b o 1
@@ -119,7 +121,7 @@ module _ {M : Type 1} (𝓤 : URA M) (H : Heap 𝓤) (A : Atoms 𝓤) (W : Given
   kept = ⟦ EndpointRest ⟧ ∗ EndpointBack
 
   abbrev pub Eight : Fml
-  Eight = feq ℕ (length (elems h)) 8
+  Eight = feq ℕ (length (elems h)) mostPeers
 
   abbrev the-elements : List (RowS .Denot) → Pr
   the-elements xs = ⟦ parts (mem RowS) (shares RowS) q xs b at-rows ⟧
@@ -138,22 +140,22 @@ module _ {M : Type 1} (𝓤 : URA M) (H : Heap 𝓤) (A : Atoms 𝓤) (W : Given
   abbrev at-row : ℕ
   at-row = place (mem RowS .size) at-rows p
 
-  has : p < 8 → length (elems h) ≡ 8 → p < length (elems h)
+  has : p < mostPeers → length (elems h) ≡ mostPeers → p < length (elems h)
   has l e = subst (λ (m : ℕ). p < m) (sym e) l
 
-  reaches′ : p < 8 → ⟦ partAt T.the-row q h b o ⟧ ⊢ Reached at-row (rowAt h p)
+  reaches′ : p < mostPeers → ⟦ partAt T.the-row q h b o ⟧ ⊢ Reached at-row (rowAt h p)
   reaches′ l =
       via 𝓤 (the-array (elems h) ∗ kept) (record-field-out 𝓤 H A W q (T.struct .name) members Endpoint (T.the-type .to) (T.the-type .to-one)
       (lawfuls 𝓤 H A W (T.struct .parts) T′.the-laws) h b o 1)
       (monoL 𝓤 kept
-      (via 𝓤 (⟦ Eight ⟧ ∗ the-elements (elems h)) (array-apart 𝓤 H A W RowS q tt 8 (elems h) b at-rows)
-      (ex∗ 𝓤 (λ (_ : length (elems h) ≡ 8). emp 𝓤) (the-elements (elems h)) (λ e.
-      via 𝓤 (⟦ Eight ⟧ ∗ the-elements (elems h)) (monoL 𝓤 (the-elements (elems h)) (guardI 𝓤 (length (elems h) ≡ 8) (emp 𝓤) e))
+      (via 𝓤 (⟦ Eight ⟧ ∗ the-elements (elems h)) (array-apart 𝓤 H A W RowS q tt mostPeers (elems h) b at-rows)
+      (ex∗ 𝓤 (λ (_ : length (elems h) ≡ mostPeers). emp 𝓤) (the-elements (elems h)) (λ e.
+      via 𝓤 (⟦ Eight ⟧ ∗ the-elements (elems h)) (monoL 𝓤 (the-elements (elems h)) (guardI 𝓤 (length (elems h) ≡ mostPeers) (emp 𝓤) e))
       (monoR 𝓤 ⟦ Eight ⟧
       (subst (λ (x : RowS .Denot). the-elements (elems h) ⊢ ⟦ partAt RowS q x b at-row ⟧ ∗ ⟦ Others ⟧) (List·getD-map into-row (h .peers) p noRow)
       (takes (shares RowS) q 𝓤 H A W (elems h) p d₀ b at-rows (has l e))))))))
 
-  comes-back′ : p < 8 → (r : Peer) → Reached at-row r ⊢ ⟦ partAt T.the-row q (withRow h p r) b o ⟧
+  comes-back′ : p < mostPeers → (r : Peer) → Reached at-row r ⊢ ⟦ partAt T.the-row q (withRow h p r) b o ⟧
   comes-back′ l r =
       let x : RowS .Denot = into-row r in
       let xs : List (RowS .Denot) = set (elems h) p x in
@@ -161,19 +163,19 @@ module _ {M : Type 1} (𝓤 : URA M) (H : Heap 𝓤) (A : Atoms 𝓤) (W : Given
       via 𝓤 (the-array (elems (withRow h p r)) ∗ kept)
       (monoL 𝓤 kept
       (subst (λ (ys : List (RowS .Denot)). ⟦ Eight ⟧ ∗ inner ⊢ the-array ys) (sym (map-set into-row (h .peers) p r))
-      (ex∗ 𝓤 (λ (_ : length (elems h) ≡ 8). emp 𝓤) inner (λ e.
-      via 𝓤 (⟦ feq ℕ (length xs) 8 ⟧ ∗ inner) (monoL 𝓤 inner (guardI 𝓤 (length xs ≡ 8) (emp 𝓤) (length-set (elems h) p x ∙ e)))
-      (via 𝓤 (⟦ feq ℕ (length xs) 8 ⟧ ∗ the-elements xs)
-      (monoR 𝓤 ⟦ feq ℕ (length xs) 8 ⟧ (puts (shares RowS) q 𝓤 H A W (elems h) p x b at-rows (has l e)))
-      (array-whole 𝓤 H A W RowS q 8 xs b at-rows))))))
+      (ex∗ 𝓤 (λ (_ : length (elems h) ≡ mostPeers). emp 𝓤) inner (λ e.
+      via 𝓤 (⟦ feq ℕ (length xs) mostPeers ⟧ ∗ inner) (monoL 𝓤 inner (guardI 𝓤 (length xs ≡ mostPeers) (emp 𝓤) (length-set (elems h) p x ∙ e)))
+      (via 𝓤 (⟦ feq ℕ (length xs) mostPeers ⟧ ∗ the-elements xs)
+      (monoR 𝓤 ⟦ feq ℕ (length xs) mostPeers ⟧ (puts (shares RowS) q 𝓤 H A W (elems h) p x b at-rows (has l e)))
+      (array-whole 𝓤 H A W RowS q mostPeers xs b at-rows))))))
       (record-field-back 𝓤 H A W q (T.struct .name) members Endpoint (T.the-type .to) (T.the-type .to-one) (withRow h p r) b o 1)
 
   -- the same at the pointer that MIR's `offset` computes
-  pub reaches : p < 8 → ⟦ partAt T.the-row q h b o ⟧ ⊢ Reached (rowPlace o p) (rowAt h p)
-  reaches l = subst (λ (n : ℕ). ⟦ partAt T.the-row q h b o ⟧ ⊢ Reached n (rowAt h p)) (place-is 32 at-rows p) (reaches′ l)
+  pub reaches : p < mostPeers → ⟦ partAt T.the-row q h b o ⟧ ⊢ Reached (rowPlace o p) (rowAt h p)
+  reaches l = subst (λ (n : ℕ). ⟦ partAt T.the-row q h b o ⟧ ⊢ Reached n (rowAt h p)) (place-is peerBytes at-rows p) (reaches′ l)
 
-  pub comes-back : p < 8 → (r : Peer) → Reached (rowPlace o p) r ⊢ ⟦ partAt T.the-row q (withRow h p r) b o ⟧
-  comes-back l r = subst (λ (n : ℕ). Reached n r ⊢ ⟦ partAt T.the-row q (withRow h p r) b o ⟧) (place-is 32 at-rows p) (comes-back′ l r)
+  pub comes-back : p < mostPeers → (r : Peer) → Reached (rowPlace o p) r ⊢ ⟦ partAt T.the-row q (withRow h p r) b o ⟧
+  comes-back l r = subst (λ (n : ℕ). Reached n r ⊢ ⟦ partAt T.the-row q (withRow h p r) b o ⟧) (place-is peerBytes at-rows p) (comes-back′ l r)
 
   -- `Reached`, part by part, as a walk holds it
   abbrev pub AtRow : Peer → Item 𝓤

@@ -2,6 +2,7 @@
 ghost use mathlib.Core.Path.{_≡_};
 ghost use Prim.Native.Nat.{min};
 ghost use Rattle.endpoint.specs.Answer.{valuesOf};
+ghost use Rattle.endpoint.specs.Config.{mostBindings};
 ghost use Rattle.endpoint.specs.Receive.{stepOf, receiptOf};
 ghost use Rattle.endpoint.specs.Stages.{settleOf, openedBy, settledBy};
 ghost use Rattle.niulassenc.specs.Answer.{flatOf};
@@ -34,8 +35,9 @@ pub(crate) fn flat_settled<'a>(
     memory: &mut [u8],
 ) -> PeerUpdate
     ensures { λ r. ⌜ (r ≡ outcomeOf (settleOf (now (networks .entry)) (now (kinds .entry)) (now (owners .entry)) (now (tenants .entry))
-        (min «binding_count» 64) arrival row (now (packet .entry)) (now (memory .entry))))
-        × (now (memory .exit) ≡ settleOf (now (networks .entry)) (now (kinds .entry)) (now (owners .entry)) (now (tenants .entry)) (min «binding_count» 64)
+        (min «binding_count» mostBindings) arrival row (now (packet .entry)) (now (memory .entry))))
+        × (now (memory .exit) ≡ settleOf (now (networks .entry)) (now (kinds .entry)) (now (owners .entry)) (now (tenants .entry))
+        (min «binding_count» mostBindings)
         arrival row (now (packet .entry)) (now (memory .entry)) .mem) ⌝ }
 {
     let peer = arrival.peer;

@@ -6,15 +6,15 @@ use native.Mathlib.Omega.{arith}
 use lib.ListN.{length, getD, length-map}
 use denote.Laws.{Is}
 use denote.Struct.Laws as LL
-use Rattle.reassembly.specs.Slots.{Peer}
+use Rattle.reassembly.specs.Slots.{Peer, mostSlots}
 use Rattle.reassembly.proofs.slot.Peer as R
 use Rattle.reassembly.proofs.slot.Peer.Laws as R′
 
-pub four-slots : (r : Peer) → Is R.the-row r (LL.vals R.the-type R′.the-laws r) → length (r .slots) ≡ 4
+pub four-slots : (r : Peer) → Is R.the-row r (LL.vals R.the-type R′.the-laws r) → length (r .slots) ≡ mostSlots
 four-slots r is = sym (length-map (r .slots) _) ∙ LL.owed R.the-type R′.the-laws r (LL.vals R.the-type R′.the-laws r) is .0 .1 .0 .1
 
 -- a list of four is its four elements
-pub four : {A : Type 0} (z : A) (l : List A) → length l ≡ 4 → l ≡ getD l 0 z ∷ getD l 1 z ∷ getD l 2 z ∷ getD l 3 z ∷ []
+pub four : {A : Type 0} (z : A) (l : List A) → length l ≡ mostSlots → l ≡ getD l 0 z ∷ getD l 1 z ∷ getD l 2 z ∷ getD l 3 z ∷ []
 four z [] e = absurd (omega arith)
 four z (a ∷ []) e = absurd (omega arith)
 four z (a ∷ b ∷ []) e = absurd (omega arith)

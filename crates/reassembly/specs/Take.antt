@@ -87,7 +87,7 @@ chosen row g =
 -- the segment's frame is pending in slot s
 pub record Old (row : List Slot) (g : Seg) (s : ℕ) : Type 0 where
   pub fits : Fits g
-  pub is-slot : s < 4
+  pub is-slot : s < mostSlots
   pub pending : getD row s free .pending ≡ true
   pub identifier : getD row s free .identifier ≡ g .identifier
   pub size : getD row s free .«frame_length» ≡ g .frame-length
@@ -95,9 +95,9 @@ pub record Old (row : List Slot) (g : Seg) (s : ℕ) : Type 0 where
 -- no pending frame bears the segment's identifier, and slot s is free
 pub record Fresh (row : List Slot) (g : Seg) (s : ℕ) : Type 0 where
   pub fits : Fits g
-  pub is-slot : s < 4
+  pub is-slot : s < mostSlots
   pub is-free : getD row s free .pending ≡ false
-  pub strange : (t : ℕ) → t < 4 → bears (g .identifier) (getD row t free) ≡ false
+  pub strange : (t : ℕ) → t < mostSlots → bears (g .identifier) (getD row t free) ≡ false
 
 -- the code's own words for a decision
 unfoldable pub decisionOf : Choice → Decision

@@ -3,6 +3,7 @@
 ghost use mathlib.Core.Path.{_≡_};
 ghost use Prim.Native.Nat.{_+_, _<_, _≤_};
 ghost use lib.ListN.{length};
+ghost use Rattle.reassembly.specs.Slots.{mostPeers, mostSlots};
 ghost use Rattle.reassembly.specs.Take.{segOf, chosen, placed, old, fresh, Old, Fresh, decisionOf};
 ghost use Rattle.reassembly.specs.Store.{bytesOf, takeIn, takenOf, finished};
 use crate::memory;
@@ -129,7 +130,7 @@ fn further(
     bytes: &[u8],
     memory: &mut [u8],
 ) -> Taken
-    requires { ⌜ (peer < 8) × (55296 ≤ length (now memory)) × Old (row .slots) (segOf segment (now bytes)) s ⌝ }
+    requires { ⌜ (peer < mostPeers) × (55296 ≤ length (now memory)) × Old (row .slots) (segOf segment (now bytes)) s ⌝ }
     ensures { λ r. ⌜ r ≡ takenOf (placed bytesOf peer (row .slots) (now (memory .entry)) (segOf segment (now (bytes .entry))) (old s)) ⌝ }
     ensures { λ _. ⌜ now (memory .exit) ≡ placed bytesOf peer (row .slots) (now (memory .entry)) (segOf segment (now (bytes .entry))) (old s) .mem ⌝ }
 {
@@ -154,7 +155,7 @@ fn open(
     bytes: &[u8],
     memory: &mut [u8],
 ) -> Taken
-    requires { ⌜ (peer < 8) × (55296 ≤ length (now memory)) × Fresh (row .slots) (segOf segment (now bytes)) s ⌝ }
+    requires { ⌜ (peer < mostPeers) × (55296 ≤ length (now memory)) × Fresh (row .slots) (segOf segment (now bytes)) s ⌝ }
     ensures { λ r. ⌜ r ≡ takenOf (placed bytesOf peer (row .slots) (now (memory .entry)) (segOf segment (now (bytes .entry))) (fresh s)) ⌝ }
     ensures { λ _. ⌜ now (memory .exit) ≡ placed bytesOf peer (row .slots) (now (memory .entry)) (segOf segment (now (bytes .entry))) (fresh s) .mem ⌝ }
 {
@@ -174,7 +175,7 @@ fn open(
 
 // The frame in slot s is complete when every byte below its length is received; then its slot is free.
 fn finish(row: Peer, peer: usize, s: usize, size: u16, memory: &[u8]) -> Taken
-    requires { ⌜ (peer < 8) × (s < 4) × (size ≤ 1532) × (55296 ≤ length (now memory)) ⌝ }
+    requires { ⌜ (peer < mostPeers) × (s < mostSlots) × (size ≤ 1532) × (55296 ≤ length (now memory)) ⌝ }
     ensures { λ r. ⌜ r ≡ finished peer s row (now (memory .entry)) size ⌝ }
 {
     if memory::all_received(memory, SLOTS * peer + s, size as usize) {

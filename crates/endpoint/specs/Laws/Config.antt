@@ -14,7 +14,7 @@ use lib.Dec.{eqb}
 use borrow.Author.Tests.{eq-eqb, ne-eqb, le-leb, leb-false, eqb-true, eqb-false, not-false}
 use Rattle.wire.specs.Checks.{Check, _⇒_, first, Passed}
 use Rattle.reassembly.specs.Laws.Base.{caseB, either, clash}
-use Rattle.reassembly.specs.Slots.{olderRow}
+use Rattle.reassembly.specs.Slots.{olderRow, mostPeers}
 use Rattle.endpoint.specs.declared.answer.ConfigRefusal.the-variants as C
 use Rattle.endpoint.specs.declared.answer.Start.the-variants as S
 use Rattle.endpoint.specs.declared.config.Endpoint.{Endpoint}
@@ -24,7 +24,7 @@ use Rattle.endpoint.specs.Laws.Search.{lowest-none, lowest-is, binds-hit
 use Rattle.endpoint.specs.Config.{addressAt, freeRow, tickOf, configOf, hasAddress, findPeer, binds, findBinding, isSome, fresh, startChecks}
 use Rattle.endpoint.specs.Config.{refusedStart, startOf}
 use Rattle.endpoint.specs.Config.{addressChecks, refusedAdd, addPeerChecks, withAddress, addPeerOf, isNetwork, addBindingChecks, withBinding}
-use Rattle.endpoint.specs.Config.{addBindingOf, Adding, addPeer, addBinding, added, addedAll, setUp}
+use Rattle.endpoint.specs.Config.{addBindingOf, Adding, addPeer, addBinding, added, addedAll, setUp, mostBindings}
 use Rattle.endpoint.specs.Laws.ConfigExits.{peerAdded, bindingAdded, add-binding-exit}
 
 -- ---- what a call leaves: the endpoint as it came, or the one with the addition
@@ -65,7 +65,7 @@ refused-start-binding peer kind network tenant = add-binding-exit (fresh 0 0 0) 
 
 -- ---- the rows of slots
 
-pub rows-fresh : (own port mtu : ℕ) → fresh own port mtu .peers ≡ replicate 8 freeRow
+pub rows-fresh : (own port mtu : ℕ) → fresh own port mtu .peers ≡ replicate mostPeers freeRow
 unfolding fresh
 rows-fresh own port mtu = refl
 
@@ -83,14 +83,14 @@ config-tick e = refl
 pub record Valid (e : Endpoint) : Type 0 where
   -- a refused start lists nothing
   pub settings : Passed (startChecks (e .own) (e .port) (e .mtu)) ⊎ (e ≡ fresh 0 0 0)
-  pub peers : e .peers ≡ replicate 8 freeRow
-  pub peer-count : e .«peer_count» ≤ 8
-  pub binding-count : e .«binding_count» ≤ 64
-  pub addresses-length : length (e .addresses) ≡ 8
-  pub networks-length : length (e .networks) ≡ 64
-  pub kinds-length : length (e .kinds) ≡ 64
-  pub owners-length : length (e .owners) ≡ 64
-  pub tenants-length : length (e .tenants) ≡ 64
+  pub peers : e .peers ≡ replicate mostPeers freeRow
+  pub peer-count : e .«peer_count» ≤ mostPeers
+  pub binding-count : e .«binding_count» ≤ mostBindings
+  pub addresses-length : length (e .addresses) ≡ mostPeers
+  pub networks-length : length (e .networks) ≡ mostBindings
+  pub kinds-length : length (e .kinds) ≡ mostBindings
+  pub owners-length : length (e .owners) ≡ mostBindings
+  pub tenants-length : length (e .tenants) ≡ mostBindings
   -- no two listed peers share an address, and none has ours
   pub address-once : (i j : ℕ) → i < e .«peer_count» → j < e .«peer_count» → addressAt e i ≡ addressAt e j → i ≡ j
   pub address-other : (i : ℕ) → i < e .«peer_count» → addressAt e i ≢ e .own
@@ -147,16 +147,16 @@ module _ (e : Endpoint) (address : ℕ) where
   unlisted-address : (v : Valid e) → isSome (findPeer (configOf e) address) ≡ false → (i : ℕ) → i < e .«peer_count» → addressAt e i ≢ address
   unfolding findPeer configOf hasAddress addressAt
   unlisted-address v h i l =
-      let c : e .«peer_count» ≤ 8 = v .peer-count in
+      let c : e .«peer_count» ≤ mostPeers = v .peer-count in
       eqb-false (getD (e .addresses) i 0) address
-      (lowest-none (hasAddress (e .addresses) address) (min (e .«peer_count») 8) (none-of (findPeer (configOf e) address) h) i (omega arith))
+      (lowest-none (hasAddress (e .addresses) address) (min (e .«peer_count») mostPeers) (none-of (findPeer (configOf e) address) h) i (omega arith))
 
   peer-added-valid : Valid e → Passed (addPeerChecks e address) → Valid (withAddress e (e .«peer_count») address)
   unfolding addPeerChecks withAddress fresh
   peer-added-valid v p =
       let n : ℕ = e .«peer_count» in
-      let full : e .«peer_count» < 8 = leb-false 8 (e .«peer_count») (p .1 .1 .1 .1 .1 .0) in
-      let size : length (e .addresses) ≡ 8 = v .addresses-length in
+      let full : e .«peer_count» < mostPeers = leb-false mostPeers (e .«peer_count») (p .1 .1 .1 .1 .1 .0) in
+      let size : length (e .addresses) ≡ mostPeers = v .addresses-length in
       let here = new-address (omega arith) in
       let other = unlisted-address v (p .1 .1 .1 .1 .0) in
       record {
@@ -201,8 +201,8 @@ module _ (e : Endpoint) (peer kind network tenant : ℕ) where
       → (i : ℕ) → i < e .«binding_count» → getD (e .owners) i 0 ≡ peer → getD (e .kinds) i 0 ≡ kind → getD (e .networks) i 0 ≢ network
   unfolding findBinding configOf
   unlisted-binding v h i l o k m =
-      let c : e .«binding_count» ≤ 64 = v .binding-count in
-      let miss = lowest-none (binds (e .networks) (e .kinds) (e .owners) peer kind network) (min (e .«binding_count») 64)
+      let c : e .«binding_count» ≤ mostBindings = v .binding-count in
+      let miss = lowest-none (binds (e .networks) (e .kinds) (e .owners) peer kind network) (min (e .«binding_count») mostBindings)
       (none-of (findBinding (configOf e) peer kind network) h) i (omega arith) in
       differ (sym (binds-hit (e .networks) (e .kinds) (e .owners) peer kind network i m k o) ∙ miss)
 
@@ -210,11 +210,11 @@ module _ (e : Endpoint) (peer kind network tenant : ℕ) where
   unfolding addBindingChecks withBinding fresh configOf addressAt
   binding-added-valid v p =
       let n : ℕ = e .«binding_count» in
-      let owner : peer < min (e .«peer_count») 8 = leb-false (min (e .«peer_count») 8) peer (p .0) in
-      let room : e .«binding_count» < 64 = leb-false 64 (e .«binding_count») (p .1 .1 .1 .1 .0) in
-      let wn : length (e .networks) ≡ 64 = v .networks-length in
-      let wk : length (e .kinds) ≡ 64 = v .kinds-length in
-      let wo : length (e .owners) ≡ 64 = v .owners-length in
+      let owner : peer < min (e .«peer_count») mostPeers = leb-false (min (e .«peer_count») mostPeers) peer (p .0) in
+      let room : e .«binding_count» < mostBindings = leb-false mostBindings (e .«binding_count») (p .1 .1 .1 .1 .0) in
+      let wn : length (e .networks) ≡ mostBindings = v .networks-length in
+      let wk : length (e .kinds) ≡ mostBindings = v .kinds-length in
+      let wo : length (e .owners) ≡ mostBindings = v .owners-length in
       let other = unlisted-binding v (p .1 .1 .1 .0) in
       record {
         settings = either (v .settings) (λ s. inl s) (λ q. let z : e .«peer_count» ≡ 0 = ap (λ (x : Endpoint). x .«peer_count») q in absurd (omega arith));
@@ -257,10 +257,10 @@ module _ (e : Endpoint) (peer kind network tenant : ℕ) where
           → Valid e → Passed (addBindingChecks e peer kind network tenant) → ⊥
       clashes i j x y o k m v p =
           let n : ℕ = e .«binding_count» in
-          let room : e .«binding_count» < 64 = leb-false 64 (e .«binding_count») (p .1 .1 .1 .1 .0) in
-          let wn : length (e .networks) ≡ 64 = v .networks-length in
-          let wk : length (e .kinds) ≡ 64 = v .kinds-length in
-          let wo : length (e .owners) ≡ 64 = v .owners-length in
+          let room : e .«binding_count» < mostBindings = leb-false mostBindings (e .«binding_count») (p .1 .1 .1 .1 .0) in
+          let wn : length (e .networks) ≡ mostBindings = v .networks-length in
+          let wk : length (e .kinds) ≡ mostBindings = v .kinds-length in
+          let wo : length (e .owners) ≡ mostBindings = v .owners-length in
           unlisted-binding v (p .1 .1 .1 .0) i x
           (sym (at-before (e .owners) n peer i x) ∙ o ∙ at-last (e .owners) n peer j (omega arith) y)
           (sym (at-before (e .kinds) n kind i x) ∙ k ∙ at-last (e .kinds) n kind j (omega arith) y)
@@ -288,8 +288,8 @@ module _ (e : Endpoint) (v : Valid e) (i : ℕ) where
   pub listed-peer-found : i < e .«peer_count» → findPeer (configOf e) (addressAt e i) ≡ some i
   unfolding findPeer configOf hasAddress addressAt
   listed-peer-found h =
-      let c : e .«peer_count» ≤ 8 = v .peer-count in
-      lowest-is (hasAddress (e .addresses) (addressAt e i)) (min (e .«peer_count») 8) i
+      let c : e .«peer_count» ≤ mostPeers = v .peer-count in
+      lowest-is (hasAddress (e .addresses) (addressAt e i)) (min (e .«peer_count») mostPeers) i
       (record {
         below = omega arith;
         passes = eq-eqb (addressAt e i) (addressAt e i) refl;
@@ -299,11 +299,11 @@ module _ (e : Endpoint) (v : Valid e) (i : ℕ) where
   pub listed-binding-found : i < e .«binding_count» → findBinding (configOf e) (getD (e .owners) i 0) (getD (e .kinds) i 0) (getD (e .networks) i 0) ≡ some i
   unfolding findBinding configOf
   listed-binding-found h =
-      let c : e .«binding_count» ≤ 64 = v .binding-count in
+      let c : e .«binding_count» ≤ mostBindings = v .binding-count in
       let owner : ℕ = getD (e .owners) i 0 in
       let kind : ℕ = getD (e .kinds) i 0 in
       let network : ℕ = getD (e .networks) i 0 in
-      lowest-is (binds (e .networks) (e .kinds) (e .owners) owner kind network) (min (e .«binding_count») 64) i
+      lowest-is (binds (e .networks) (e .kinds) (e .owners) owner kind network) (min (e .«binding_count») mostBindings) i
       (record {
         below = omega arith;
         passes = binds-hit (e .networks) (e .kinds) (e .owners) owner kind network i refl refl refl;

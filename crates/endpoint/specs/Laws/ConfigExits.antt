@@ -25,6 +25,8 @@ use Rattle.endpoint.specs.declared.config.AddResult.{AddResult}
 use Rattle.endpoint.specs.Search.{lowest, foundOf}
 use Rattle.endpoint.specs.Config.{configOf, hasAddress, findPeer, binds, findBinding, isSome, fresh, startChecks, refusedStart, startOf, refusedAdd}
 use Rattle.endpoint.specs.Config.{addPeerChecks, withAddress, addPeerOf, isNetwork, addBindingChecks, withBinding, addBindingOf, peersOf, bindingsOf}
+use Rattle.endpoint.specs.Config.{mostBindings}
+use Rattle.reassembly.specs.Slots.{mostPeers}
 
 -- ---- ordered checks: behind k that are passed
 
@@ -182,20 +184,20 @@ is-found : (d : Drop) (o : Option ℕ) → isFound (foundOf d o) ≡ isSome o
 is-found d none = refl
 is-found d (some i) = refl
 
-pub peer-found : (e : Endpoint) (address n : ℕ) (f : Lookup) → n ≡ min (e .«peer_count») 8
+pub peer-found : (e : Endpoint) (address n : ℕ) (f : Lookup) → n ≡ min (e .«peer_count») mostPeers
     → f ≡ foundOf D.Peer (lowest (hasAddress (e .addresses) address) n) → isSome (findPeer (configOf e) address) ≡ isFound f
 unfolding findPeer configOf
 peer-found e address n f k r =
-    sym (is-found D.Peer (lowest (hasAddress (e .addresses) address) (min (e .«peer_count») 8)))
+    sym (is-found D.Peer (lowest (hasAddress (e .addresses) address) (min (e .«peer_count») mostPeers)))
     ∙ ap (λ (k : ℕ). isFound (foundOf D.Peer (lowest (hasAddress (e .addresses) address) k))) (sym k)
     ∙ ap isFound (sym r)
 
-pub binding-found : (e : Endpoint) (peer kind network n : ℕ) (f : Lookup) → n ≡ min (e .«binding_count») 64
+pub binding-found : (e : Endpoint) (peer kind network n : ℕ) (f : Lookup) → n ≡ min (e .«binding_count») mostBindings
     → f ≡ foundOf D.Binding (lowest (binds (e .networks) (e .kinds) (e .owners) peer kind network) n)
     → isSome (findBinding (configOf e) peer kind network) ≡ isFound f
 unfolding findBinding configOf
 binding-found e peer kind network n f k r =
-    sym (is-found D.Binding (lowest (binds (e .networks) (e .kinds) (e .owners) peer kind network) (min (e .«binding_count») 64)))
+    sym (is-found D.Binding (lowest (binds (e .networks) (e .kinds) (e .owners) peer kind network) (min (e .«binding_count») mostBindings)))
     ∙ ap (λ (k : ℕ). isFound (foundOf D.Binding (lowest (binds (e .networks) (e .kinds) (e .owners) peer kind network) k))) (sym k)
     ∙ ap isFound (sym r)
 

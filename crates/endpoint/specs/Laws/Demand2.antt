@@ -51,6 +51,7 @@ use Rattle.endpoint.specs.Laws.Calls.{config-row, calls-are}
 use Rattle.endpoint.specs.Run.{Left, called, calls, left, endsOf}
 use Rattle.endpoint.specs.Demand2.{Delivers, MadeUp, Packets}
 use Rattle.endpoint.specs.Laws.Demand3.{set-up-every}
+use Rattle.reassembly.specs.Slots.{mostPeers}
 
 -- the packet carries a segment of a listed peer's that makes its frame complete, and the complete frame is good, for the target, and carries the inner frame
 pub record Completes (e : Endpoint) (m k : List ℕ) (t : Target) (frame : List ℕ) : Type 0 where
@@ -277,7 +278,7 @@ module _ (own port mtu : ℕ) (adds : List Adding) (m : List ℕ) (enough : 5529
           → CarriesFrame (configOf e) k t frame ⊎ MadeUp e m es k t frame
       joined (inl w) = inl (subst (λ (x : Config). CarriesFrame x k t frame) config-same w)
       joined (inr w) =
-          let p< : w .p < 8 = take-whole (w .p) (w .slot) (rowAt (at .endpoint) (w .p)) (at .mem) (w .g) (w .complete) .is-peer in
+          let p< : w .p < mostPeers = take-whole (w .p) (w .slot) (rowAt (at .endpoint) (w .p)) (at .mem) (w .g) (w .complete) .is-peer in
           let carries : CarriesSegment (configOf e) k (w .p) (w .g) = subst (λ (x : Config). CarriesSegment x k (w .p) (w .g)) config-same (w .carried) in
           let complete : taking answers Config layers (w .p) (runs answers Config layers (worldOf e m) es) (w .g) .outcome ≡ O.Complete (w .slot) =
           subst (λ (x : World Config). taking answers Config layers (w .p) x (w .g) .outcome ≡ O.Complete (w .slot)) world-same (w .complete) in

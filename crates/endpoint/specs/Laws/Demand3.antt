@@ -27,6 +27,7 @@ use Rattle.endpoint.specs.Laws.Formats.{peer-listed, peer-found, segment
 use Rattle.endpoint.specs.declared.config.Endpoint.{Endpoint}
 use Rattle.endpoint.specs.Run.{endsOf}
 use Rattle.endpoint.specs.Demand3.{From, WordsMean}
+use Rattle.reassembly.specs.Slots.{mostPeers}
 
 from-by : (c : Config) (k : List ℕ) (p : ℕ) → Bytes k → (x : Ipv4Read) → ipv4Of k ≡ x → bySender c x ≡ some p → From c k p
 from-by c k p b (I.Refused r) ip e = let z : _≡_ {A = ℕ} 0 1 = cc in absurd (omega arith)
@@ -58,7 +59,7 @@ noAdding c a = c
 abbrev startsFree : Endpoint → Type 0
 startsFree e = e .peers ≡ U.setUp Config Adding noAdding (configOf e) [] .peers
 
-module _ (own port mtu : ℕ) (adds : List Adding) (p : ℕ) (is-peer : p < 8) where
+module _ (own port mtu : ℕ) (adds : List Adding) (p : ℕ) (is-peer : p < mostPeers) where
   pub set-up-claims : Claim answers Config layers (endsOf (setUp own port mtu adds)) p
   set-up-claims = of (setUp own port mtu adds) (set-up-valid own port mtu adds .peers)
     where

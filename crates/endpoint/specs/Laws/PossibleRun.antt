@@ -2,13 +2,13 @@
 -- that mixes them with packets of the peer's own, one delivered and one refused, and with other senders' (document 01, "Whose packet it is"): what Possible
 -- shows to meet demand 3's hypotheses.
 -- Only definitions. A number that stands alone is a byte.
-use Prim.Native.Nat.{ℕ}
+use Prim.Native.Nat.{ℕ, _-_}
 use mathlib.Core.List.{List, [], _∷_, _++_}
 use lib.ListN.{replicate}
-use Rattle.reassembly.specs.Slots.{noMark}
+use Rattle.reassembly.specs.Slots.{noMark, mostPeers}
 use Rattle.reassembly.specs.Receive.{receive, tick}
 use Rattle.reassembly.specs.Mix.{Frame, Item, given, other}
-use Rattle.endpoint.specs.Config.{Config, Adding, addPeer, addBinding, setUp}
+use Rattle.endpoint.specs.Config.{Config, Adding, addPeer, addBinding, setUp, mostBindings}
 use Rattle.endpoint.specs.declared.config.Endpoint.{Endpoint}
 
 -- ---- the set-up: we are 10.0.0.1, STT port 7471, MTU 1500. Peer 0 is 10.0.0.2, with two Context IDs and a VXLAN network; peer 1 is 10.0.0.3, with a VXLAN
@@ -35,12 +35,12 @@ listed = record {
   own = 167772161;
   port = 7471;
   mtu = 1500;
-  addresses = 167772162 ∷ 167772163 ∷ replicate 6 0;
+  addresses = 167772162 ∷ 167772163 ∷ replicate (mostPeers - 2) 0;
   peers = 2;
-  owners = 0 ∷ 0 ∷ 1 ∷ 0 ∷ replicate 60 0;
-  kinds = 3 ∷ 3 ∷ 1 ∷ 1 ∷ replicate 60 0;
-  networks = 77 ∷ 72623859790382856 ∷ 22 ∷ 22 ∷ replicate 60 0;
-  tenants = 7 ∷ 8 ∷ 9 ∷ 5 ∷ replicate 60 0;
+  owners = 0 ∷ 0 ∷ 1 ∷ 0 ∷ replicate (mostBindings - 4) 0;
+  kinds = 3 ∷ 3 ∷ 1 ∷ 1 ∷ replicate (mostBindings - 4) 0;
+  networks = 77 ∷ 72623859790382856 ∷ 22 ∷ 22 ∷ replicate (mostBindings - 4) 0;
+  tenants = 7 ∷ 8 ∷ 9 ∷ 5 ∷ replicate (mostBindings - 4) 0;
   bindings = 4;
 }
 

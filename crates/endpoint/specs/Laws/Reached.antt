@@ -8,7 +8,7 @@ use native.Mathlib.Omega.{arith}
 use lib.ListN.{getD, set, replicate}
 use Rattle.wire.specs.Checks.{Check, _⇒_, first}
 use Rattle.endpoint.specs.Config.{Config, configOf, findPeer, isSome, fresh, startOf, refusedAdd, addPeerChecks, withAddress, addPeerOf, addBindingChecks}
-use Rattle.endpoint.specs.Config.{withBinding, addBindingOf, tickOf, Adding, addPeer, addBinding, added, addedAll, setUp}
+use Rattle.endpoint.specs.Config.{withBinding, addBindingOf, tickOf, Adding, addPeer, addBinding, added, addedAll, setUp, mostBindings}
 use Rattle.endpoint.specs.Laws.Config.{start-cases, add-peer-cases, add-binding-cases, Valid, set-up-valid, config-tick}
 use Rattle.endpoint.specs.Laws.ConfigExits.{peerAdded, bindingAdded}
 use Rattle.endpoint.specs.Receive.{stepOf}
@@ -18,6 +18,7 @@ use Rattle.endpoint.specs.declared.answer.ConfigRefusal.{ConfigRefusal}
 use Rattle.endpoint.specs.declared.config.Endpoint.{Endpoint}
 use Rattle.endpoint.specs.declared.config.AddResult.{AddResult}
 use Rattle.endpoint.specs.Reached.{Call, add, got, ticked, left, leftBy, Typed, AllTyped, Reached}
+use Rattle.reassembly.specs.Slots.{mostPeers}
 
 -- ---- ordered checks of two endpoints
 
@@ -56,7 +57,7 @@ withPeerIn c n address = record {
   port = c .port;
   mtu = c .mtu;
   addresses = set (c .addresses) n address;
-  peers = min (n + 1) 8;
+  peers = min (n + 1) mostPeers;
   owners = c .owners;
   kinds = c .kinds;
   networks = c .networks;
@@ -75,7 +76,7 @@ withBindingIn c n peer kind network tenant = record {
   kinds = set (c .kinds) n kind;
   networks = set (c .networks) n network;
   tenants = set (c .tenants) n tenant;
-  bindings = min (n + 1) 64;
+  bindings = min (n + 1) mostBindings;
 }
 
 config-peer : (e : Endpoint) (n address : ℕ) → configOf (withAddress e n address) ≡ withPeerIn (configOf e) n address
@@ -146,7 +147,7 @@ set-fits (y ∷ l) (suc n) x h f (suc i) = set-fits l n x h (λ j. f (suc j)) i
 
 fresh-fit : (own port mtu : ℕ) → port < 256 ^ 2 → Fit (fresh own port mtu)
 unfolding fresh
-fresh-fit own port mtu h = record { port = h; networks = zeros 64 }
+fresh-fit own port mtu h = record { port = h; networks = zeros mostBindings }
 
 start-fit : (own port mtu : ℕ) → port < 256 ^ 2 → Fit (startOf own port mtu .endpoint)
 start-fit own port mtu h = start-cases Fit own port mtu (fresh-fit 0 0 0 (omega arith)) (λ p. fresh-fit own port mtu h)

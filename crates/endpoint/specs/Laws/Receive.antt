@@ -28,10 +28,10 @@ use Rattle.wire.specs.declared.carriage.Carried.the-variants as C
 use Rattle.wire.specs.declared.stt.SttRead.{SttRead}
 use Rattle.wire.specs.declared.stt.SttRead.the-variants as T
 use Rattle.wire.specs.declared.frame.FrameRead.the-variants as F
-use Rattle.reassembly.specs.Slots.{Note, noRow}
+use Rattle.reassembly.specs.Slots.{Note, noRow, mostPeers, mostSlots}
 use Rattle.reassembly.specs.Laws.TakeFacts.{length-frame}
 use Rattle.reassembly.specs.Laws.Store.{handed, slot-inside}
-use Rattle.reassembly.specs.Take.{Seg, segOf, frameIn}
+use Rattle.reassembly.specs.Take.{Seg, segOf, frameIn, slotNo}
 use Rattle.reassembly.specs.Store.{bytesOf, takeIn, slotStart, takenOf}
 use Rattle.reassembly.specs.Receive.{Reading as Made, otherSender, direct, segment, Verdict, bad, good, frameAnswer, takeAnswer, partOfSlice, viewOf}
 use Rattle.reassembly.specs.Laws.Base.{caseB}
@@ -47,7 +47,7 @@ use Rattle.endpoint.specs.Search.{lowest, foundOf}
 use Rattle.endpoint.specs.Laws.Search.{lowest-some}
 use Rattle.endpoint.specs.declared.search.Lookup.{Lookup}
 use Rattle.endpoint.specs.declared.search.Lookup.the-variants as L
-use Rattle.endpoint.specs.Config.{Config, configOf, hasAddress, findPeer, binds}
+use Rattle.endpoint.specs.Config.{Config, configOf, hasAddress, findPeer, binds, mostBindings}
 use Rattle.endpoint.specs.Receive.{answers, innerFrom, answerAt, tunnelFrom, byPayload, byPeer, headerOf, byDestination, byIpv4, bySender, sourceOf}
 use Rattle.endpoint.specs.Receive.{byStt, sttFrom, judgeOf, Step, rowAt, unchanged, stepped, stepOf}
 use Rattle.endpoint.specs.declared.answer.Drop.{Drop}
@@ -138,8 +138,8 @@ module _ (at : ℕ) (frame : List ℕ) where
 
 -- ---- the ways out of a segment
 
-pub lies-complete : (peer : ℕ) (o : Outcome) (size : ℕ) (m : List ℕ) (s : ℕ) → Lies peer o size m → o ≡ O.Complete s → (peer < 8)
-    × ((s < 4) × ((size ≤ 1532) × (55296 ≤ length m)))
+pub lies-complete : (peer : ℕ) (o : Outcome) (size : ℕ) (m : List ℕ) (s : ℕ) → Lies peer o size m → o ≡ O.Complete s → (peer < mostPeers)
+    × ((s < mostSlots) × ((size ≤ 1532) × (55296 ≤ length m)))
 unfolding Lies
 lies-complete peer (O.Rejected r) size m s l e = let z : _≡_ {A = ℕ} 0 1 = cc in absurd (omega arith)
 lies-complete peer O.Pending size m s l e = let z : _≡_ {A = ℕ} 0 1 = cc in absurd (omega arith)
@@ -159,8 +159,8 @@ module _ (peer : ℕ) (o : Outcome) (size : ℕ) (m : List ℕ) where
   unfolding offerOf
   settled-memory e = rw e
 
-  pub settled-complete : (s : ℕ) → o ≡ O.Complete s → (frame : List ℕ) → frame ≡ part m ((4 * peer + s) * 1728) ((4 * peer + s) * 1728 + size)
-      → offerAt ((4 * peer + s) * 1728) frame ≡ offerOf peer o size m
+  pub settled-complete : (s : ℕ) → o ≡ O.Complete s → (frame : List ℕ) → frame ≡ part m (slotNo peer s * 1728) (slotNo peer s * 1728 + size)
+      → offerAt (slotNo peer s * 1728) frame ≡ offerOf peer o size m
   unfolding offerOf
   settled-complete s e frame f = rw (e, f)
 
@@ -307,9 +307,9 @@ module _ (c : Config) (p : ℕ) (row : Peer) (k m : List ℕ) (g : Seg) where
       let w = take-whole p s row m g e in
       let n : ℕ = g .frame-length in
       let after : List ℕ = takeIn p row m g .mem in
-      let inside : slotStart (4 * p + s) + n ≤ length after =
+      let inside : slotStart (slotNo p s) + n ≤ length after =
       slot-inside after p s n (omega (arith, w .memory, take-length p row m g)) (w .is-peer) (w .is-slot) (omega (arith, w .fits .most)) in
-      judged-out c p k after (4 * p + s) n (omega (arith, w .fits .least)) inside (takeIn p row m g .note)
+      judged-out c p k after (slotNo p s) n (omega (arith, w .fits .least)) inside (takeIn p row m g .note)
 
 -- ---- what the stages make of a packet, and what the theory of runs does
 
@@ -327,7 +327,8 @@ module _ (e : Endpoint) (m k : List ℕ) where
       let in-payload : t .start ≤ length (part k (h .start) (h .end)) =
       tunnel-within (h .protocol) (h .source) (h .destination) (e .port) (part k (h .start) (h .end)) t q in
       ap (unchanged e p m)
-      (tunnel-out (e .networks) (e .kinds) (e .owners) (e .tenants) (min (e .«binding_count») 64) p (t .kind) (t .network) (h .start + t .start) (h .end) k m
+      (tunnel-out (e .networks) (e .kinds) (e .owners) (e .tenants) (min (e .«binding_count») mostBindings)
+      p (t .kind) (t .network) (h .start + t .start) (h .end) k m
       (omega (arith, part-length k (h .start) (h .end) (b .1))) (b .1))
   carried-adds h b p (C.Segment g) q =
       let in-payload : g .start ≤ length (part k (h .start) (h .end)) =
@@ -345,19 +346,20 @@ module _ (e : Endpoint) (m k : List ℕ) where
   peer-adds h b (some p) = carried-adds h b p (carriageOf (h .protocol) (h .source) (h .destination) (e .port) (part k (h .start) (h .end))) refl
 
   ours-adds : (h : Ipv4) → (h .start ≤ h .end) × (h .end ≤ length k) → (b : Bool)
-      → staged (cond b (openPeer (lowest (hasAddress (e .addresses) (h .source)) (min (e .«peer_count») 8)) (contentFrom (e .port) h k))
+      → staged (cond b (openPeer (lowest (hasAddress (e .addresses) (h .source)) (min (e .«peer_count») mostPeers)) (contentFrom (e .port) h k))
       (fromOther D.Destination)) ≡ stepped e m (byDestination (configOf e) h k b)
   unfolding settleOf takeOf deliverOf findPeer configOf
   ours-adds h b true = peer-adds h b (findPeer (configOf e) (h .source))
   ours-adds h b false = refl
 
-  ip-adds : (x : Ipv4Read) → ipv4Of k ≡ x → staged (openIp x (openHeader (e .addresses) (e .own) (e .port) (min (e .«peer_count») 8) k))
+  ip-adds : (x : Ipv4Read) → ipv4Of k ≡ x → staged (openIp x (openHeader (e .addresses) (e .own) (e .port) (min (e .«peer_count») mostPeers) k))
       ≡ stepped e m (byIpv4 (configOf e) k x)
   unfolding settleOf takeOf deliverOf configOf
   ip-adds (I.Refused r) q = refl
   ip-adds (I.Packet h) q = ours-adds h (ipv4-bounds k h q) (eqb (h .destination) (e .own))
 
-  header-adds : staged (openIp (ipv4Of k) (openHeader (e .addresses) (e .own) (e .port) (min (e .«peer_count») 8) k)) ≡ stepped e m (headerOf (configOf e) k)
+  header-adds : staged (openIp (ipv4Of k) (openHeader (e .addresses) (e .own) (e .port) (min (e .«peer_count») mostPeers) k)) ≡ stepped e m
+      (headerOf (configOf e) k)
   unfolding headerOf
   header-adds = ip-adds (ipv4Of k) refl
 
@@ -372,12 +374,12 @@ place-in-packet networks kinds owners tenants n peer kind network at frame = by-
     by-worth (bad d) = refl
     by-worth (good t) = refl
 
-module _ (c : Config) (few : c .peers ≤ 8) (k : List ℕ) where
-  found-few : (a p : ℕ) → findPeer c a ≡ some p → p < 8
+module _ (c : Config) (few : c .peers ≤ mostPeers) (k : List ℕ) where
+  found-few : (a p : ℕ) → findPeer c a ≡ some p → p < mostPeers
   unfolding findPeer
   found-few a p q = omega (arith, lowest-some (hasAddress (c .addresses) a) (c .peers) p q .below)
 
-  carried-kept : (p start end : ℕ) → p < 8 → (x : Carried) → Kept answers (byPayload c p start end k x)
+  carried-kept : (p start end : ℕ) → p < mostPeers → (x : Carried) → Kept answers (byPayload c p start end k x)
   carried-kept p start end l (C.Refused r) = (l, refl)
   carried-kept p start end l (C.Tunnel t) = (l, place-in-packet (c .networks) (c .kinds) (c .owners) (c .tenants) (c .bindings) p (t .kind) (t .network) (start + t .start) (part k (start + t .start) end))
   carried-kept p start end l (C.Segment g) = l
@@ -420,13 +422,13 @@ module _ (c : Config) (few : c .peers ≤ 8) (k : List ℕ) where
   unfolding headerOf sourceOf
   header-whose = ip-whose (ipv4Of k)
 
-pub config-few : (e : Endpoint) → configOf e .peers ≤ 8
+pub config-few : (e : Endpoint) → configOf e .peers ≤ mostPeers
 unfolding configOf
 config-few e = omega arith
 
 -- ---- the stages in turn are the step
 
-stepped-below : (e : Endpoint) (m : List ℕ) (x : Made answers) → Kept answers x → stepped e m x .peer < 8
+stepped-below : (e : Endpoint) (m : List ℕ) (x : Made answers) → Kept answers x → stepped e m x .peer < mostPeers
 stepped-below e m (otherSender a) l = omega arith
 stepped-below e m (direct p a) l = l .0
 stepped-below e m (segment p g) l = l
@@ -436,12 +438,12 @@ module _ (e : Endpoint) (k : List ℕ) where
   unfolding settleOf
   peer-settled m x = refl
 
-  pub open-below : (room : ℕ) → openedBy e k room .peer < 8
+  pub open-below : (room : ℕ) → openedBy e k room .peer < mostPeers
   unfolding openOf
   open-below room =
       caseB (ltb room 55296)
       (λ b. rw b (omega arith))
-      (λ b. rw (b, ← peer-settled [] (openIp (ipv4Of k) (openHeader (e .addresses) (e .own) (e .port) (min (e .«peer_count») 8) k)), header-adds e [] k)
+      (λ b. rw (b, ← peer-settled [] (openIp (ipv4Of k) (openHeader (e .addresses) (e .own) (e .port) (min (e .«peer_count») mostPeers) k)), header-adds e [] k)
       (stepped-below e [] (headerOf (configOf e) k) (header-kept (configOf e) (config-few e) k)))
 
   module _ (m : List ℕ) where
@@ -449,7 +451,7 @@ module _ (e : Endpoint) (k : List ℕ) where
     unfolding openOf stepOf settleOf takeOf deliverOf
     stages-step = caseB (ltb (length m) 55296) (λ b. rw b) (λ b. rw b (header-adds e m k))
 
-    pub step-below : stepOf e m k .peer < 8
+    pub step-below : stepOf e m k .peer < mostPeers
     step-below = rw (← stages-step, peer-settled m (openedBy e k (length m))) (open-below (length m))
 
     -- with the row as the code reads it

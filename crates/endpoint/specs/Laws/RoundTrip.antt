@@ -19,7 +19,7 @@ use Rattle.wire.specs.Stt.{IsStt}
 use Rattle.wire.specs.Write.{sttFrame}
 use Rattle.wire.specs.Laws.Write.{stt-is, stt-length}
 use Rattle.wire.specs.Laws.WriteIs.{part-short, part-join, part-all, wrote-front, vxlan-bytes, nvgre-bytes}
-use Rattle.reassembly.specs.Slots.{noMark}
+use Rattle.reassembly.specs.Slots.{noMark, mostPeers}
 use Rattle.reassembly.specs.Receive.{segment}
 use Rattle.reassembly.specs.Mix as M
 use Rattle.reassembly.specs.Mix.{Right}
@@ -76,7 +76,7 @@ meets : (e : Endpoint) (b : ℕ) (e′ : Endpoint) (b′ : ℕ) (w : Matches e b
 unfolding configOf
 meets e b e′ b′ w =
     let v : Valid e′ = subst Valid (sym (w .set-up)) (set-up-valid (w .own) (w .stt-port) (w .mtu) (w .adds)) in
-    let p : w .peer < 8 = omega (arith, w .peer-listed, v .peer-count) in
+    let p : w .peer < mostPeers = omega (arith, w .peer-listed, v .peer-count) in
     let found : findBinding (configOf e′) (ownerAt e′ b′) (kindAt e′ b′) (networkAt e′ b′) ≡ some b′ = listed-binding-found e′ v b′ (w .binding-listed) in
     record {
       own-is = w .own-is;

@@ -36,7 +36,7 @@ use Rattle.reassembly.specs.Laws.Base.{caseB, caseO}
 use Rattle.reassembly.specs.Base.{someBelow}
 use Rattle.reassembly.specs.Search.{lowest, found}
 use Rattle.reassembly.specs.Laws.Search.{lowest-some, found-some, found-none}
-use Rattle.reassembly.specs.Slots.{Note, noNote}
+use Rattle.reassembly.specs.Slots.{Note, noNote, mostPeers}
 use Rattle.reassembly.specs.Take.{Seg, segOf, Effect, slotNo, frameIn}
 use Rattle.reassembly.specs.declared.take.Outcome.{Outcome}
 use Rattle.reassembly.specs.declared.take.Outcome.the-variants as O
@@ -46,7 +46,7 @@ use Rattle.reassembly.specs.Laws.Table.{reassembly-table, under-segment}
 use Rattle.reassembly.specs.Receive.{nowhere, Reading, segment, frameAnswer, takeAnswer, Verdict, bad, good}
 use Rattle.endpoint.specs.Answer.{dropCode, addedCode, startCode, valuesOf, wrapValuesOf}
 use Rattle.endpoint.specs.Config.{isSome, configOf, hasAddress, findPeer, binds, findBinding, fresh, startChecks, refusedStart, startOf, refusedAdd}
-use Rattle.endpoint.specs.Config.{addPeerChecks, withAddress, addPeerOf, isNetwork, addBindingChecks, withBinding, addBindingOf}
+use Rattle.endpoint.specs.Config.{addPeerChecks, withAddress, addPeerOf, isNetwork, addBindingChecks, withBinding, addBindingOf, mostBindings}
 use Rattle.endpoint.specs.Receive.{byBinding, byFrame, innerFrom, answerAt, tunnelFrom, tunnelOf, answers, byPayload, byPeer, byDestination, byIpv4}
 use Rattle.endpoint.specs.Receive.{headerOf, byStt, sttFrom, judgeOf, rowAt, stepped, stepOf}
 use Rattle.endpoint.specs.Wrap.{capacity, segmentsOf, segmentStart, segmentSize, low32, packetOf, exceeds, isBad, kindAt, networkAt, ownerAt, peerAt}
@@ -89,7 +89,7 @@ peer-rows false a b o x = row3 18 a b o x
 pub add-peer-number : (e : Endpoint) (address : ℕ) → addedCode (addPeerOf e address .answer) ≡ T.numbered (P.addPeerRows e address)
 unfolding addPeerOf addPeerChecks findPeer configOf hasAddress P.addPeerRows
 add-peer-number e address =
-    rw (some-lowest (min (e .«peer_count») 8) (λ i. eqb (getD (e .addresses) i 0) address))
+    rw (some-lowest (min (e .«peer_count») mostPeers) (λ i. eqb (getD (e .addresses) i 0) address))
     (pull (λ (s : AddResult). addedCode (s .answer)) (refusedAdd e) (addPeerChecks e address)
     (record { endpoint = withAddress e (e .«peer_count») address; answer = A.Number (e .«peer_count») })
     ∙ peer-rows (eqb (e .port) 0) (eqb (address / 2 ^ 24) 0) (leb 224 (address / 2 ^ 24)) (eqb address (e .own)) _)
@@ -129,10 +129,10 @@ pub add-binding-number : (e : Endpoint) (peer kind network tenant : ℕ)
     → addedCode (addBindingOf e peer kind network tenant .answer) ≡ T.numbered (P.addBindingRows e peer kind network tenant)
 unfolding addBindingOf addBindingChecks findBinding configOf binds P.addBindingRows
 add-binding-number e peer kind network tenant =
-    rw (some-lowest (min (e .«binding_count») 64) (P.isBinding e peer kind network), sym (network-bad kind network))
+    rw (some-lowest (min (e .«binding_count») mostBindings) (P.isBinding e peer kind network), sym (network-bad kind network))
     (pull (λ (s : AddResult). addedCode (s .answer)) (refusedAdd e) (addBindingChecks e peer kind network tenant)
     (record { endpoint = withBinding e (e .«binding_count») peer kind network tenant; answer = A.Number (e .«binding_count») })
-    ∙ row3 18 (leb (min (e .«peer_count») 8) peer) (not (isNetwork kind network)) (ltb 65535 tenant) _)
+    ∙ row3 18 (leb (min (e .«peer_count») mostPeers) peer) (not (isNetwork kind network)) (ltb 65535 tenant) _)
 
 -- ---- the inner frame: 12, 13
 
@@ -202,7 +202,7 @@ module _ (e : Endpoint) (m : List ℕ) (p : ℕ) (g : Seg) where
   told-number o (O.Complete s) = spoken-number (judgeOf (configOf e) p (o .note) (frameIn bytesOf (o .mem) (slotNo p s) (g .frame-length))) _ _ _
   told-number o O.NoMemory = refl
 
-  segment-number : p < 8 → 55296 ≤ length m
+  segment-number : p < mostPeers → 55296 ≤ length m
       → seenNumber e m (segment p g) ≡ T.numbered (segmentRows p (rowAt e p) m g andThen judgeRows e p (completeFrame p (rowAt e p) m g))
   unfolding seenNumber judged
   segment-number small enough =
@@ -276,13 +276,13 @@ module _ (e : Endpoint) (m k : List ℕ) where
       by-verdict (bad d) place = refl
       by-verdict (good t) place = refl
 
-  segment-is : peer < 8 → 55296 ≤ length m → segmentNumber carried ≡ T.numbered (P.sttNext e m peer payload)
+  segment-is : peer < mostPeers → 55296 ≤ length m → segmentNumber carried ≡ T.numbered (P.sttNext e m peer payload)
   unfolding segmentNumber P.sttNext
   segment-is small enough =
       ap (λ (bs : List ℕ). seenNumber e m (segment peer (segOf carried bs))) (sym (part-drop k start end (4 * T.dataWordsOf payload)))
       ∙ segment-number e m peer (P.segmentOf payload) small enough
 
-  payload-number : Bytes k → peer < 8 → 55296 ≤ length m
+  payload-number : Bytes k → peer < mostPeers → 55296 ≤ length m
       → seenNumber e m (byPayload (configOf e) peer start end k (carriageOf protocol (T.sourceOf k) (T.destinationOf k) (e .port) payload))
       ≡ T.numbered (carriage andThen next)
   unfolding P.vxlanNext P.nvgreNext
@@ -323,7 +323,7 @@ module _ (e : Endpoint) (m k : List ℕ) where
         rw (some-lowest (P.peers e) sends)
         (caseO (lowest sends (P.peers e)) (λ q. rw q) (λ p q.
         let r : lowest sends (P.peers e) ≡ some peer = q ∙ ap some (sym (ap found q)) in
-        let small : peer < 8 = omega (arith, lowest-some sends (P.peers e) peer r .below) in
+        let small : peer < mostPeers = omega (arith, lowest-some sends (P.peers e) peer r .below) in
         ap (λ (o : Option ℕ). seenNumber e m (byPeer (configOf e) header k o)) r
         ∙ payload-number bytes small enough
         ∙ sym (ap (λ (b : Bool). pick (not b) 7 (T.numbered (carriage andThen next))) (ap isSome r))))
@@ -427,7 +427,7 @@ module _ (e : Endpoint) (b : ℕ) (frame : List ℕ) (k identifier : ℕ) (outpu
       pull (λ (w : Wrote). wrapValuesOf (w .answer) .number) (refusedWrap output) (wrapChecks e b frame k identifier output) _
       ∙ under (λ (n : ℕ). n) ((leb (P.bindings e) b ⇒ 23) ∷ []) _ _ (λ p.
       let l = ready-listed e b (reached-ready e reached) (leb-false (P.bindings e) b (p .0)) in
-      rw (lt-leb 8 (ownerAt e b) (l .owner-below), frame-bad frame)
+      rw (lt-leb mostPeers (ownerAt e b) (l .owner-below), frame-bad frame)
       (ap (pick (T.badFrame frame) 13) (last-number l)))
 
 -- a refusal carries the length 0 and no segment

@@ -25,6 +25,7 @@ use Rattle.endpoint.specs.Wrap.{packetAt, wrapChecks, Wrote, refusedWrap
 use Rattle.endpoint.specs.declared.answer.Packet.{Packet}
 use Rattle.endpoint.specs.declared.answer.Wrapped.the-variants as Y
 use Rattle.endpoint.specs.declared.config.Endpoint.{Endpoint}
+use Rattle.reassembly.specs.Slots.{mostPeers}
 
 -- ---- what an answer Written says, and when it is given
 
@@ -69,7 +70,7 @@ module _ (e : Endpoint) (b : ℕ) (frame : List ℕ) (segment identifier : ℕ) 
         output-is = sym (ap (λ (x : Wrote). x .output) (q .1));
       }
 
-  pub written-when : b < configOf e .bindings → ownerAt e b < 8 → IsFrame frame → exceeds (kindAt e b) (length frame) (e .mtu) ≡ false
+  pub written-when : b < configOf e .bindings → ownerAt e b < mostPeers → IsFrame frame → exceeds (kindAt e b) (length frame) (e .mtu) ≡ false
       → segment < segmentsOf (kindAt e b) (length frame) (e .mtu) → length (packetAt e b frame segment identifier) ≤ length output
       → wrapOf e b frame segment identifier output .answer
       ≡ Y.Written (record { length = length (packetAt e b frame segment identifier); segments = segmentsOf (kindAt e b) (length frame) (e .mtu) })
@@ -83,7 +84,7 @@ module _ (e : Endpoint) (b : ℕ) (frame : List ℕ) (segment identifier : ℕ) 
       }) (
         lt-leb (configOf e .bindings) b binding,
         (
-          lt-leb 8 (ownerAt e b) owner,
+          lt-leb mostPeers (ownerAt e b) owner,
           (
             good-not (frameOf frame) (G.complete frame good),
             (
@@ -119,7 +120,7 @@ pub record Listed (e : Endpoint) (b : ℕ) : Type 0 where
   pub peer-fits : peerAt e b < 256 ^ 4
   pub mtu-least : 576 ≤ e .mtu
   pub mtu-most : e .mtu ≤ 1600
-  pub owner-below : ownerAt e b < 8
+  pub owner-below : ownerAt e b < mostPeers
   pub network-good : isNetwork (kindAt e b) (networkAt e b) ≡ true
 
 address-fits : (a : ℕ) → Passed (addressChecks a) → a < 256 ^ 4
@@ -129,7 +130,7 @@ set-up-listed : (s : Endpoint) (b : ℕ) → Valid s → b < configOf s .binding
 unfolding configOf startChecks addressAt fresh
 set-up-listed s b v h =
     let few : b < s .«binding_count» = omega arith in
-    let few-peers : s .«peer_count» ≤ 8 = v .peer-count in
+    let few-peers : s .«peer_count» ≤ mostPeers = v .peer-count in
     let owner : ownerAt s b < s .«peer_count» = v .owner-listed b few in
     either (v .settings)
     (λ p. record {
@@ -151,7 +152,7 @@ record ListedIn (c : Config) (b : ℕ) : Type 0 where
   peer-fits : getD (c .addresses) (getD (c .owners) b 0) 0 < 256 ^ 4
   mtu-least : 576 ≤ c .mtu
   mtu-most : c .mtu ≤ 1600
-  owner-below : getD (c .owners) b 0 < 8
+  owner-below : getD (c .owners) b 0 < mostPeers
   network-good : isNetwork (getD (c .kinds) b 0) (getD (c .networks) b 0) ≡ true
 
 inward : (s : Endpoint) (b : ℕ) → Listed s b → ListedIn (configOf s) b

@@ -22,9 +22,10 @@ use Rattle.endpoint.specs.declared.answer.Wrapped.{Wrapped}
 use Rattle.endpoint.specs.declared.answer.Wrapped.the-variants as Y
 use Rattle.endpoint.specs.declared.config.Endpoint.{Endpoint}
 use Rattle.endpoint.specs.declared.wrap.Route.{Route}
-use Rattle.endpoint.specs.Config.{configOf, lent}
+use Rattle.endpoint.specs.Config.{configOf, lent, mostBindings}
 use Rattle.endpoint.specs.Wrap.{packetOn, sendChecks, sent, sendOf, Put, pieceOf}
 use Rattle.endpoint.specs.Wrap.{segmentsOf, low32, packetOf, exceeds, isBad, kindAt, networkAt, ownerAt, wrapChecks, Wrote, refusedWrap, wrapOf}
+use Rattle.reassembly.specs.Slots.{mostPeers}
 
 -- ---- checks 13, 22, 23 (segment), 21: what the call comes to once the binding is found
 
@@ -231,17 +232,17 @@ module _ (t : Route) (frame : List ℕ) (k identifier : ℕ) (old : List ℕ) wh
 -- ---- the call: the binding, then all the rest
 
 module _ (e : Endpoint) (b : ℕ) (frame : List ℕ) (k identifier : ℕ) (old : List ℕ) where
-  pub wrap-unlisted : min (e .«binding_count») 64 ≤ b → Leaves (wrapOf e b frame k identifier old) (Y.Refused X.Binding) old
+  pub wrap-unlisted : min (e .«binding_count») mostBindings ≤ b → Leaves (wrapOf e b frame k identifier old) (Y.Refused X.Binding) old
   unfolding wrapOf wrapChecks configOf
-  wrap-unlisted h = rw (le-leb (min (e .«binding_count») 64) b h) (refl, refl)
+  wrap-unlisted h = rw (le-leb (min (e .«binding_count») mostBindings) b h) (refl, refl)
 
-  module _ (listed : b < min (e .«binding_count») 64) where
-    pub wrap-ownerless : 8 ≤ ownerAt e b → Leaves (wrapOf e b frame k identifier old) (Y.Refused X.Binding) old
+  module _ (listed : b < min (e .«binding_count») mostBindings) where
+    pub wrap-ownerless : mostPeers ≤ ownerAt e b → Leaves (wrapOf e b frame k identifier old) (Y.Refused X.Binding) old
     unfolding wrapOf wrapChecks configOf
-    wrap-ownerless h = rw (lt-leb (min (e .«binding_count») 64) b listed, le-leb 8 (ownerAt e b) h) (refl, refl)
+    wrap-ownerless h = rw (lt-leb (min (e .«binding_count») mostBindings) b listed, le-leb mostPeers (ownerAt e b) h) (refl, refl)
 
     -- the peer's address, as the code reads it
-    pub wrap-sends : ownerAt e b < 8
+    pub wrap-sends : ownerAt e b < mostPeers
         → wrapOf e b frame k identifier old
         ≡ sendOf
         (record {
@@ -255,7 +256,7 @@ module _ (e : Endpoint) (b : ℕ) (frame : List ℕ) (k identifier : ℕ) (old :
         frame k identifier old
     unfolding wrapOf wrapChecks configOf sendOf sendChecks
     wrap-sends h =
-        rw (lt-leb (min (e .«binding_count») 64) b listed, lt-leb 8 (ownerAt e b) h)
+        rw (lt-leb (min (e .«binding_count») mostBindings) b listed, lt-leb mostPeers (ownerAt e b) h)
 
 -- it knows of an endpoint only the columns and settings that it is lent
 pub wrap-lent : (e : Endpoint) (b : ℕ) (frame : List ℕ) (k identifier : ℕ) (old : List ℕ)

@@ -17,6 +17,7 @@ use Rattle.niulassenc.specs.Answer.{flatOf}
 use Rattle.niulassenc.specs.declared.answer.Receipt.{Receipt}
 use Rattle.niulassenc.specs.declared.receive.PeerUpdate.{PeerUpdate}
 use Rattle.niulassenc.specs.Receive.{outcomeOf}
+use Rattle.reassembly.specs.Slots.{mostPeers}
 
 -- with the answer as the code makes it
 pub outcome-out : (p : ℕ) (row : Peer) (x : Received) (m : List ℕ) (s : Step) (a : Receipt) → record { peer = p; row = row; answer = x; mem = m } ≡ s → a
@@ -27,14 +28,14 @@ outcome-out p row x m s a e f = rw (f, ← e)
 -- ---- what `opened` gave, and what `settled` makes of it, add up to the receive
 
 module _ (e : Endpoint) (m k : List ℕ) (x : Arrival) (is : x ≡ openedBy e k (length m)) where
-  -- there are 8 peers
-  pub arrival-listed : x .peer < 8
-  arrival-listed = subst (λ (y : Arrival). y .peer < 8) (sym is) (open-below e k (length m))
+  -- the peer's number is one of a listed peer's
+  pub arrival-listed : x .peer < mostPeers
+  arrival-listed = subst (λ (y : Arrival). y .peer < mostPeers) (sym is) (open-below e k (length m))
 
   pub settled-step : settledBy e x (rowAt e (x .peer)) k m ≡ stepOf e m k
   settled-step = settled-is e k m x is
 
-pub outcome-below : (e : Endpoint) (m k : List ℕ) (r : PeerUpdate) → r ≡ outcomeOf (stepOf e m k) → r .peer < 8
+pub outcome-below : (e : Endpoint) (m k : List ℕ) (r : PeerUpdate) → r ≡ outcomeOf (stepOf e m k) → r .peer < mostPeers
 outcome-below e m k r q = omega (arith, step-below e k m, ap (λ (y : PeerUpdate). y .peer) q)
 
 -- put back, the row makes the endpoint that the receive leaves

@@ -10,7 +10,7 @@ use lib.Seq.{getD-set-same}
 use lib.Dec.{eqb}
 use borrow.Author.Tests.{eq-eqb, eqb-true}
 use Rattle.reassembly.specs.Laws.Base.{caseB, clash}
-use Rattle.reassembly.specs.Slots.{Slot, Peer, Note, noRow, free, emptyRows, emptyRow}
+use Rattle.reassembly.specs.Slots.{Slot, Peer, Note, noRow, free, emptyRows, emptyRow, mostPeers, mostSlots}
 use Rattle.reassembly.specs.Take.{slotNo, Seg, Outcome, Rejected, Pending, Complete, NoMemory, Choice, reject, old, fresh, chosen, Effect, frameIn}
 use Rattle.reassembly.specs.Take.{takeSegment}
 use Rattle.reassembly.specs.Store.{bytesOf, takeIn}
@@ -48,7 +48,7 @@ module _ (W : Answers) (Config : Type 0) (U : Layers W Config) (p : ℕ) where
     came-more c es e gs (a .1),
   )
 
-  module _ (p< : p < 8) (c : Config) (promise : Promised W Config U c) where
+  module _ (p< : p < mostPeers) (c : Config) (promise : Promised W Config U c) where
     abbrev pub header : List ℕ → Reading W
     header k = U .header c k
 
@@ -204,7 +204,7 @@ module _ (W : Answers) (Config : Type 0) (U : Layers W Config) (p : ℕ) where
     pub begin : (m : List ℕ) → 55296 ≤ length m → Inv [] (start bytesOf m) ghostStart (λ t. [])
     begin m o =
         let row : getD emptyRows p noRow .slots ≡ emptyRow = empty-at p p< in
-        let no-slot : (s : ℕ) → s < 4 → getD (getD emptyRows p noRow .slots) s free ≡ free = λ s l. rw row (empty-free s l) in
+        let no-slot : (s : ℕ) → s < mostSlots → getD (getD emptyRows p noRow .slots) s free ≡ free = λ s l. rw row (empty-free s l) in
         record {
           sim = begins W Config U c promise p p< m o;
           logs = record { four = rw row; pieces = λ s l. refl; all-of = λ s l e. clash (cc (no-slot s l)); all-apart = λ s l e. clash (cc (no-slot s l)) };

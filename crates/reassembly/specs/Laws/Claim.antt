@@ -11,7 +11,7 @@ use lib.ListN.{length, getD, replicate}
 use lib.Dec.{ltb, eqb}
 use borrow.Author.Tests.{ltb-true, ltb-false, lt-ltb, le-ltb, eqb-true}
 use Rattle.reassembly.specs.Laws.Base.{caseB}
-use Rattle.reassembly.specs.Slots.{Peer, Note, noRow, emptyRows}
+use Rattle.reassembly.specs.Slots.{Peer, Note, noRow, emptyRows, mostPeers}
 use Rattle.reassembly.specs.Take.{slotNo, Seg}
 use Rattle.reassembly.specs.Store.{slotStart, bytesOf}
 use Rattle.reassembly.specs.Laws.Store.{take-in, bytes-laws}
@@ -100,7 +100,7 @@ module _ (W : Answers) (Config : Type 0) (U : Layers W Config) where
           (λ e l. let q : g ≡ f = eqb-true g f e in rw q (c before rest j (rw q at is′) .1 l))
 
   -- ---- the same run, with the configuration fixed
-  module _ (c : Config) (promise : Promised W Config U c) (p : ℕ) (p< : p < 8) where
+  module _ (c : Config) (promise : Promised W Config U c) (p : ℕ) (p< : p < mostPeers) where
     abbrev header : List ℕ → Reading W
     header k = U .header c k
 
@@ -178,7 +178,7 @@ module _ (W : Answers) (Config : Type 0) (U : Layers W Config) where
     seg-fill : (s : State bytesOf) (g : State ghost) (k : List ℕ) (q : ℕ) (x : Seg) → header k ≡ segment q x → Good s g
         → fill W k (react W judge bytesOf s (header k) .answer) ≡ react W judge bytesOf s (header k) .answer
     seg-fill s g k q x e h =
-        let lq : q < 8 = rw e at (promise .kept k) in
+        let lq : q < mostPeers = rw e at (promise .kept k) in
         rw e (backs-fill W judge k _ _ (take-back W judge q (getD (s .peers) q noRow) k (s .mem) x lq (h .rows-ok q lq) (h .same .okA)))
 
     answer-at : (frames : List Frame) (before : List Item) (f j : ℕ) (m : List ℕ) (q : ℕ) (x : Seg)
@@ -272,7 +272,7 @@ module _ (W : Answers) (Config : Type 0) (U : Layers W Config) where
 
   -- of every set-up whose configuration's layers keep their promise, for each peer
   module _ (Adding : Type 0) (adds : Config → Adding → Config) where
-    pub claim : (c : Config) (as′ : List Adding) → Promised W Config U (setUp Config Adding adds c as′ .config) → (p : ℕ) → p < 8
+    pub claim : (c : Config) (as′ : List Adding) → Promised W Config U (setUp Config Adding adds c as′ .config) → (p : ℕ) → p < mostPeers
         → Claim W Config U (setUp Config Adding adds c as′) p
     claim c₀ as′ promised p p< = rw-rows (setUp Config Adding adds c₀ as′)
         (set-up-rows Config Adding adds as′ (record { config = c₀; peers = emptyRows })) promised

@@ -13,7 +13,7 @@ use lib.Dec.{ltb, eqb}
 use borrow.Author.Tests.{ltb-true, ltb-false, eqb-true, eqb-false, lt-ltb, eq-eqb, ne-eqb}
 use Rattle.reassembly.specs.Laws.Base.{caseB, caseO, either, clash, and-l, and-r, allBelow-at, allBelow-intro, someBelow-none, length-table, getD-table}
 use Rattle.reassembly.specs.Base.{someBelow, allBelow, table}
-use Rattle.reassembly.specs.Slots.{Slot, Peer, Note, noNote, noteOf, free, pendingSlot, lifetime, older, first, bears, isFree}
+use Rattle.reassembly.specs.Slots.{Slot, Peer, Note, noNote, noteOf, free, pendingSlot, lifetime, older, first, bears, isFree, mostPeers, mostSlots}
 use Rattle.reassembly.specs.Laws.Slots.{noteOf-pending, older-pending, older-stays, First, first-some, first-none}
 use Rattle.reassembly.specs.Take.{slotNo, Seg, Pending, Complete, old, fresh, chosen, testedBytes, storedBytes, noteAfter, openedSlot, furtherSlot}
 use Rattle.reassembly.specs.Take.{Effect, complete, overlaps, frameIn, finish, placed, takeSegment, Fits}
@@ -59,15 +59,15 @@ module _ (p : ℕ) (frames : List Frame) where
   -- where frame f sits
   pub record Seat (past : List Item) (row : List Slot) (m : ℕ → List Piece) (f : ℕ) : Type 0 where
     pub at : ℕ
-    pub is-slot : at < 4
+    pub is-slot : at < mostSlots
     pub slot : getD row at free ≡ slotOf f past
     pub store : m (slotNo p at) ≡ pieces frames f past
 
   pub record Seats (past fut : List Item) (row : List Slot) (m : ℕ → List Piece) : Type 0 where
     pub row-ok : RowOk row
-    pub owner : (s : ℕ) → s < 4 → getD row s free .pending ≡ true → Owner past fut row m s
+    pub owner : (s : ℕ) → s < mostSlots → getD row s free .pending ≡ true → Owner past fut row m s
     pub seat : (f : ℕ) → f < length frames → 0 < segmentsOf f past → 0 < segmentsOf f fut → Seat past row m f
-    pub alone : (s t : ℕ) → s < 4 → t < 4 → getD row s free .pending ≡ true → getD row t free .pending ≡ true
+    pub alone : (s t : ℕ) → s < mostSlots → t < mostSlots → getD row s free .pending ≡ true → getD row t free .pending ≡ true
         → getD row s free .identifier ≡ getD row t free .identifier → s ≡ t
 
   of-other : (f g j : ℕ) (xs : List Item) → g ≢ f → segmentsOf g (given f j ∷ xs) ≡ segmentsOf g xs
@@ -88,9 +88,9 @@ module _ (p : ℕ) (frames : List Frame) where
 
   -- slot s becomes frame f's, or is freed with its last segment; the other slots are left
   settle : (past fut : List Item) (f j s : ℕ) (row : List Slot) (m m′ : ℕ → List Piece) (v : Slot)
-      → f < length frames → s < 4 → length (frameOf frames f .content) ≤ 1532
+      → f < length frames → s < mostSlots → length (frameOf frames f .content) ≤ 1532
       → Seats past (given f j ∷ fut) row m
-      → ((t : ℕ) → t < 4 → t ≢ s → getD row t free .pending ≡ true → getD row t free .identifier ≢ frameOf frames f .identifier)
+      → ((t : ℕ) → t < mostSlots → t ≢ s → getD row t free .pending ≡ true → getD row t free .identifier ≢ frameOf frames f .identifier)
       → (getD row s free .pending ≡ true → getD row s free .identifier ≡ frameOf frames f .identifier)
       → ((g : ℕ) → g < length frames → 0 < segmentsOf g past → 0 < segmentsOf g fut → frameOf frames g .identifier ≡ frameOf frames f .identifier → g ≡ f)
       → m′ (slotNo p s) ≡ pieces frames f (given f j ∷ past)
@@ -149,7 +149,8 @@ module _ (p : ℕ) (frames : List Frame) where
             (λ d. h .alone t u lt lu (rw (c .1) at et) (rw (d .1) at eu) (cc (i, c .1, d .1))));
       }
 
-module _ (W : Answers) (header : List ℕ → Reading W) (judge : ℕ → Note → List ℕ → Verdict W) (p : ℕ) (p< : p < 8) (frames : List Frame) (items : List Item)
+module _ (W : Answers) (header : List ℕ → Reading W) (judge : ℕ → Note → List ℕ → Verdict W) (p : ℕ) (p< : p < mostPeers) (frames : List Frame)
+    (items : List Item)
     (cuts : (f : ℕ) → f < length frames → Cut W header judge p (frameOf frames f)) (mix : Mixing W header p frames items) where
   -- the frames pending at an item, from what was before it and what is after it
   way : (past : List Item) (now : Item) (fut : List Item) (g : ℕ) → 0 < segmentsOf g (now ∷ past) → 0 < segmentsOf g (now ∷ fut)
@@ -274,13 +275,13 @@ module _ (W : Answers) (header : List ℕ → Reading W) (judge : ℕ → Note �
       pub seats : Seats p frames (now ∷ past) fut (o .row .slots) (o .mem)
       pub waits : 0 < segmentsOf f fut → o .outcome ≡ Pending
       pub slot : ℕ
-      pub is-slot : slot < 4
+      pub is-slot : slot < mostSlots
       pub done : segmentsOf f fut ≡ 0 → o .outcome ≡ Complete slot
       pub note : segmentsOf f fut ≡ 0 → o .note ≡ frameNote fr
       pub frame : segmentsOf f fut ≡ 0 → frameIn ghost (o .mem) (slotNo p slot) (length (fr .content)) ≡ fr .content
 
-    finish-step : (s : ℕ) (row : List Slot) (m m′ : ℕ → List Piece) (v : Slot) (note : Note) → s < 4 → Seats p frames past (now ∷ fut) row m
-        → ((t : ℕ) → t < 4 → t ≢ s → getD row t free .pending ≡ true → getD row t free .identifier ≢ fr .identifier)
+    finish-step : (s : ℕ) (row : List Slot) (m m′ : ℕ → List Piece) (v : Slot) (note : Note) → s < mostSlots → Seats p frames past (now ∷ fut) row m
+        → ((t : ℕ) → t < mostSlots → t ≢ s → getD row t free .pending ≡ true → getD row t free .identifier ≢ fr .identifier)
         → (getD row s free .pending ≡ true → getD row s free .identifier ≡ fr .identifier)
         → m′ (slotNo p s) ≡ pieces frames f (now ∷ past)
         → ((t : ℕ) → t ≢ s → m′ (slotNo p t) ≡ m (slotNo p t))
@@ -353,7 +354,7 @@ module _ (W : Answers) (header : List ℕ → Reading W) (judge : ℕ → Note �
 
     -- a new frame: no slot bears its identifier, and one of the four is free
     module _ (row : List Slot) (m : ℕ → List Piece) (h : Seats p frames past (now ∷ fut) row m) (z : segmentsOf f past ≡ 0) where
-      strange : (t : ℕ) → t < 4 → getD row t free .pending ≡ true → getD row t free .identifier ≢ fr .identifier
+      strange : (t : ℕ) → t < mostSlots → getD row t free .pending ≡ true → getD row t free .identifier ≢ fr .identifier
       strange t lt e q =
           let o : Owner p frames past (now ∷ fut) row m t = h .owner t lt e in
           let w : o .frame ≡ f = near (o .frame) (o .is-frame) (o .begun) (o .unfinished) (cc (o .slot)) in
@@ -369,18 +370,18 @@ module _ (W : Answers) (header : List ℕ → Reading W) (judge : ℕ → Note �
 
       not-full : first isFree row ≡ none → ⊥
       not-full e =
-          let all : (s : ℕ) → s < 4 → getD row s free .pending ≡ true =
+          let all : (s : ℕ) → s < mostSlots → getD row s free .pending ≡ true =
           λ s ls. not-free (getD row s free) (first-none isFree row e s ls) in
-          let o : (s : ℕ) → s < 4 → Owner p frames past (now ∷ fut) row m s = λ s ls. h .owner s ls (all s ls) in
-          let not-f : (s : ℕ) (ls : s < 4) → o s ls .frame ≢ f = λ s ls q. absurd (omega (arith, rw q at (o s ls .begun))) in
-          let differ : (s t : ℕ) (ls : s < 4) (lt : t < 4) → s ≢ t → o s ls .frame ≢ o t lt .frame =
+          let o : (s : ℕ) → s < mostSlots → Owner p frames past (now ∷ fut) row m s = λ s ls. h .owner s ls (all s ls) in
+          let not-f : (s : ℕ) (ls : s < mostSlots) → o s ls .frame ≢ f = λ s ls q. absurd (omega (arith, rw q at (o s ls .begun))) in
+          let differ : (s t : ℕ) (ls : s < mostSlots) (lt : t < mostSlots) → s ≢ t → o s ls .frame ≢ o t lt .frame =
           λ s t ls lt n q. n (h .alone s t ls lt (all s ls) (all t lt) (cc (o s ls .slot, o t lt .slot))) in
-          let on : (s : ℕ) (ls : s < 4) → pendingAt (reverse past) now fut (o s ls .frame) ≡ true =
+          let on : (s : ℕ) (ls : s < mostSlots) → pendingAt (reverse past) now fut (o s ls .frame) ≡ true =
           λ s ls. way past now fut (o s ls .frame) (omega (arith, o s ls .begun)) (o s ls .unfinished) in
-          let l0 : 0 < 4 = omega arith in
-          let l1 : 1 < 4 = omega arith in
-          let l2 : 2 < 4 = omega arith in
-          let l3 : 3 < 4 = omega arith in
+          let l0 : 0 < mostSlots = omega arith in
+          let l1 : 1 < mostSlots = omega arith in
+          let l2 : 2 < mostSlots = omega arith in
+          let l3 : 3 < mostSlots = omega arith in
           let k : 5 ≤ howMany (length frames) (pendingAt (reverse past) now fut) =
           five (length frames) (pendingAt (reverse past) now fut) f (o 0 l0 .frame) (o 1 l1 .frame) (o 2 l2 .frame) (o 3 l3 .frame)
           lf (o 0 l0 .is-frame) (o 1 l1 .is-frame) (o 2 l2 .is-frame) (o 3 l3 .is-frame)
@@ -457,7 +458,7 @@ module _ (W : Answers) (header : List ℕ → Reading W) (judge : ℕ → Note �
       let grown : (s g : ℕ) → getD row s free ≡ slotOf p frames g past → 0 < segmentsOf g past → 0 < segmentsOf g fut
       → getD (map older row) s free ≡ slotOf p frames g (other tick ∷ past) =
       λ s g e b u. at s ∙ ap older e ∙ older-slot past g b (young past fut is g b u) in
-      let now : (s : ℕ) → s < 4 → getD (map older row) s free .pending ≡ true → Owner p frames (other tick ∷ past) fut (map older row) m s =
+      let now : (s : ℕ) → s < mostSlots → getD (map older row) s free .pending ≡ true → Owner p frames (other tick ∷ past) fut (map older row) m s =
       λ s ls e. let o : Owner p frames past (other tick ∷ fut) row m s = h .owner s ls (back s e) in
       record {
         frame = o .frame;
@@ -467,7 +468,8 @@ module _ (W : Answers) (header : List ℕ → Reading W) (judge : ℕ → Note �
         slot = grown s (o .frame) (o .slot) (o .begun) (omega (arith, o .unfinished));
         store = o .store;
       } in
-      let ident : (s : ℕ) → s < 4 → getD (map older row) s free .pending ≡ true → getD (map older row) s free .identifier ≡ getD row s free .identifier =
+      let ident : (s : ℕ) → s < mostSlots → getD (map older row) s free .pending ≡ true → getD (map older row) s free .identifier
+      ≡ getD row s free .identifier =
       λ s ls e. let o : Owner p frames past (other tick ∷ fut) row m s = h .owner s ls (back s e) in
       cc (grown s (o .frame) (o .slot) (o .begun) (omega (arith, o .unfinished)), o .slot) in
       record {

@@ -11,7 +11,7 @@ use lib.Dec.{eqb}
 use borrow.Author.Tests.{le-ltb, eq-eqb, ne-eqb, eqb-true, eqb-false}
 use Rattle.reassembly.specs.Base.{allBelow}
 use Rattle.reassembly.specs.Laws.Base.{caseB, either, clash, getD-table}
-use Rattle.reassembly.specs.Slots.{Slot, Peer, Note, noRow, noteOf, noNote, free, emptyRows}
+use Rattle.reassembly.specs.Slots.{Slot, Peer, Note, noRow, noteOf, noNote, free, emptyRows, mostPeers, lifetime}
 use Rattle.reassembly.specs.Take.{slotNo, Seg, Rejection, Outcome, Rejected, Pending, Complete, NoMemory, AlreadyReceived, rejectionCode, Choice, reject}
 use Rattle.reassembly.specs.Take.{old, fresh, chosen, noteAfter, openedSlot, furtherSlot, Effect, overlaps, frameIn, placed, takeSegment, Fits}
 use Rattle.reassembly.specs.Laws.TakeFacts.{finish-mem, take-rejects}
@@ -77,14 +77,14 @@ module _ (p : ℕ) (row : Peer) (m : List ℕ) (g : Seg) where
 -- byte i of the frame in a slot, where it lies
 pub frame-byte : (m : List ℕ) (p s n i : ℕ) → i < n → getD (frameIn bytesOf m (slotNo p s) n) i 0 ≡ getD m (frameAt p s + i) 0
 unfolding frameIn byteAt slotStart
-frame-byte m p s n i l = getD-table n (λ i. getD m ((4 * p + s) * 1728 + i) 0) 0 i l
+frame-byte m p s n i l = getD-table n (λ i. getD m (slotNo p s * 1728 + i) 0) 0 i l
 
 module _ (W : Answers) (Config : Type 0) (U : Layers W Config) where
   pub runs-snoc : (es : List Event) (w : World Config) (e : Event) → runs W Config U w (es ++ (e ∷ [])) ≡ next W Config U (runs W Config U w es) e
   runs-snoc [] w e = refl
   runs-snoc (v ∷ es) w e = runs-snoc es (next W Config U w v) e
 
-module _ (W : Answers) (Config : Type 0) (U : Layers W Config) (p : ℕ) (p< : p < 8) (c : Config) (promise : Promised W Config U c) where
+module _ (W : Answers) (Config : Type 0) (U : Layers W Config) (p : ℕ) (p< : p < mostPeers) (c : Config) (promise : Promised W Config U c) where
   abbrev header : List ℕ → Reading W
   header k = U .header c k
 
@@ -451,12 +451,12 @@ module _ (W : Answers) (Config : Type 0) (U : Layers W Config) (p : ℕ) (p< : p
 pub young : (v : Slot) (gs : List Seg) (t : ℕ) → Stands v gs t → v .pending ≡ true → t ≤ 3
 young v gs t w e = omega (arith, under-young gs t (sym (w .pending) ∙ e))
 
-pub given-up : (v : Slot) (gs : List Seg) (t : ℕ) → Stands v gs t → 4 ≤ t → v .pending ≡ false
+pub given-up : (v : Slot) (gs : List Seg) (t : ℕ) → Stands v gs t → lifetime ≤ t → v .pending ≡ false
 given-up v gs t w l = caseB (v .pending) (λ e. absurd (omega (arith, young v gs t w e))) (λ e. e)
 
 -- ---- of every set-up whose layers keep their promise
 module _ (W : Answers) (Config : Type 0) (U : Layers W Config) (p : ℕ) (Adding : Type 0) (adds : Config → Adding → Config) where
-  pub every-run : (c : Config) (as′ : List Adding) → Promised W Config U (setUp Config Adding adds c as′ .config) → p < 8
+  pub every-run : (c : Config) (as′ : List Adding) → Promised W Config U (setUp Config Adding adds c as′ .config) → p < mostPeers
       → EveryRun W Config U p (setUp Config Adding adds c as′)
   every-run c as′ promised p< = of (setUp Config Adding adds c as′) (set-up-rows Config Adding adds as′ (record { config = c; peers = emptyRows })) promised
     where

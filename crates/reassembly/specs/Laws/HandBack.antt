@@ -8,7 +8,7 @@ use lib.ListN.{length}
 use lib.Dec.{leb}
 use borrow.Author.Tests.{le-leb}
 use Rattle.reassembly.specs.Laws.Base.{caseB}
-use Rattle.reassembly.specs.Slots.{Peer, Note}
+use Rattle.reassembly.specs.Slots.{Peer, Note, mostPeers, mostSlots}
 use Rattle.reassembly.specs.Take.{slotNo, Seg, Outcome, Rejected, Pending, Complete, NoMemory, Effect, frameIn, takeSegment, Fits}
 use Rattle.reassembly.specs.Laws.TakeFacts.{take-complete}
 use Rattle.reassembly.specs.Laws.Sim.{RowOk, take-apart}
@@ -35,8 +35,8 @@ module _ (W : Answers) (judge : ℕ → Note → List ℕ → Verdict W) where
   spoken-back (good v) packet m k n l f =
       record { is = rw (W .gives-place v (slotStart k + 18) (n - 18), le-leb (slotStart k + 18 + (n - 18)) (length m) (omega arith)) (sym (handed m k n l f)) }
 
-  told-back : (p : ℕ) (packet : List ℕ) (g : Seg) (o : Effect bytesOf) (x : Outcome) → p < 8 → bytesOf .Ok (o .mem)
-      → ((s : ℕ) → x ≡ Complete s → (s < 4) × Fits g) → Backs packet (o .mem) (takeAnswer W judge bytesOf p g o x)
+  told-back : (p : ℕ) (packet : List ℕ) (g : Seg) (o : Effect bytesOf) (x : Outcome) → p < mostPeers → bytesOf .Ok (o .mem)
+      → ((s : ℕ) → x ≡ Complete s → (s < mostSlots) × Fits g) → Backs packet (o .mem) (takeAnswer W judge bytesOf p g o x)
   told-back p packet g o (Rejected r) lp ok f = bare-back packet (o .mem) (W .rejected r) (W .rejected-place r)
   told-back p packet g o Pending lp ok f = bare-back packet (o .mem) (W .pending) (W .pending-place)
   told-back p packet g o (Complete s) lp ok f =
@@ -45,7 +45,7 @@ module _ (W : Answers) (judge : ℕ → Note → List ℕ → Verdict W) where
       (omega (arith, q .1 .least)) (slot-inside (o .mem) p s (g .frame-length) ok lp (q .0) (omega (arith, q .1 .most)))
   told-back p packet g o NoMemory lp ok f = bare-back packet (o .mem) (W .tooSmall) (W .tooSmall-place)
 
-  pub take-back : (p : ℕ) (row : Peer) (packet m : List ℕ) (g : Seg) → p < 8 → RowOk (row .slots) → bytesOf .Ok m
+  pub take-back : (p : ℕ) (row : Peer) (packet m : List ℕ) (g : Seg) → p < mostPeers → RowOk (row .slots) → bytesOf .Ok m
       → Backs packet (takeSegment bytesOf p row m g .mem) (takeAnswer W judge bytesOf p g (takeSegment bytesOf p row m g)
       (takeSegment bytesOf p row m g .outcome))
   take-back p row packet m g lp r o =

@@ -11,7 +11,7 @@ use lib.Dec.{eqb}
 use borrow.Author.Tests.{eqb-true, eqb-false, eq-eqb, ne-eqb}
 use Rattle.reassembly.specs.Base.{someBelow, table}
 use Rattle.reassembly.specs.Laws.Base.{caseB, either, clash, below-suc, or-false-l, or-false-r, allBelow-at, getD-table}
-use Rattle.reassembly.specs.Slots.{Slot, Peer, Note, noNote, noteOf, free, older}
+use Rattle.reassembly.specs.Slots.{Slot, Peer, Note, noNote, noteOf, free, older, mostSlots}
 use Rattle.reassembly.specs.Laws.Slots.{older-pending}
 use Rattle.reassembly.specs.Take.{slotNo, Seg, Rejected, Pending, Complete, AlreadyReceived, Choice, reject, old, fresh, chosen, testedBytes, storedBytes}
 use Rattle.reassembly.specs.Take.{noteAfter, openedSlot, furtherSlot, Effect, complete, overlaps, frameIn, finish, placed, takeSegment}
@@ -79,10 +79,10 @@ writes-other L s gs t n = rw (ne-eqb t s n)
 
 -- the memory of pieces keeps the log; the segments logged for a pending frame are of it, and no byte is covered twice
 pub record Logs (p : ℕ) (row : List Slot) (m : ℕ → List Piece) (L : Log) : Type 0 where
-  pub four : length row ≡ 4
-  pub pieces : (s : ℕ) → s < 4 → m (slotNo p s) ≡ map pieceOf (L s)
-  pub all-of : (s : ℕ) → s < 4 → getD row s free .pending ≡ true → AllOf (getD row s free .identifier) (getD row s free .«frame_length») (L s)
-  pub all-apart : (s : ℕ) → s < 4 → getD row s free .pending ≡ true → AllApart (L s)
+  pub four : length row ≡ mostSlots
+  pub pieces : (s : ℕ) → s < mostSlots → m (slotNo p s) ≡ map pieceOf (L s)
+  pub all-of : (s : ℕ) → s < mostSlots → getD row s free .pending ≡ true → AllOf (getD row s free .identifier) (getD row s free .«frame_length») (L s)
+  pub all-apart : (s : ℕ) → s < mostSlots → getD row s free .pending ≡ true → AllApart (L s)
 
 -- what a segment that was taken leaves in its slot's list
 pub record Pieced (p s : ℕ) (g : Seg) (m : ℕ → List Piece) (gs : List Seg) : Type 0 where
@@ -114,7 +114,7 @@ apart-from m k g gs e o i c =
 
 module _ (p : ℕ) where
   -- slot s has been written in row, memory and log
-  put-logs : (row : List Slot) (m m′ : ℕ → List Piece) (L : Log) (s : ℕ) (v : Slot) (gs : List Seg) → s < 4 → Logs p row m L
+  put-logs : (row : List Slot) (m m′ : ℕ → List Piece) (L : Log) (s : ℕ) (v : Slot) (gs : List Seg) → s < mostSlots → Logs p row m L
       → ((t : ℕ) → t ≢ s → m′ (slotNo p t) ≡ m (slotNo p t)) → m′ (slotNo p s) ≡ map pieceOf gs
       → (v .pending ≡ true → AllOf (v .identifier) (v .«frame_length») gs × AllApart gs)
       → Logs p (set row s v) m′ (writes L s gs)
@@ -136,7 +136,7 @@ module _ (p : ℕ) where
       }
 
   -- the slot is freed
-  free-logs : (row : List Slot) (m : ℕ → List Piece) (L : Log) (s : ℕ) → s < 4 → Logs p row m L → Logs p (set row s free) m L
+  free-logs : (row : List Slot) (m : ℕ → List Piece) (L : Log) (s : ℕ) → s < mostSlots → Logs p row m L → Logs p (set row s free) m L
   free-logs row m L s ls h =
       record {
         four = length-set row s free ∙ h .four;
@@ -151,7 +151,7 @@ module _ (p : ℕ) where
     pub logs : Logs p (o .row .slots) (o .mem) L
     pub pieced : (t : ℕ) → o .outcome ≡ Complete t → Pieced p t g (o .mem) (L t) × (complete ghost (o .mem) (slotNo p t) (g .frame-length) ≡ true)
 
-  finish-logs : (row : List Slot) (m : ℕ → List Piece) (L : Log) (s : ℕ) (g : Seg) (note : Note) → s < 4 → Logs p row m L
+  finish-logs : (row : List Slot) (m : ℕ → List Piece) (L : Log) (s : ℕ) (g : Seg) (note : Note) → s < mostSlots → Logs p row m L
       → Pieced p s g m (L s) → Logged g (finish ghost p s row m g note) L
   finish-logs row m L s g note ls h w =
       caseB (complete ghost m (slotNo p s) (g .frame-length))
@@ -175,7 +175,7 @@ module _ (p : ℕ) where
       → Logged g (placed ghost p row m g c) (entered L g c (placed ghost p row m g c .outcome))
   placed-logs row m L g (reject r) q h = record { logs = h; pieced = λ t e. not-complete (Rejected r) t refl e }
   placed-logs row m L g (old s) q h =
-      let ls : s < 4 = q .is-slot in
+      let ls : s < mostSlots = q .is-slot in
       let v : Slot = furtherSlot (getD row s free) g in
       let m′ : ℕ → List Piece = ghost .put m (slotNo p s) (g .offset) (storedBytes g) in
       caseB (overlaps ghost m (slotNo p s) g)
@@ -194,7 +194,7 @@ module _ (p : ℕ) where
       (subst (λ (x : Log). Logged g (finish ghost p s (set row s v) m′ g n) x) (finish-enters L (old s) (set row s v) m′ s g n)
       (finish-logs (set row s v) m′ (writes L s (g ∷ L s)) s g n ls logs w)))
   placed-logs row m L g (fresh s) q h =
-      let ls : s < 4 = q .is-slot in
+      let ls : s < mostSlots = q .is-slot in
       let v : Slot = openedSlot g in
       let m₁ : ℕ → List Piece = ghost .clear m (slotNo p s) in
       let m′ : ℕ → List Piece = ghost .put m₁ (slotNo p s) (g .offset) (g .bytes) in

@@ -11,6 +11,7 @@ use Rattle.reassembly.specs.Laws.Base.{caseB, clash, and-l, and-r, allBe
 use Rattle.reassembly.specs.Base.{allBelow}
 use Rattle.reassembly.specs.Receive.{Answers, Reading}
 use Rattle.reassembly.specs.Mix.{Frame, frameOf, Item, given, other, isSegment, times, ticks, pendingAt, howMany, AllFree, Mixing}
+use Rattle.reassembly.specs.Slots.{mostSlots}
 
 -- ---- a test of every place of a list
 
@@ -39,7 +40,7 @@ module _ (frames : List Frame) where
       (λ g. not (pendingAt b now a f && (pendingAt b now a g && eqb (frameOf frames f .identifier) (frameOf frames g .identifier))) || eqb f g))
 
   abbrev pub fourAt : List Item → Item → List Item → Bool
-  fourAt b now a = leb (howMany (length frames) (pendingAt b now a)) 4
+  fourAt b now a = leb (howMany (length frames) (pendingAt b now a)) mostSlots
 
   abbrev pub ticksTo : ℕ → List Item → Item → List Item → Bool
   ticksTo f middle (given g k) after = not (eqb g f) || leb (ticks middle) 3

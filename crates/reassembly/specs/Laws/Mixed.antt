@@ -9,7 +9,7 @@ use lib.Seq.{getD-set-same}
 use lib.Dec.{ltb}
 use borrow.Author.Tests.{eq-eqb, eqb-true, ltb-true}
 use Rattle.reassembly.specs.Laws.Base.{caseB, clash, and-r}
-use Rattle.reassembly.specs.Slots.{Note, noRow, free, emptyRow, emptyRows}
+use Rattle.reassembly.specs.Slots.{Note, noRow, free, emptyRow, emptyRows, mostPeers, mostSlots}
 use Rattle.reassembly.specs.Take.{slotNo, Ops, Effect, takeSegment}
 use Rattle.reassembly.specs.Store.{slotStart}
 use Rattle.reassembly.specs.Laws.Memory.{Laws}
@@ -23,12 +23,13 @@ use Rattle.reassembly.specs.Mix.{Mixing, Right}
 use Rattle.reassembly.specs.Laws.MixFacts.{times-append}
 use Rattle.reassembly.specs.Laws.Deliver.{Seats, Step, take-step, lf, lj, tick-seats, other-seats}
 
-module _ (W : Answers) (header : List ℕ → Reading W) (judge : ℕ → Note → List ℕ → Verdict W) (p : ℕ) (p< : p < 8) (frames : List Frame) (items : List Item)
+module _ (W : Answers) (header : List ℕ → Reading W) (judge : ℕ → Note → List ℕ → Verdict W) (p : ℕ) (p< : p < mostPeers) (frames : List Frame)
+    (items : List Item)
     (cuts : (f : ℕ) → f < length frames → Cut W header judge p (frameOf frames f)) (mix : Mixing W header p frames items) where
   record Inv (past fut : List Item) (e : State ghost) : Type 0 where
     is : reverseAux past fut ≡ items
     left : AllFree W header p fut
-    eight : length (e .peers) ≡ 8
+    eight : length (e .peers) ≡ mostPeers
     seats : Seats p frames past fut (getD (e .peers) p noRow .slots) (e .mem)
 
   -- the packet of a segment reads as the segment
@@ -110,7 +111,7 @@ module _ (W : Answers) (header : List ℕ → Reading W) (judge : ℕ → Note �
   begin : Inv [] items ghostStart
   begin =
       let row : getD emptyRows p noRow .slots ≡ emptyRow = empty-at p p< in
-      let no-slot : (s : ℕ) → s < 4 → getD (getD emptyRows p noRow .slots) s free ≡ free = λ s l. rw row (empty-free s l) in
+      let no-slot : (s : ℕ) → s < mostSlots → getD (getD emptyRows p noRow .slots) s free ≡ free = λ s l. rw row (empty-free s l) in
       record {
         is = refl;
         left = mix .rest;

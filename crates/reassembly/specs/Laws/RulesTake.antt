@@ -13,7 +13,7 @@ use lib.Dec.{ltb, eqb}
 use borrow.Author.Tests.{ltb-true, ltb-false, lt-ltb, le-ltb, eqb-true, eqb-false, eq-eqb, ne-eqb}
 use Rattle.reassembly.specs.Base.{someBelow}
 use Rattle.reassembly.specs.Laws.Base.{caseB, caseO, either, clash, allBelow-ext, someBelow-some, someBelow-none, or-false-l, or-false-r, and-l, and-r}
-use Rattle.reassembly.specs.Slots.{Slot, Peer, Note, noNote, noteOf, free, first, bears, isFree, older, lifetime}
+use Rattle.reassembly.specs.Slots.{Slot, Peer, Note, noNote, noteOf, free, first, bears, isFree, older, lifetime, mostSlots}
 use Rattle.reassembly.specs.Laws.Slots.{First, first-some, first-none, first-is, first-not, older-pending}
 use Rattle.reassembly.specs.Take.{slotNo, Seg, Ops, Rejection, rejectionCode, Empty, FrameLength, PastEnd, Outcome, Rejected, Pending, Complete}
 use Rattle.reassembly.specs.Take.{OtherLength, AlreadyReceived, NoSlot, Choice, reject, old, fresh, choose, chosen, testedBytes, storedBytes, noteAfter}
@@ -93,9 +93,9 @@ overlaps-apart m k g gs e o i c = caseB (covered gs i) (λ d. clash (cc (covered
 -- ---- the row is as the history tells
 
 pub record Stand (row : List Slot) (h : History) : Type 0 where
-  pub four : length row ≡ 4
-  pub stands : (s : ℕ) → s < 4 → Stands (getD row s free) (h .taken s) (h .ticks s)
-  pub distinct : (s t : ℕ) → s < 4 → t < 4 → getD row s free .pending ≡ true → getD row t free .pending ≡ true
+  pub four : length row ≡ mostSlots
+  pub stands : (s : ℕ) → s < mostSlots → Stands (getD row s free) (h .taken s) (h .ticks s)
+  pub distinct : (s t : ℕ) → s < mostSlots → t < mostSlots → getD row s free .pending ≡ true → getD row t free .pending ≡ true
       → getD row s free .identifier ≡ getD row t free .identifier → s ≡ t
 
 module _ (row : List Slot) (h : History) (st : Stand row h) where
@@ -108,7 +108,7 @@ module _ (row : List Slot) (h : History) (st : Stand row h) where
       let e : slotOf s .pending ≡ true = v .pending ∙ w .pending in
       bears-is id (slotOf s) e (v .identifier e ∙ w .identifier)
 
-  pub bears-holds : (id s : ℕ) → s < 4 → bears id (slotOf s) ≡ true → Bears h id s
+  pub bears-holds : (id s : ℕ) → s < mostSlots → bears id (slotOf s) ≡ true → Bears h id s
   bears-holds id s l b =
       let v = st .stands s l in
       let e : slotOf s .pending ≡ true = bears-pending id (slotOf s) b in
@@ -136,7 +136,7 @@ module _ (row : List Slot) (h : History) (st : Stand row h) where
   unfolding isFree
   free-is v b e = ap not e
 
-  idle-free : (s : ℕ) → s < 4 → (b : Bool) → pendingIn h s ≡ b → isFree (slotOf s) ≡ not b
+  idle-free : (s : ℕ) → s < mostSlots → (b : Bool) → pendingIn h s ≡ b → isFree (slotOf s) ≡ not b
   idle-free s l b e = free-is (slotOf s) b (st .stands s l .pending ∙ e)
 
   lowest-first : (s : ℕ) → Lowest h s → first isFree row ≡ some s
@@ -191,25 +191,25 @@ chosen-unfit row g n =
 abbrev pub afterwards : History → Seg → Choice → Outcome → History
 afterwards h g c o = record { taken = entered (h .taken) g c o; ticks = restarted (h .ticks) c o }
 
-pub under-young : (gs : List Seg) (t : ℕ) → framePending gs t ≡ true → t < 4
+pub under-young : (gs : List Seg) (t : ℕ) → framePending gs t ≡ true → t < lifetime
 unfolding framePending
-under-young gs t e = ltb-true t 4 (and-l (ltb t 4) (not (frameComplete gs)) e)
+under-young gs t e = ltb-true t lifetime (and-l (ltb t lifetime) (not (frameComplete gs)) e)
 
-under-is : (gs : List Seg) (t : ℕ) → t < 4 → frameComplete gs ≡ false → framePending gs t ≡ true
+under-is : (gs : List Seg) (t : ℕ) → t < lifetime → frameComplete gs ≡ false → framePending gs t ≡ true
 unfolding framePending
-under-is gs t l e = rw (lt-ltb t 4 l, e)
+under-is gs t l e = rw (lt-ltb t lifetime l, e)
 
 under-whole : (gs : List Seg) (t : ℕ) → frameComplete gs ≡ true → framePending gs t ≡ false
 unfolding framePending
-under-whole gs t e = caseB (ltb t 4) (λ q. rw (q, e)) (λ q. rw q)
+under-whole gs t e = caseB (ltb t lifetime) (λ q. rw (q, e)) (λ q. rw q)
 
 free-stands : (gs : List Seg) (t : ℕ) → framePending gs t ≡ false → Stands free gs t
 free-stands gs t e = record { pending = sym e; identifier = λ q. clash (cc); size = λ q. clash (cc); age = λ q. clash (cc) }
 
 -- slot s is written
-put-stand : (row : List Slot) (h h′ : History) (s : ℕ) (v : Slot) → s < 4 → Stand row h → Stands v (h′ .taken s) (h′ .ticks s)
+put-stand : (row : List Slot) (h h′ : History) (s : ℕ) (v : Slot) → s < mostSlots → Stand row h → Stands v (h′ .taken s) (h′ .ticks s)
     → ((t : ℕ) → t ≢ s → (h′ .taken t ≡ h .taken t) × (h′ .ticks t ≡ h .ticks t))
-    → (v .pending ≡ true → (t : ℕ) → t < 4 → t ≢ s → getD row t free .pending ≡ true → getD row t free .identifier ≢ v .identifier)
+    → (v .pending ≡ true → (t : ℕ) → t < mostSlots → t ≢ s → getD row t free .pending ≡ true → getD row t free .identifier ≢ v .identifier)
     → Stand (set row s v) h′
 put-stand row h h′ s v ls st w others only =
     record {
@@ -230,12 +230,14 @@ put-stand row h h′ s v ls st w others only =
 
 module _ (p : ℕ) where
   -- the segment has been put into slot s: `c` is for that slot, whose segments are then g and the earlier ones
-  finish-stand : (row : List Slot) (m : ℕ → List Piece) (h : History) (s : ℕ) (v : Slot) (g : Seg) (earlier : List Seg) (note : Note) (c : Choice) → s < 4
+  finish-stand : (row : List Slot) (m : ℕ → List Piece) (h : History) (s : ℕ) (v : Slot) (g : Seg) (earlier : List Seg) (note : Note) (c : Choice)
+      → s < mostSlots
       → Stand row h
       → enters (h .taken) g c s ≡ g ∷ earlier → m (slotNo p s) ≡ map pieceOf (g ∷ earlier)
       → ((t : ℕ) → t ≢ s → (enters (h .taken) g c t ≡ h .taken t) × (restarts (h .ticks) c t ≡ h .ticks t))
-      → v .pending ≡ true → v .identifier ≡ g .identifier → v .«frame_length» ≡ g .frame-length → v .age ≡ restarts (h .ticks) c s → restarts (h .ticks) c s < 4
-      → ((t : ℕ) → t < 4 → t ≢ s → getD row t free .pending ≡ true → getD row t free .identifier ≢ g .identifier)
+      → v .pending ≡ true → v .identifier ≡ g .identifier → v .«frame_length» ≡ g .frame-length → v .age ≡ restarts (h .ticks) c s → restarts
+      (h .ticks) c s < mostSlots
+      → ((t : ℕ) → t < mostSlots → t ≢ s → getD row t free .pending ≡ true → getD row t free .identifier ≢ g .identifier)
       → Stand (finish ghost p s (set row s v) m g note .row .slots) (afterwards h g c (finish ghost p s (set row s v) m g note .outcome))
   finish-stand row m h s v g earlier note c ls st here pieces others vp vi vs va young only =
       let w : complete ghost m (slotNo p s) (g .frame-length) ≡ frameComplete (g ∷ earlier) = whole-is m (slotNo p s) (g ∷ earlier) pieces in
@@ -259,12 +261,12 @@ module _ (p : ℕ) where
       → Stand (placed ghost p row m g c .row .slots) (afterwards h g c (placed ghost p row m g c .outcome))
   placed-stand row m h g (reject r) q lg st = st
   placed-stand row m h g (old s) q lg st =
-      let ls : s < 4 = q .is-slot in
+      let ls : s < mostSlots = q .is-slot in
       let v : Slot = furtherSlot (getD row s free) g in
       let m′ : ℕ → List Piece = ghost .put m (slotNo p s) (g .offset) (storedBytes g) in
       let pieces : m′ (slotNo p s) ≡ map pieceOf (g ∷ h .taken s) = upd-same m (slotNo p s) _ ∙ ap (λ (x : List Piece). pieceOf g ∷ x) (lg .pieces s ls) in
       let now = st .stands s ls in
-      let young : h .ticks s < 4 = under-young (h .taken s) (h .ticks s) (sym (now .pending) ∙ q .pending) in
+      let young : h .ticks s < lifetime = under-young (h .taken s) (h .ticks s) (sym (now .pending) ∙ q .pending) in
       caseB (overlaps ghost m (slotNo p s) g)
       (λ e. rw e st)
       (λ e. rw e
@@ -272,7 +274,7 @@ module _ (p : ℕ) where
       (λ t n. (writes-other (h .taken) s (g ∷ h .taken s) t n, refl)) refl (q .identifier) (q .size) (now .age (q .pending)) young
       (λ t lt n e′ z. n (st .distinct t s lt ls e′ (q .pending) (z ∙ sym (q .identifier))))))
   placed-stand row m h g (fresh s) q lg st =
-      let ls : s < 4 = q .is-slot in
+      let ls : s < mostSlots = q .is-slot in
       let m₁ : ℕ → List Piece = ghost .clear m (slotNo p s) in
       let m′ : ℕ → List Piece = ghost .put m₁ (slotNo p s) (g .offset) (g .bytes) in
       let pieces : m′ (slotNo p s) ≡ map pieceOf (g ∷ []) = upd-same m₁ (slotNo p s) _ ∙ ap (λ (x : List Piece). pieceOf g ∷ x) (upd-same m (slotNo p s) []) in
@@ -292,14 +294,14 @@ older-stands : (v : Slot) (gs : List Seg) (t : ℕ) → Stands v gs t → Stands
 unfolding older framePending
 older-stands v gs t w =
     caseB (v .pending)
-    (λ e. let u : (ltb t 4 && not (frameComplete gs)) ≡ true = sym (w .pending) ∙ e in
-    let n : not (frameComplete gs) ≡ true = and-r (ltb t 4) (not (frameComplete gs)) u in
+    (λ e. let u : (ltb t lifetime && not (frameComplete gs)) ≡ true = sym (w .pending) ∙ e in
+    let n : not (frameComplete gs) ≡ true = and-r (ltb t lifetime) (not (frameComplete gs)) u in
     let a : v .age ≡ t = w .age e in
     caseB (ltb (v .age + 1) lifetime)
-    (λ y. let young : t + 1 < 4 = omega (arith, ltb-true (v .age + 1) lifetime y) in
-    rw (e, y) (record { pending = rw (lt-ltb (t + 1) 4 young, n); identifier = λ q. w .identifier e; size = λ q. w .size e; age = λ q. omega arith }))
-    (λ y. let old : 4 ≤ t + 1 = omega (arith, ltb-false (v .age + 1) lifetime y) in
-    rw (e, y) (free-stands gs (t + 1) (unfolded gs t (le-ltb (t + 1) 4 old)))))
+    (λ y. let young : t + 1 < lifetime = omega (arith, ltb-true (v .age + 1) lifetime y) in
+    rw (e, y) (record { pending = rw (lt-ltb (t + 1) lifetime young, n); identifier = λ q. w .identifier e; size = λ q. w .size e; age = λ q. omega arith }))
+    (λ y. let old : lifetime ≤ t + 1 = omega (arith, ltb-false (v .age + 1) lifetime y) in
+    rw (e, y) (free-stands gs (t + 1) (unfolded gs t (le-ltb (t + 1) lifetime old)))))
     (λ e. rw e
     (record {
       pending = gone (sym (w .pending) ∙ e);
@@ -308,16 +310,16 @@ older-stands v gs t w =
       age = λ q. clash (cc);
     }))
   where
-    unfolded : (gs : List Seg) (t : ℕ) → ltb (t + 1) 4 ≡ false → framePending gs (t + 1) ≡ false
+    unfolded : (gs : List Seg) (t : ℕ) → ltb (t + 1) lifetime ≡ false → framePending gs (t + 1) ≡ false
     unfolded gs t y = rw y
 
-    gone : (ltb t 4 && not (frameComplete gs)) ≡ false → false ≡ (ltb (t + 1) 4 && not (frameComplete gs))
+    gone : (ltb t lifetime && not (frameComplete gs)) ≡ false → false ≡ (ltb (t + 1) lifetime && not (frameComplete gs))
     gone e =
         caseB (not (frameComplete gs))
-        (λ n. caseB (ltb t 4)
+        (λ n. caseB (ltb t lifetime)
         (λ y. clash (cc))
-        (λ y. let z : ltb (t + 1) 4 ≡ false = le-ltb (t + 1) 4 (omega (arith, ltb-false t 4 y)) in rw z))
-        (λ n. caseB (ltb (t + 1) 4) (λ y. rw (y, n)) (λ y. rw y))
+        (λ y. let z : ltb (t + 1) lifetime ≡ false = le-ltb (t + 1) lifetime (omega (arith, ltb-false t lifetime y)) in rw z))
+        (λ n. caseB (ltb (t + 1) lifetime) (λ y. rw (y, n)) (λ y. rw y))
 
 pub tick-stand : (row : List Slot) (h : History) → Stand row h → Stand (map older row) (record { taken = h .taken; ticks = onceMore (h .ticks) })
 tick-stand row h st =
@@ -367,7 +369,7 @@ module _ (p : ℕ) (row : Peer) (m : ℕ → List Piece) (h : History) (lg : Log
 
   pub told-further : (s : ℕ) → Further h g s → takeAnswer ≡ cond (frameComplete (g ∷ h .taken s)) (Complete s) Pending
   told-further s x =
-      let ls : s < 4 = x .bears .is-slot in
+      let ls : s < mostSlots = x .bears .is-slot in
       let m′ : ℕ → List Piece = ghost .put m (slotNo p s) (g .offset) (storedBytes g) in
       let pieces : m′ (slotNo p s) ≡ map pieceOf (g ∷ h .taken s) = upd-same m (slotNo p s) _ ∙ ap (λ (x : List Piece). pieceOf g ∷ x) (lg .pieces s ls) in
       told-by (old s) (chosen-old (row .slots) h st g f s (x .bears) (x .same))

@@ -15,6 +15,7 @@ use Rattle.reassembly.specs.Laws.Memory.{within-low, within-high, within
 use Rattle.reassembly.specs.Store.{isOn, bitAt, setBit, setBits, slotStart, mapStart, zeros, clearAt, putAt}
 use Rattle.reassembly.specs.Laws.Store.{sets-out, sets-in, bits-set, bits-out, length-setBits}
 use Rattle.reassembly.specs.EveryRun.{frameAt, mapAt, bitOf, Touches}
+use Rattle.reassembly.specs.Slots.{mostPeers, mostSlots}
 
 -- a map byte that has none of the bits is left
 setBits-other : (m : List ℕ) (b a n j : ℕ) → ((i : ℕ) → within a n i ≡ true → j ≢ b + i / 8) → getD (setBits m b a n) j 0 ≡ getD m j 0
@@ -37,7 +38,7 @@ bit-is : (m : List ℕ) (b i : ℕ) → bitOf m b i ≡ bitAt m b i
 unfolding bitAt isOn
 bit-is m b i = refl
 
-module _ (p s : ℕ) (p< : p < 8) (s< : s < 4) (g : Seg) (f : Fits g) where
+module _ (p s : ℕ) (p< : p < mostPeers) (s< : s < mostSlots) (g : Seg) (f : Fits g) where
   -- a further segment of a frame pending
   pub touches-further : (m : List ℕ) → 55296 ≤ length m → Touches p s false g m (putAt m (slotNo p s) (g .offset) (g .bytes))
   unfolding putAt slotStart mapStart

@@ -16,9 +16,10 @@ use Rattle.reassembly.specs.Receive.{Answers, segment, Event, receive, t
 use Rattle.reassembly.specs.SetUp.{Layers, Endpoint, World, runs}
 use Rattle.reassembly.specs.History.{carries, taking, frameComplete, framePending, History, pendingIn, Opens, historyOf}
 use Rattle.reassembly.specs.EveryRun.{EveryRun}
+use Rattle.reassembly.specs.Slots.{mostSlots}
 
 -- segments alone, t ticks after the first
-alone : (g : Seg) (t : ℕ) → frameComplete (g ∷ []) ≡ false → t < 4 → framePending (g ∷ []) t ≡ true
+alone : (g : Seg) (t : ℕ) → frameComplete (g ∷ []) ≡ false → t < mostSlots → framePending (g ∷ []) t ≡ true
 unfolding framePending
 alone g zero e l = rw e
 alone g (suc zero) e l = rw e

@@ -11,7 +11,7 @@ use lib.Seq.{getD-set-same, getD-set-other}
 use lib.Dec.{eqb}
 use borrow.Author.Tests.{eqb-true, eqb-false}
 use Rattle.reassembly.specs.Laws.Base.{caseB, either}
-use Rattle.reassembly.specs.Slots.{Slot, Peer, Note, noRow, free, older, olderRow}
+use Rattle.reassembly.specs.Slots.{Slot, Peer, Note, noRow, free, older, olderRow, mostPeers, mostSlots}
 use Rattle.reassembly.specs.Laws.Slots.{slotsOf, older-pending}
 use Rattle.reassembly.specs.Take.{slotNo, Seg, Ops, Outcome, Rejected, Pending, Complete, NoMemory, Effect, takeSegment}
 use Rattle.reassembly.specs.Laws.Memory.{Laws}
@@ -67,8 +67,8 @@ module _ (W : Answers) where
   -- the header layer names a listed peer, of which there are at most eight
   abbrev pub Listed : Reading W → Type 0
   Listed (otherSender a) = Unit {0}
-  Listed (direct q a) = q < 8
-  Listed (segment q g) = q < 8
+  Listed (direct q a) = q < mostPeers
+  Listed (segment q g) = q < mostPeers
 
   module _ (header : List ℕ → Reading W) (p : ℕ) where
     abbrev pub own : List ℕ → Bool
@@ -86,9 +86,9 @@ module _ (W : Answers) where
 
 -- a state that sees every event and one that sees this peer's alone
 pub record Sim (A B : Ops) (p : ℕ) (e : State A) (g : State B) : Type 0 where
-  pub rows-ok : (q : ℕ) → q < 8 → RowOk (getD (e .peers) q noRow .slots)
-  pub eightA : length (e .peers) ≡ 8
-  pub eightB : length (g .peers) ≡ 8
+  pub rows-ok : (q : ℕ) → q < mostPeers → RowOk (getD (e .peers) q noRow .slots)
+  pub eightA : length (e .peers) ≡ mostPeers
+  pub eightB : length (g .peers) ≡ mostPeers
   pub row : getD (e .peers) (rowOf p) noRow .slots ≡ getD (g .peers) (rowOf p) noRow .slots
   pub same : Same A B p (getD (e .peers) (rowOf p) noRow .slots) (e .mem) (g .mem)
 
@@ -111,7 +111,7 @@ unfolding olderRow
 rows-older rows q = ap slotsOf (List·getD-map olderRow rows q noRow)
 
 module _ (W : Answers) (judge : ℕ → Note → List ℕ → Verdict W) (A B : Ops) (LA : Laws A) (LB : Laws B) (header : List ℕ → Reading W)
-    (listed : (k : List ℕ) → Listed W (header k)) (p : ℕ) (p< : p < 8) where
+    (listed : (k : List ℕ) → Listed W (header k)) (p : ℕ) (p< : p < mostPeers) where
   tick-sim : (e : State A) (g : State B) → Sim A B p e g → Sim A B p (after W judge A header e tick) (after W judge B header g tick)
   tick-sim e g h =
       record {
@@ -184,7 +184,7 @@ module _ (W : Answers) (judge : ℕ → Note → List ℕ → Verdict W) (A B : 
       let rows : rowOf p ≢ rowOf q = λ z. n (omega arith) in
       let r : getD (set (e .peers) (rowOf q) (w .row)) (rowOf p) noRow ≡ getD (e .peers) (rowOf p) noRow =
       getD-set-other (e .peers) (rowOf q) (rowOf p) _ noRow rows in
-      let far : (s : ℕ) → s < 4 → (t : ℕ) → t < 4 → slotNo p s ≢ slotNo q t = λ s l t k w. n (omega arith) in
+      let far : (s : ℕ) → s < mostSlots → (t : ℕ) → t < mostSlots → slotNo p s ≢ slotNo q t = λ s l t k w. n (omega arith) in
       record {
         rows-ok = λ t k.
             either (set-cases (e .peers) (rowOf q) (w .row) noRow t (omega (arith, h .eightA)))

@@ -12,7 +12,7 @@ use lib.Dec.{eqb}
 use borrow.Author.Tests.{eqb-true, eqb-false}
 use Rattle.reassembly.specs.Base.{within}
 use Rattle.reassembly.specs.Laws.Base.{caseB, either, clash, someBelow-ext, allBelow-ext, table-ext, allBelow-at}
-use Rattle.reassembly.specs.Slots.{Slot, Peer, Note, noNote, noteOf, free}
+use Rattle.reassembly.specs.Slots.{Slot, Peer, Note, noNote, noteOf, free, mostPeers, mostSlots}
 use Rattle.reassembly.specs.Take.{slotNo, Seg, Ops, Outcome, Rejected, Pending, Complete, AlreadyReceived, Choice, reject, old, fresh, chosen}
 use Rattle.reassembly.specs.Take.{testedBytes, storedBytes, noteAfter, openedSlot, furtherSlot, Effect, complete, overlaps, frameIn, finish, placed}
 use Rattle.reassembly.specs.Take.{takeSegment}
@@ -26,8 +26,8 @@ pub record Agree (A B : Ops) (k n : ℕ) (a : A .S) (b : B .S) : Type 0 where
 
 -- a row of four slots, no frame longer than a frame may be
 pub record RowOk (row : List Slot) : Type 0 where
-  pub four : length row ≡ 4
-  pub sizes : (s : ℕ) → s < 4 → getD row s free .pending ≡ true → getD row s free .«frame_length» ≤ 1532
+  pub four : length row ≡ mostSlots
+  pub sizes : (s : ℕ) → s < mostSlots → getD row s free .pending ≡ true → getD row s free .«frame_length» ≤ 1532
 
 -- a store into a list, read back: at its own place, or elsewhere
 pub set-cases : {A : Type 0} (l : List A) (s : ℕ) (v d : A) (t : ℕ) → s < length l
@@ -37,7 +37,7 @@ set-cases l s v d t h =
     (λ q. inl (eqb-true t s q, rw (eqb-true t s q) (getD-set-same l s v d h)))
     (λ q. inr (eqb-false t s q, getD-set-other l s t v d (eqb-false t s q)))
 
-pub row-set : (row : List Slot) (s : ℕ) (v : Slot) → s < 4 → RowOk row → (v .pending ≡ true → v .«frame_length» ≤ 1532) → RowOk (set row s v)
+pub row-set : (row : List Slot) (s : ℕ) (v : Slot) → s < mostSlots → RowOk row → (v .pending ≡ true → v .«frame_length» ≤ 1532) → RowOk (set row s v)
 row-set row s v l r h =
     record {
       four = length-set row s v ∙ r .four;
@@ -52,7 +52,7 @@ pub record Same (A B : Ops) (p : ℕ) (row : List Slot) (a : A .S) (b : B .S) : 
   pub row-ok : RowOk row
   pub okA : A .Ok a
   pub okB : B .Ok b
-  pub agree : (s : ℕ) → s < 4 → getD row s free .pending ≡ true → Agree A B (slotNo p s) (getD row s free .«frame_length») a b
+  pub agree : (s : ℕ) → s < mostSlots → getD row s free .pending ≡ true → Agree A B (slotNo p s) (getD row s free .«frame_length») a b
 
 -- two effects of one segment of frame length n: the same to the peer, and a complete frame is the same
 pub record Alike (A B : Ops) (p n : ℕ) (x : Effect A) (y : Effect B) : Type 0 where
@@ -75,14 +75,14 @@ module _ (A B : Ops) (k n : ℕ) (a : A .S) (b : B .S) (h : Agree A B k n a b) w
   unfolding complete frameIn
   frame-same e = table-ext _ _ _ (λ i j. h .byte i j (allBelow-at _ _ e i j))
 
-module _ (A B : Ops) (LA : Laws A) (LB : Laws B) (p : ℕ) (p< : p < 8) where
+module _ (A B : Ops) (LA : Laws A) (LB : Laws B) (p : ℕ) (p< : p < mostPeers) where
   rejects-alike : (n : ℕ) (row : List Slot) (a : A .S) (b : B .S) (r : Outcome) → isComplete r ≡ false → Same A B p row a b
       → Alike A B p n (record { row = record { slots = row }; outcome = r; note = noNote; mem = a })
       (record { row = record { slots = row }; outcome = r; note = noNote; mem = b })
   rejects-alike n row a b r e h = record { outcome = refl; row = refl; note = refl; frame = λ s q. not-complete r s e q; same = h }
 
   -- a put keeps the agreement at its own slot
-  put-agree : (s n at : ℕ) (bs : List ℕ) (a : A .S) (b : B .S) → s < 4 → n ≤ 1532 → at + length bs ≤ n → A .Ok a → B .Ok b
+  put-agree : (s n at : ℕ) (bs : List ℕ) (a : A .S) (b : B .S) → s < mostSlots → n ≤ 1532 → at + length bs ≤ n → A .Ok a → B .Ok b
       → Agree A B (slotNo p s) n a b → Agree A B (slotNo p s) n (A .put a (slotNo p s) at bs) (B .put b (slotNo p s) at bs)
   put-agree s n at bs a b l nl f oa ob h =
       let k : ℕ = slotNo p s in
@@ -105,7 +105,7 @@ module _ (A B : Ops) (LA : Laws A) (LB : Laws B) (p : ℕ) (p< : p < 8) where
             ));
       }
 
-  finish-alike : (s : ℕ) (row : List Slot) (a : A .S) (b : B .S) (g : Seg) (note : Note) → s < 4 → Same A B p row a b
+  finish-alike : (s : ℕ) (row : List Slot) (a : A .S) (b : B .S) (g : Seg) (note : Note) → s < mostSlots → Same A B p row a b
       → getD row s free .pending ≡ true → getD row s free .«frame_length» ≡ g .frame-length
       → Alike A B p (g .frame-length) (finish A p s row a g note) (finish B p s row b g note)
   finish-alike s row a b g note l h t z =
@@ -131,7 +131,7 @@ module _ (A B : Ops) (LA : Laws A) (LB : Laws B) (p : ℕ) (p< : p < 8) where
           }
 
   -- slot s is rewritten in both memories, and the others are left
-  slot-same : (s : ℕ) (row : List Slot) (v : Slot) (a a′ : A .S) (b b′ : B .S) → s < 4 → Same A B p row a b → v .«frame_length» ≤ 1532
+  slot-same : (s : ℕ) (row : List Slot) (v : Slot) (a a′ : A .S) (b b′ : B .S) → s < mostSlots → Same A B p row a b → v .«frame_length» ≤ 1532
       → A .Ok a′ → B .Ok b′ → Agree A B (slotNo p s) (v .«frame_length») a′ b′
       → ((j i : ℕ) → j ≢ slotNo p s → i < 1532 → A .received a′ j i ≡ A .received a j i)
       → ((j i : ℕ) → j ≢ slotNo p s → i < 1532 → A .byte a′ j i ≡ A .byte a j i)
@@ -161,7 +161,7 @@ module _ (A B : Ops) (LA : Laws A) (LB : Laws B) (p : ℕ) (p< : p < 8) where
       → Same A B p row a b → Alike A B p (g .frame-length) (placed A p row a g c) (placed B p row b g c)
   placed-alike row a b g (reject r) q h = rejects-alike (g .frame-length) row a b (Rejected r) refl h
   placed-alike row a b g (old s) q h =
-      let l : s < 4 = q .is-slot in
+      let l : s < mostSlots = q .is-slot in
       let z : g .frame-length ≤ 1532 = q .fits .most in
       let f : g .offset + length (g .bytes) ≤ g .frame-length = q .fits .inside in
       let f′ : g .offset + length (storedBytes g) ≤ g .frame-length = omega (arith, stored-length g) in
@@ -185,7 +185,7 @@ module _ (A B : Ops) (LA : Laws A) (LB : Laws B) (p : ℕ) (p< : p < 8) where
       (λ j i n k. LB .byte-put-other b _ _ _ (h .okB) (omega arith) (omega arith) j i n k))
       (rw sv) (rw sv (q .size))))
   placed-alike row a b g (fresh s) q h =
-      let l : s < 4 = q .is-slot in
+      let l : s < mostSlots = q .is-slot in
       let z : g .frame-length ≤ 1532 = q .fits .most in
       let f : g .offset + length (g .bytes) ≤ g .frame-length = q .fits .inside in
       let v : Slot = openedSlot g in
@@ -214,20 +214,20 @@ module _ (A B : Ops) (LA : Laws A) (LB : Laws B) (p : ℕ) (p< : p < 8) where
   take-alike row a b g h = placed-alike (row .slots) a b g (chosen (row .slots) g) (chosen-tells (row .slots) g) h
 
 -- a segment of another peer changes neither the peer's row nor its slots
-module _ (A : Ops) (LA : Laws A) (q : ℕ) (q< : q < 8) where
+module _ (A : Ops) (LA : Laws A) (q : ℕ) (q< : q < mostPeers) where
   pub record Apart (a a′ : A .S) : Type 0 where
     pub ok : A .Ok a′
-    pub received : (j i : ℕ) → ((s : ℕ) → s < 4 → j ≢ slotNo q s) → i < 1532 → A .received a′ j i ≡ A .received a j i
-    pub byte : (j i : ℕ) → ((s : ℕ) → s < 4 → j ≢ slotNo q s) → i < 1532 → A .byte a′ j i ≡ A .byte a j i
+    pub received : (j i : ℕ) → ((s : ℕ) → s < mostSlots → j ≢ slotNo q s) → i < 1532 → A .received a′ j i ≡ A .received a j i
+    pub byte : (j i : ℕ) → ((s : ℕ) → s < mostSlots → j ≢ slotNo q s) → i < 1532 → A .byte a′ j i ≡ A .byte a j i
 
-  finish-row : (s : ℕ) (row : List Slot) (a : A .S) (g : Seg) (note : Note) → s < 4 → RowOk row → RowOk (finish A q s row a g note .row .slots)
+  finish-row : (s : ℕ) (row : List Slot) (a : A .S) (g : Seg) (note : Note) → s < mostSlots → RowOk row → RowOk (finish A q s row a g note .row .slots)
   finish-row s row a g note l r = caseB (complete A a (slotNo q s) (g .frame-length)) (λ e. rw e (row-set row s free l r (λ t. clash (cc)))) (λ e. rw e r)
 
   placed-apart : (row : List Slot) (a : A .S) (g : Seg) (c : Choice) → Tells row g c → RowOk row → A .Ok a
       → Apart a (placed A q row a g c .mem) × RowOk (placed A q row a g c .row .slots)
   placed-apart row a g (reject n) e r o = (record { ok = o; received = λ j i n k. refl; byte = λ j i n k. refl }, r)
   placed-apart row a g (old s) e r o =
-      let l : s < 4 = e .is-slot in
+      let l : s < mostSlots = e .is-slot in
       let z : g .frame-length ≤ 1532 = e .fits .most in
       let f : g .offset + length (g .bytes) ≤ g .frame-length = e .fits .inside in
       let f′ : g .offset + length (storedBytes g) ≤ g .frame-length = omega (arith, stored-length g) in
@@ -242,7 +242,7 @@ module _ (A : Ops) (LA : Laws A) (q : ℕ) (q< : q < 8) where
         finish-row s _ _ g _ l (row-set row s _ l r (λ t. omega (arith, e .size))),
       ))
   placed-apart row a g (fresh s) e r o =
-      let l : s < 4 = e .is-slot in
+      let l : s < mostSlots = e .is-slot in
       let z : g .frame-length ≤ 1532 = e .fits .most in
       let f : g .offset + length (g .bytes) ≤ g .frame-length = e .fits .inside in
       let o₁ : A .Ok (A .clear a (slotNo q s)) = LA .ok-clear a _ o (omega arith) in

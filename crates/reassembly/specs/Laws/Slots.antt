@@ -10,7 +10,7 @@ use lib.ListN.{getD}
 use lib.Dec.{ltb}
 use borrow.Author.Tests.{lt-ltb}
 use Rattle.reassembly.specs.Laws.Base.{caseB, clash}
-use Rattle.reassembly.specs.Slots.{Slot, Peer, Note, Mark, noNote, noted, free, pendingSlot, noteOf, lifetime, older, first}
+use Rattle.reassembly.specs.Slots.{Slot, Peer, Note, Mark, noNote, noted, free, pendingSlot, noteOf, lifetime, older, first, mostSlots}
 
 -- the order of segments at different offsets does not matter
 pub noted-swap : (n : Note) (a b : ℕ) (j k : Mark) → a ≢ b → noted (noted n a j) b k ≡ noted (noted n b k) a j
@@ -39,7 +39,7 @@ older-stays i n a t l = rw (lt-ltb (a + 1) lifetime l) (ap (λ (x : Note). pendi
 
 -- what it finds, and that it is that
 pub record First (f : Slot → Bool) (l : List Slot) (s : ℕ) : Type 0 where
-  pub is-slot : s < 4
+  pub is-slot : s < mostSlots
   pub passes : f (getD l s free) ≡ true
   pub lowest : (t : ℕ) → t < s → f (getD l t free) ≡ false
 
@@ -71,7 +71,7 @@ first-some f l s e =
     low3 (suc (suc zero)) h a b c = c
     low3 (suc (suc (suc t))) h a b c = absurd (omega arith)
 
-pub first-none : (f : Slot → Bool) (l : List Slot) → first f l ≡ none → (s : ℕ) → s < 4 → f (getD l s free) ≡ false
+pub first-none : (f : Slot → Bool) (l : List Slot) → first f l ≡ none → (s : ℕ) → s < mostSlots → f (getD l s free) ≡ false
 unfolding first
 first-none f l e s h =
     caseB (f (getD l 0 free))
@@ -84,7 +84,7 @@ first-none f l e s h =
     (λ d. clash (cc))
     (λ d. low4 s h a b c d))))
   where
-    low4 : (t : ℕ) → t < 4 → f (getD l 0 free) ≡ false → f (getD l 1 free) ≡ false → f (getD l 2 free) ≡ false → f (getD l 3 free) ≡ false
+    low4 : (t : ℕ) → t < mostSlots → f (getD l 0 free) ≡ false → f (getD l 1 free) ≡ false → f (getD l 2 free) ≡ false → f (getD l 3 free) ≡ false
         → f (getD l t free) ≡ false
     low4 zero h a b c d = a
     low4 (suc zero) h a b c d = b
@@ -92,7 +92,8 @@ first-none f l e s h =
     low4 (suc (suc (suc zero))) h a b c d = d
     low4 (suc (suc (suc (suc t)))) h a b c d = absurd (omega arith)
 
-pub first-is : (f : Slot → Bool) (l : List Slot) (s : ℕ) → s < 4 → ((t : ℕ) → t < s → f (getD l t free) ≡ false) → f (getD l s free) ≡ true → first f l ≡ some s
+pub first-is : (f : Slot → Bool) (l : List Slot) (s : ℕ) → s < mostSlots → ((t : ℕ) → t < s → f (getD l t free) ≡ false) → f (getD l s free) ≡ true
+    → first f l ≡ some s
 unfolding first
 first-is f l zero h n e = rw e
 first-is f l (suc zero) h n e = rw (n 0 (omega arith), e)
@@ -100,6 +101,6 @@ first-is f l (suc (suc zero)) h n e = rw (n 0 (omega arith), n 1 (omega arith), 
 first-is f l (suc (suc (suc zero))) h n e = rw (n 0 (omega arith), n 1 (omega arith), n 2 (omega arith), e)
 first-is f l (suc (suc (suc (suc s)))) h n e = absurd (omega arith)
 
-pub first-not : (f : Slot → Bool) (l : List Slot) → ((t : ℕ) → t < 4 → f (getD l t free) ≡ false) → first f l ≡ none
+pub first-not : (f : Slot → Bool) (l : List Slot) → ((t : ℕ) → t < mostSlots → f (getD l t free) ≡ false) → first f l ≡ none
 unfolding first
 first-not f l n = rw (n 0 (omega arith), n 1 (omega arith), n 2 (omega arith), n 3 (omega arith))

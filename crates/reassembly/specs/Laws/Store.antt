@@ -13,7 +13,7 @@ use lib.Bits.{bitOr, or-shr, or-mod}
 use borrow.Author.Tests.{ltb-true, ltb-false, eqb-true, eqb-false, lt-ltb, eq-eqb, ne-eqb, le-leb}
 use Rattle.reassembly.specs.Laws.Base.{caseB, either, clash, allBelow-at, length-table, getD-table, same-test, or-cases, or-true-r}
 use Rattle.reassembly.specs.Base.{allBelow, table, within}
-use Rattle.reassembly.specs.Slots.{Peer}
+use Rattle.reassembly.specs.Slots.{Peer, mostPeers, mostSlots}
 use Rattle.reassembly.specs.Take.{slotNo, frameIn, Seg, takeSegment}
 use Rattle.reassembly.specs.Laws.Memory.{Laws, within-low, within-high, within-is}
 use Rattle.reassembly.specs.Store.{isOn, bitAt, setBit, setBits, slotStart, mapStart, mapSize, zeros, clearAt, putAt, receivedAt, byteAt, bytesOf}
@@ -199,7 +199,7 @@ handed m k n l f =
     ∙ sym (getD-take (n - 18) (drop (k * 1728 + 18) m) i 0 li ∙ getD-drop (k * 1728 + 18) m i 0))
 
 -- the slots of eight peers lie in a memory that is large enough
-pub slot-inside : (m : List ℕ) (p s n : ℕ) → 55296 ≤ length m → p < 8 → s < 4 → n ≤ 1728 → slotStart (slotNo p s) + n ≤ length m
+pub slot-inside : (m : List ℕ) (p s n : ℕ) → 55296 ≤ length m → p < mostPeers → s < mostSlots → n ≤ 1728 → slotStart (slotNo p s) + n ≤ length m
 unfolding slotStart
 slot-inside m p s n o lp ls ln = omega arith
 
@@ -221,6 +221,6 @@ setBits-behind p x b a (suc n) l =
     rw (setBits-behind p x b a n l, getD-behind p (setBits x 0 a n) ((a + n) / 8) b l, zero-add)
     (set-behind p (setBits x 0 a n) ((a + n) / 8) _ b l)
 
-pub take-in : (p : ℕ) (row : Peer) (m : List ℕ) (g : Seg) → p < 8 → 55296 ≤ length m → takeIn p row m g ≡ takeSegment bytesOf p row m g
+pub take-in : (p : ℕ) (row : Peer) (m : List ℕ) (g : Seg) → p < mostPeers → 55296 ≤ length m → takeIn p row m g ≡ takeSegment bytesOf p row m g
 unfolding hasSlots takeIn
-take-in p row m g l o = rw (lt-ltb p 8 l, le-leb 55296 (length m) o)
+take-in p row m g l o = rw (lt-ltb p mostPeers l, le-leb 55296 (length m) o)

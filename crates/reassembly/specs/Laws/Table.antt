@@ -16,7 +16,7 @@ use Rattle.reassembly.specs.Laws.Base.{caseB, caseO, clash, or-false-l, 
 use Rattle.reassembly.specs.Base.{someBelow, allBelow, within}
 use Rattle.reassembly.specs.Search.{from, lowest, found}
 use Rattle.reassembly.specs.Laws.Search.{lowest-some, found-some, found-none}
-use Rattle.reassembly.specs.Slots.{Slot, Peer, Note, noNote, noteOf, free, first, bears, isFree}
+use Rattle.reassembly.specs.Slots.{Slot, Peer, Note, noNote, noteOf, free, first, bears, isFree, mostPeers, mostSlots}
 use Rattle.reassembly.specs.Laws.Slots.{first-some, first-none}
 use Rattle.reassembly.specs.Take.{Seg, Effect, Choice, reject, old, chosen, chooseNew, choose, slotNo, furtherSlot, openedSlot, noteAfter, overlaps}
 use Rattle.reassembly.specs.Take.{frameIn, finish, placed, takeSegment}
@@ -44,7 +44,7 @@ old-row true a b c x q = refl
 old-row false a b c x q = clash (cc (q))
 
 -- the search of a row is a search
-slots-lowest : (f : Slot → Bool) (l : List Slot) → first f l ≡ lowest (λ (s : ℕ). f (getD l s free)) 4
+slots-lowest : (f : Slot → Bool) (l : List Slot) → first f l ≡ lowest (λ (s : ℕ). f (getD l s free)) mostSlots
 unfolding first lowest from
 slots-lowest f l = refl
 
@@ -89,7 +89,7 @@ module _ (f : List ℕ → ℕ) (p : ℕ) (row : Peer) (m : List ℕ) (g : Seg) 
   overlap = someBelow (length (g .bytes)) (λ (i : ℕ). received (g .offset + i))
 
   abbrev full : Bool
-  full = allBelow 4 (λ (s : ℕ). getD slots s free .pending)
+  full = allBelow mostSlots (λ (s : ℕ). getD slots s free .pending)
 
   effectNumber : Effect bytesOf → ℕ
   effectNumber o = takenNumber f p g o (o .outcome)
@@ -108,12 +108,12 @@ module _ (f : List ℕ → ℕ) (p : ℕ) (row : Peer) (m : List ℕ) (g : Seg) 
       (λ c. let w : complete ≡ true = sym r ∙ c in rw (c, w) (ap f (h w)))
       (λ c. let w : complete ≡ false = sym r ∙ c in rw (c, w))
 
-  module _ (enough : 55296 ≤ length m) (small : p < 8) (most : frameLength ≤ 1532) (inside : g .offset + length (g .bytes) ≤ frameLength) where
+  module _ (enough : 55296 ≤ length m) (small : p < mostPeers) (most : frameLength ≤ 1532) (inside : g .offset + length (g .bytes) ≤ frameLength) where
     -- the segment of a frame that is pending, in its slot
     abbrev stored : List ℕ
     stored = putAt m (slotNo p at) (g .offset) (g .bytes)
 
-    module _ (way : pending ≡ true) (slot : at < 4) where
+    module _ (way : pending ≡ true) (slot : at < mostSlots) where
       old-complete : K.complete bytesOf stored (slotNo p at) frameLength ≡ complete
       unfolding K.complete receivedAt bitAt isOn mapStart within
       old-complete =
@@ -128,7 +128,7 @@ module _ (f : List ℕ → ℕ) (p : ℕ) (row : Peer) (m : List ℕ) (g : Seg) 
           bytes-laws .byte-put m (slotNo p at) (g .offset) (g .bytes) enough (omega arith) (omega arith) i (omega arith))
 
     -- the segment of a new frame, in a free slot s
-    module _ (way : pending ≡ false) (s : ℕ) (slot : s < 4) where
+    module _ (way : pending ≡ false) (s : ℕ) (slot : s < mostSlots) where
       abbrev opened : List ℕ
       opened = putAt (clearAt m (slotNo p s)) (slotNo p s) (g .offset) (g .bytes)
 
@@ -159,14 +159,14 @@ module _ (f : List ℕ → ℕ) (p : ℕ) (row : Peer) (m : List ℕ) (g : Seg) 
 
     is-full : first isFree slots ≡ none → full ≡ true
     unfolding isFree
-    is-full r = allBelow-intro 4 (λ (s : ℕ). getD slots s free .pending) (λ i l. not-false (getD slots i free .pending) (first-none isFree slots r i l))
+    is-full r = allBelow-intro mostSlots (λ (s : ℕ). getD slots s free .pending) (λ i l. not-false (getD slots i free .pending) (first-none isFree slots r i l))
 
     not-full : (s : ℕ) → first isFree slots ≡ some s → full ≡ false
     unfolding isFree
     not-full s r =
         let w = first-some isFree slots s r in
         caseB full
-        (λ h. clash (cc (allBelow-at 4 (λ (s : ℕ). getD slots s free .pending) h s (w .is-slot), not-true (getD slots s free .pending) (w .passes))))
+        (λ h. clash (cc (allBelow-at mostSlots (λ (s : ℕ). getD slots s free .pending) h s (w .is-slot), not-true (getD slots s free .pending) (w .passes))))
         (λ h. h)
 
     new-number : pending ≡ false → placedNumber (chooseNew (first isFree slots)) ≡ pick full 17 last
@@ -175,7 +175,7 @@ module _ (f : List ℕ → ℕ) (p : ℕ) (row : Peer) (m : List ℕ) (g : Seg) 
         caseO (first isFree slots)
         (λ r. ap (λ (o : Option ℕ). placedNumber (chooseNew o)) r ∙ sym (ap (λ (b : Bool). pick b 17 last) (is-full r)))
         (λ s r.
-        let slot : s < 4 = first-some isFree slots s r .is-slot in
+        let slot : s < mostSlots = first-some isFree slots s r .is-slot in
         ap (λ (o : Option ℕ). placedNumber (chooseNew o)) r
         ∙ finish-number s (set slots s (openedSlot g)) (opened way s slot) (noteAfter noNote g) (new-complete way s slot) (new-frame way s slot)
         ∙ sym (ap (λ (b : Bool). pick b 17 last) (not-full s r)))
@@ -184,7 +184,7 @@ module _ (f : List ℕ → ℕ) (p : ℕ) (row : Peer) (m : List ℕ) (g : Seg) 
     unfolding overlaps receivedAt bitAt isOn mapStart
     same-overlap = refl
 
-    old-number : pending ≡ true → at < 4
+    old-number : pending ≡ true → at < mostSlots
         → placedNumber (choose slots g (some at)) ≡ pick (not (eqb (getD slots at free .«frame_length») frameLength)) 15 (pick overlap 16 last)
     unfolding placedNumber effectNumber
     old-number way slot = by-length (eqb (getD slots at free .«frame_length») frameLength)
@@ -207,18 +207,19 @@ module _ (f : List ℕ → ℕ) (p : ℕ) (row : Peer) (m : List ℕ) (g : Seg) 
     choose-number : placedNumber (choose slots g (first (bears (g .identifier)) slots)) ≡ chosenNumber
     unfolding bears
     choose-number =
-        let same : first (bears (g .identifier)) slots ≡ lowest (T.pendingIn p row m g) 4 = slots-lowest (bears (g .identifier)) slots in
-        caseO (lowest (T.pendingIn p row m g) 4)
-        (λ q. let way : pending ≡ false = found-none (T.pendingIn p row m g) 4 q in
+        let same : first (bears (g .identifier)) slots ≡ lowest (T.pendingIn p row m g) mostSlots = slots-lowest (bears (g .identifier)) slots in
+        caseO (lowest (T.pendingIn p row m g) mostSlots)
+        (λ q. let way : pending ≡ false = found-none (T.pendingIn p row m g) mostSlots q in
         ap (λ (o : Option ℕ). placedNumber (choose slots g o)) (same ∙ q) ∙ new-number way ∙ sym (new-row pending _ _ full last way))
         (λ s q.
-        let r : lowest (T.pendingIn p row m g) 4 ≡ some at = q ∙ ap some (sym (ap found q)) in
-        let way : pending ≡ true = found-some (T.pendingIn p row m g) 4 s q in
+        let r : lowest (T.pendingIn p row m g) mostSlots ≡ some at = q ∙ ap some (sym (ap found q)) in
+        let way : pending ≡ true = found-some (T.pendingIn p row m g) mostSlots s q in
         ap (λ (o : Option ℕ). placedNumber (choose slots g o)) (same ∙ r)
-        ∙ old-number way (lowest-some (T.pendingIn p row m g) 4 at r .below)
+        ∙ old-number way (lowest-some (T.pendingIn p row m g) mostSlots at r .below)
         ∙ sym (old-row pending _ overlap full last way))
 
-  segment-number : p < 8 → 55296 ≤ length m → effectNumber (takeSegment bytesOf p row m g) ≡ (segmentRows p row m g otherwise f (completeFrame p row m g))
+  segment-number : p < mostPeers → 55296 ≤ length m → effectNumber (takeSegment bytesOf p row m g) ≡ (segmentRows p row m g otherwise f
+      (completeFrame p row m g))
   unfolding effectNumber placedNumber takeSegment segmentRows
   segment-number small enough =
       chosen-is (λ (c : Choice). effectNumber (placed bytesOf p slots m g c)) slots g
@@ -231,7 +232,7 @@ module _ (f : List ℕ → ℕ) (p : ℕ) (row : Peer) (m : List ℕ) (g : Seg) 
       (λ h. choose-number enough small (ltb-false 1532 frameLength (h .1 .1 .0)) (ltb-false frameLength (g .offset + length (g .bytes)) (h .1 .1 .1 .0)))
       ∙ row4 14 (eqb (length (g .bytes)) 0) (ltb frameLength 32) (ltb 1532 frameLength) (ltb frameLength (g .offset + length (g .bytes))) _
 
-  taken-number : p < 8 → 55296 ≤ length m → effectNumber (takeIn p row m g) ≡ (segmentRows p row m g otherwise f (completeFrame p row m g))
+  taken-number : p < mostPeers → 55296 ≤ length m → effectNumber (takeIn p row m g) ≡ (segmentRows p row m g otherwise f (completeFrame p row m g))
   taken-number small enough = ap effectNumber (take-in p row m g small enough) ∙ segment-number small enough
 
 pub reassembly-table : Table

@@ -10,7 +10,7 @@ use lib.ListN.{length, getD, set}
 use lib.Dec.{ltb, eqb}
 use borrow.Author.Tests.{ltb-false, eqb-true, eqb-false, le-ltb, eq-eqb, ne-eqb}
 use Rattle.reassembly.specs.Laws.Base.{length-table, caseB, clash, and-l, and-r, or-false-l, or-false-r}
-use Rattle.reassembly.specs.Slots.{Slot, Peer, Note, noNote, noteOf, free, first, bears, isFree}
+use Rattle.reassembly.specs.Slots.{Slot, Peer, Note, noNote, noteOf, free, first, bears, isFree, mostSlots}
 use Rattle.reassembly.specs.Laws.Slots.{First, first-some, first-none}
 use Rattle.reassembly.specs.Take.{slotNo, Seg, Ops, Rejection, Empty, FrameLength, PastEnd, OtherLength, AlreadyReceived, NoSlot, rejectionCode, Outcome}
 use Rattle.reassembly.specs.Take.{Rejected, Pending, Complete, NoMemory, storedBytes, noteAfter, openedSlot, furtherSlot, complete, overlaps, frameIn}
@@ -100,7 +100,7 @@ chosen-fits row g f =
 
 -- a segment of no pending frame, with a slot free: it opens a frame in a free one
 pub chosen-opens : (row : List Slot) (g : Seg) → Fits g → first (bears (g .identifier)) row ≡ none → (s : ℕ) → first isFree row ≡ some s
-    → (t : ℕ) × ((chosen row g ≡ fresh t) × ((t < 4) × (getD row t free .pending ≡ false)))
+    → (t : ℕ) × ((chosen row g ≡ fresh t) × ((t < mostSlots) × (getD row t free .pending ≡ false)))
 chosen-opens row g f e s n =
     let b : First isFree row s = first-some isFree row s n in
     let c : chosen row g ≡ fresh s = chosen-fits row g f ∙ rw (e, n) in
@@ -143,7 +143,8 @@ module _ (O : Ops) where
       (λ c. complete-slot s t (rw c at e))
       (λ c. not-complete Pending t refl (rw c at e))
 
-  placed-tells : (p t : ℕ) (row : List Slot) (m : O .S) (g : Seg) (c : Choice) → Tells row g c → placed O p row m g c .outcome ≡ Complete t → (t < 4) × Fits g
+  placed-tells : (p t : ℕ) (row : List Slot) (m : O .S) (g : Seg) (c : Choice) → Tells row g c → placed O p row m g c .outcome ≡ Complete t →
+      (t < mostSlots) × Fits g
   placed-tells p t row m g (reject r) q e = not-complete (Rejected r) t refl e
   placed-tells p t row m g (old s) q e =
       caseB (overlaps O m (slotNo p s) g)
@@ -153,7 +154,7 @@ module _ (O : Ops) where
   placed-tells p t row m g (fresh s) q e = let z : s ≡ t = finish-tells p s t (set row s (openedSlot g))
       (O .put (O .clear m (slotNo p s)) (slotNo p s) (g .offset) (g .bytes)) g (noteAfter noNote g) e in (rw z at (q .is-slot), q .fits)
 
-  pub take-complete : (p t : ℕ) (row : Peer) (m : O .S) (g : Seg) → takeSegment O p row m g .outcome ≡ Complete t → (t < 4) × Fits g
+  pub take-complete : (p t : ℕ) (row : Peer) (m : O .S) (g : Seg) → takeSegment O p row m g .outcome ≡ Complete t → (t < mostSlots) × Fits g
   unfolding takeSegment
   take-complete p t row m g e = placed-tells p t (row .slots) m g (chosen (row .slots) g) (chosen-tells (row .slots) g) e
 

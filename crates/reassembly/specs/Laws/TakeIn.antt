@@ -11,7 +11,7 @@ use lib.Dec.{ltb, leb}
 use borrow.Author.Tests.{ltb-true, leb-true}
 use Rattle.reassembly.specs.Laws.Base.{caseB, and-l, and-r, length-table, getD-table}
 use Rattle.reassembly.specs.Base.{table}
-use Rattle.reassembly.specs.Slots.{Slot, Peer, Note, noNote, noteOf, free}
+use Rattle.reassembly.specs.Slots.{Slot, Peer, Note, noNote, noteOf, free, mostPeers, mostSlots}
 use Rattle.reassembly.specs.Take.{Seg, slotNo, storedBytes, AlreadyReceived, Rejection, Rejected, Pending, Complete, NoMemory, Choice, reject, old, fresh}
 use Rattle.reassembly.specs.Take.{chosen, Effect, complete, overlaps, frameIn, finish, placed, furtherSlot, openedSlot, noteAfter, takeSegment, Fits}
 use Rattle.reassembly.specs.Laws.TakeFacts.{not-complete, take-complete, take-rejects}
@@ -31,13 +31,13 @@ length-clear m k = length-sets m (mapStart k) (replicate 192 0)
 placed-length : (p : ℕ) (row : List Slot) (m : List ℕ) (g : Seg) (c : Choice) → length (placed bytesOf p row m g c .mem) ≡ length m
 placed-length p row m g (reject r) = refl
 placed-length p row m g (old s) =
-    caseB (overlaps bytesOf m (4 * p + s) g)
+    caseB (overlaps bytesOf m (slotNo p s) g)
     (λ e. rw e)
-    (λ e. rw e (caseB (complete bytesOf (putAt m (4 * p + s) (g .offset) (g .bytes)) (4 * p + s) (g .frame-length))
-    (λ d. rw d (length-put m (4 * p + s) (g .offset) (g .bytes)))
-    (λ d. rw d (length-put m (4 * p + s) (g .offset) (g .bytes)))))
+    (λ e. rw e (caseB (complete bytesOf (putAt m (slotNo p s) (g .offset) (g .bytes)) (slotNo p s) (g .frame-length))
+    (λ d. rw d (length-put m (slotNo p s) (g .offset) (g .bytes)))
+    (λ d. rw d (length-put m (slotNo p s) (g .offset) (g .bytes)))))
 placed-length p row m g (fresh s) =
-    let k = 4 * p + s in
+    let k = slotNo p s in
     let l : length (putAt (clearAt m k) k (g .offset) (g .bytes)) ≡ length m = length-put (clearAt m k) k (g .offset) (g .bytes) ∙ length-clear m k in
     caseB (complete bytesOf (putAt (clearAt m k) k (g .offset) (g .bytes)) k (g .frame-length)) (λ d. rw d l) (λ d. rw d l)
 
@@ -51,22 +51,22 @@ take-length p row m g =
 -- ---- a complete frame
 
 pub record Whole (p s : ℕ) (m : List ℕ) (g : Seg) : Type 0 where
-  pub is-peer : p < 8
-  pub is-slot : s < 4
+  pub is-peer : p < mostPeers
+  pub is-slot : s < mostSlots
   pub fits : Fits g
   pub memory : 55296 ≤ length m
 
 pub take-whole : (p s : ℕ) (row : Peer) (m : List ℕ) (g : Seg) → takeIn p row m g .outcome ≡ Complete s → Whole p s m g
 unfolding takeIn hasSlots
 take-whole p s row m g e =
-    caseB (ltb p 8 && leb 55296 (length m))
+    caseB (ltb p mostPeers && leb 55296 (length m))
     (λ d.
     let t = take-complete bytesOf p s row m g (rw d at e) in
     record {
-      is-peer = ltb-true p 8 (and-l (ltb p 8) (leb 55296 (length m)) d);
+      is-peer = ltb-true p mostPeers (and-l (ltb p mostPeers) (leb 55296 (length m)) d);
       is-slot = t .0;
       fits = t .1;
-      memory = leb-true 55296 (length m) (and-r (ltb p 8) (leb 55296 (length m)) d);
+      memory = leb-true 55296 (length m) (and-r (ltb p mostPeers) (leb 55296 (length m)) d);
     })
     (λ d. not-complete NoMemory s refl (rw d at e))
 

@@ -11,7 +11,7 @@ use lib.Dec.{ltb, eqb}
 use borrow.Author.Tests.{ltb-true}
 use Rattle.reassembly.specs.Laws.Base.{caseB, below-two}
 use Rattle.reassembly.specs.Base.{someBelow, allBelow, table, within}
-use Rattle.reassembly.specs.Slots.{Note, noMark, older, olderRow, first, bears, isFree}
+use Rattle.reassembly.specs.Slots.{Note, noMark, older, olderRow, first, bears, isFree, mostPeers}
 use Rattle.reassembly.specs.Take.{Seg, Rejection, Empty, FrameLength, PastEnd, OtherLength, AlreadyReceived, NoSlot, rejectionCode, chosen, complete}
 use Rattle.reassembly.specs.Take.{overlaps, frameIn, takeSegment}
 use Rattle.reassembly.specs.Store.{isOn, bitAt, setBit, setBits, slotStart, mapStart, clearAt, putAt, receivedAt, byteAt, bytesOf}
@@ -72,11 +72,11 @@ segIn k = record { identifier = getD k 0 0; frame-length = getD k 1 0; offset = 
 
 abbrev toy : List ℕ → Reading toyAnswers
 toy [] = otherSender (empty 3)
-toy (p ∷ k) = cond (ltb p 8) (segment p (segIn k)) (otherSender (empty 7))
+toy (p ∷ k) = cond (ltb p mostPeers) (segment p (segIn k)) (otherSender (empty 7))
 
 abbrev toySource : List ℕ → Option ℕ
 toySource [] = none
-toySource (p ∷ k) = cond (ltb p 8) (some p) none
+toySource (p ∷ k) = cond (ltb p mostPeers) (some p) none
 
 -- frames that begin with 9 are bad; the rest are tenant 5's
 abbrev toyJudge : ℕ → Note → List ℕ → Verdict toyAnswers
@@ -124,16 +124,16 @@ toy-promise c = record { kept = kept; whose = whose }
   where
     kept : (k : List ℕ) → Kept toyAnswers (toy k)
     kept [] = refl
-    kept (p ∷ k) = caseB (ltb p 8) (λ e. rw e (ltb-true p 8 e)) (λ e. rw e refl)
+    kept (p ∷ k) = caseB (ltb p mostPeers) (λ e. rw e (ltb-true p mostPeers e)) (λ e. rw e refl)
 
     whose : (k : List ℕ) → peerOf toyAnswers (toy k) ≡ toySource k
     whose [] = refl
-    whose (p ∷ k) = caseB (ltb p 8) (λ e. rw e) (λ e. rw e)
+    whose (p ∷ k) = caseB (ltb p mostPeers) (λ e. rw e) (λ e. rw e)
 
 abbrev toySetUp : Endpoint (Unit {0})
 toySetUp = setUp (Unit {0}) (Unit {0}) (λ c a. c) tt []
 
-toy-claim : (p : ℕ) → p < 8 → Claim toyAnswers (Unit {0}) toyLayers toySetUp p
+toy-claim : (p : ℕ) → p < mostPeers → Claim toyAnswers (Unit {0}) toyLayers toySetUp p
 toy-claim p p< = claim toyAnswers (Unit {0}) toyLayers (Unit {0}) (λ c a. c) tt [] (toy-promise tt) p p<
 
 -- two frames of peer 2's pending together, the first backwards; between them a segment of peer 3's under the same identifier, an empty packet, and three ticks

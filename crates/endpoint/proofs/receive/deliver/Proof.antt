@@ -3,7 +3,7 @@
 use Prim.Native.Nat.{_<_, min}
 use mathlib.Core.Path.{_≡_, _∙_, sym}
 use native.Mathlib.Omega.{arith}
-use Rattle.endpoint.specs.Config.{binds}
+use Rattle.endpoint.specs.Config.{binds, mostBindings}
 use Rattle.endpoint.specs.declared.answer.Drop.the-variants as D
 use Rattle.endpoint.specs.Search.{lowest, foundOf}
 use Rattle.endpoint.specs.Laws.Search.{lowest-some}
@@ -44,7 +44,7 @@ found : (c : tie.After-find-binding) →
     let a = c .before .before .before .before .before .before .before .args in
     let f = c .before .before .before .offer2 .given .0 .0 in
     c .find-binding .result ≡ foundOf D.Binding (lowest (binds (a .networks .now) (a .kinds .now) (a .owners .now) (a .peer) (f .kind) (f .network))
-    (min (a .binding-count) 64))
+    (min (a .binding-count) mostBindings))
 found c = found-among _ _ _ _ _ (c .find-binding .ensures) (c .before .least .ensures)
 
 returns-3 : tie.Need-returns-3
@@ -69,11 +69,11 @@ returns-4 c = deliver-bad _ _ _ _ _ _ _ _ _ _ (c .before .before .before .before
 enum-told-3 : tie.Need-enum-told-3
 enum-told-3 c = search needs
 
-below : (c : tie.After-enum-told3) → c .before .before .before .before .before .before .found .given .0 .0 < 64
+below : (c : tie.After-enum-told3) → c .before .before .before .before .before .before .found .given .0 .0 < mostBindings
 below c =
     let h : c .before .before .before .before .before .before .found .given .0 .0
     < min (c .before .before .before .before .before .before .before .before .before .before .before .before .before .before .before .args .binding-count)
-    64 = lowest-some _ _ _ (found-some _ _ _ (sym (found (c .before .before .before .before .before .before .before .before))
+    mostBindings = lowest-some _ _ _ (found-some _ _ _ (sym (found (c .before .before .before .before .before .before .before .before))
     ∙ c .before .before .before .before .before .before .found .given .1)) .below in
     omega arith
 

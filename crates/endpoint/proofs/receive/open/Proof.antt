@@ -11,6 +11,7 @@ use Rattle.endpoint.specs.Laws.Receive.{found-none, found-some, found-am
 use borrow.Author.Needs.{needs}
 use Rattle.endpoint.proofs.receive.open.Statement.{statement}
 use Rattle.endpoint.proofs.receive.open.Tie as tie
+use Rattle.reassembly.specs.Slots.{mostPeers}
 
 other-sender-requires : tie.Need-other-sender-requires
 other-sender-requires c κs = search needs
@@ -65,7 +66,7 @@ enum-told-2 c = search needs
 found : (c : tie.After-find-peer) →
     let a = c .before .before .before .before .before .before .before .before .before .before .args in
     c .find-peer .result ≡ foundOf D.Peer (lowest (hasAddress (a .addresses .now) (c .before .before .before .before .before .ip .given .0 .0 .source))
-    (min (a .peer-count) 8))
+    (min (a .peer-count) mostPeers))
 found c = found-among _ _ _ _ _ (c .find-peer .ensures) (c .before .least .ensures)
 
 other-sender-requires-4 : tie.Need-other-sender-requires-4

@@ -10,11 +10,12 @@ use Rattle.endpoint.specs.Laws.Promises.{receive-promised}
 use borrow.Author.Needs.{needs}
 use Rattle.endpoint.proofs.receive.receive.Statement.{statement}
 use Rattle.endpoint.proofs.receive.receive.Tie as tie
+use Rattle.reassembly.specs.Slots.{mostPeers}
 
 open-requires : tie.Need-open-requires
 open-requires c κs = search needs
 
-below : (c : tie.After-open) → c .«open» .result .peer < 8
+below : (c : tie.After-open) → c .«open» .result .peer < mostPeers
 below c =
     let a = c .before .before .before .before .before .args in
     rw (c .«open» .ensures) (open-below (a .t1) (a .packet .now) (length (a .memory .now)))

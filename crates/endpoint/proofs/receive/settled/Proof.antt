@@ -9,6 +9,7 @@ use Rattle.endpoint.specs.Laws.Receive.{lies-complete, settled-rejected,
 use borrow.Author.Needs.{needs}
 use Rattle.endpoint.proofs.receive.settled.Statement.{statement}
 use Rattle.endpoint.proofs.receive.settled.Tie as tie
+use Rattle.reassembly.specs.Slots.{mostPeers, mostSlots}
 
 enum-known-outcome : tie.Need-enum-known-outcome
 enum-known-outcome c = search needs
@@ -25,7 +26,7 @@ enum-known-outcome-2 c = search needs
 -- a complete frame lies in the memory
 whole : (c : tie.After-known-told2) →
     let a = c .before .before .before .before .args in
-    (a .peer < 8) × ((c .before .outcome2 .given .0 .0 < 4) × ((a .size ≤ 1532) × (55296 ≤ length (a .memory .now))))
+    (a .peer < mostPeers) × ((c .before .outcome2 .given .0 .0 < mostSlots) × ((a .size ≤ 1532) × (55296 ≤ length (a .memory .now))))
 whole c = lies-complete _ _ _ _ _ (c .before .before .before .before .pre) (c .before .outcome2 .given .1)
 
 mul-at : tie.Need-mul-at

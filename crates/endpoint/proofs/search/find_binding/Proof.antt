@@ -4,7 +4,7 @@ use mathlib.Core.Path.{_≡_, _∙_, sym}
 use mathlib.Core.Bool.{false}
 use Prim.Native.Nat.{ℕ, _+_, _≤_, _<_, _-_, _%_}
 use native.Mathlib.Omega.{arith}
-use Rattle.endpoint.specs.Config.{binds}
+use Rattle.endpoint.specs.Config.{binds, mostBindings}
 use Rattle.reassembly.specs.Laws.Base.{more-not}
 use Rattle.endpoint.specs.Laws.Search.{found-at, found-nothing}
 use Rattle.endpoint.proofs.search.find_binding.Statement.{statement}
@@ -12,10 +12,10 @@ use Rattle.endpoint.proofs.search.find_binding.Tie as tie
 
 abbrev Inv-loop : tie.InvT-loop
 Inv-loop networks kinds owners n peer kind network i₀ i =
-    ((i % 2 ≡ 0) × ((i ≤ 64) × (n ≤ 64))) × ((j : ℕ) → j < i → binds networks kinds owners peer kind network j ≡ false)
+    ((i % 2 ≡ 0) × ((i ≤ mostBindings) × (n ≤ mostBindings))) × ((j : ℕ) → j < i → binds networks kinds owners peer kind network j ≡ false)
 
 abbrev μ-loop : tie.MeasureT-loop
-μ-loop networks kinds owners n peer kind network i₀ i = 64 - i
+μ-loop networks kinds owners n peer kind network i₀ i = mostBindings - i
 
 loop-holds : tie.Need-loop-holds Inv-loop μ-loop
 loop-holds c = ((omega arith, (omega arith, c .pre)), λ j h. absurd (omega arith))

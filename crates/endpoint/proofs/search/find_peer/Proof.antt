@@ -9,12 +9,13 @@ use Rattle.reassembly.specs.Laws.Base.{more-not}
 use Rattle.endpoint.specs.Laws.Search.{found-at, found-nothing, has-address, other-address}
 use Rattle.endpoint.proofs.search.find_peer.Statement.{statement}
 use Rattle.endpoint.proofs.search.find_peer.Tie as tie
+use Rattle.reassembly.specs.Slots.{mostPeers}
 
 abbrev Inv-loop : tie.InvT-loop
-Inv-loop addresses n address i₀ i = (i ≤ 8) × ((j : ℕ) → j < i → hasAddress addresses address j ≡ false)
+Inv-loop addresses n address i₀ i = (i ≤ mostPeers) × ((j : ℕ) → j < i → hasAddress addresses address j ≡ false)
 
 abbrev μ-loop : tie.MeasureT-loop
-μ-loop addresses n address i₀ i = 8 - i
+μ-loop addresses n address i₀ i = mostPeers - i
 
 loop-holds : tie.Need-loop-holds Inv-loop μ-loop
 loop-holds c = (omega arith, λ j h. absurd (omega arith))

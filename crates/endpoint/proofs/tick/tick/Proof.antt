@@ -13,15 +13,16 @@ use Rattle.endpoint.specs.Laws.Tick.{olderBefore, none-older, one-older,
 use Rattle.endpoint.proofs.Sizes.{eight-rows}
 use Rattle.endpoint.proofs.tick.tick.Statement.{statement}
 use Rattle.endpoint.proofs.tick.tick.Tie as tie
+use Rattle.reassembly.specs.Slots.{mostPeers}
 
 abbrev ticked : Endpoint → TickResult
 ticked e = record { endpoint = e; answer = T.Done }
 
 abbrev Inv-loop : tie.InvT-loop
-Inv-loop next₀ p₀ next p = (p ≤ 8) × (next ≡ withRows next₀ (olderBefore (next₀ .peers) p))
+Inv-loop next₀ p₀ next p = (p ≤ mostPeers) × (next ≡ withRows next₀ (olderBefore (next₀ .peers) p))
 
 abbrev μ-loop : tie.MeasureT-loop
-μ-loop next₀ p₀ next p = 8 - p
+μ-loop next₀ p₀ next p = mostPeers - p
 
 loop-holds : tie.Need-loop-holds Inv-loop μ-loop
 loop-holds c = (omega arith, none-older (c .args .e))

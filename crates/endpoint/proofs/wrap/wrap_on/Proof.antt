@@ -6,12 +6,13 @@ use mathlib.Core.Path.{_∙_, sym, ap}
 use native.Mathlib.Omega.{arith}
 use lib.ListN.{getD}
 use Rattle.endpoint.specs.declared.config.Endpoint.{Endpoint}
-use Rattle.endpoint.specs.Config.{lent}
+use Rattle.endpoint.specs.Config.{lent, mostBindings}
 use Rattle.endpoint.specs.Wrap.{Wrote}
 use Rattle.endpoint.specs.Laws.WrapExits.{wrap-unlisted, wrap-ownerless, wrap-sends}
 use borrow.Author.Needs.{needs}
 use Rattle.endpoint.proofs.wrap.wrap_on.Statement.{statement}
 use Rattle.endpoint.proofs.wrap.wrap_on.Tie as tie
+use Rattle.reassembly.specs.Slots.{mostPeers}
 
 least-requires : tie.Need-least-requires
 least-requires c κs = search needs
@@ -19,7 +20,7 @@ least-requires c κs = search needs
 returns : tie.Need-returns
 returns c =
     let a = c .before .before .before .before .args in
-    let h : min (a .binding-count) 64 ≤ a .binding = omega (arith, c .before .least .ensures) in
+    let h : min (a .binding-count) mostBindings ≤ a .binding = omega (arith, c .before .least .ensures) in
     wrap-unlisted _ (a .binding) (a .frame .now) (a .segment) (a .identifier) (a .output .now) h
 
 element-copy-out-owner : tie.Need-element-copy-out-owner
@@ -28,7 +29,7 @@ element-copy-out-owner c = search needs
 returns-2 : tie.Need-returns-2
 returns-2 c =
     let a = c .before .before .before .before .before .before .args in
-    let h : a .binding < min (a .binding-count) 64 = omega (arith, c .before .before .before .least .ensures) in
+    let h : a .binding < min (a .binding-count) mostBindings = omega (arith, c .before .before .before .least .ensures) in
     wrap-ownerless _ (a .binding) (a .frame .now) (a .segment) (a .identifier) (a .output .now) h (c .if2 .taken)
 
 cast-p : tie.Need-cast-p
@@ -59,11 +60,11 @@ returns-3 : tie.Need-returns-3
 returns-3 c =
     let a = c .before .before .before .before .before .before .before .before .before .before .before .before .before .args in
     let e : Endpoint = lent (a .networks .now) (a .kinds .now) (a .owners .now) [] (a .addresses .now) (a .own) (a .port) (a .mtu) 0 (a .binding-count) in
-    let h : a .binding < min (a .binding-count) 64 = omega (
+    let h : a .binding < min (a .binding-count) mostBindings = omega (
       arith,
       c .before .before .before .before .before .before .before .before .before .before .least .ensures,
     ) in
-    let o : getD (a .owners .now) (a .binding) 0 < 8 = omega arith in
+    let o : getD (a .owners .now) (a .binding) 0 < mostPeers = omega arith in
     let same = wrap-sends e (a .binding) (a .frame .now) (a .segment) (a .identifier) (a .output .now) h o in (
       c .before .before .send .ensures .0 ∙ ap (λ (w : Wrote). w .answer) (sym same),
       c .before .before .send .ensures .1

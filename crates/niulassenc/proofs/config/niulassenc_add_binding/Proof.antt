@@ -47,7 +47,7 @@ use denote.Triple.Walked.{says, Stays, stay-ref, stay-none, walkOf, AllGo, goes-
 use denote.Triple.Clauses.{ensured, lasts}
 use denote.Exit.{yes}
 use Rattle.endpoint.specs.declared.config.Endpoint.{Endpoint}
-use Rattle.endpoint.specs.Config.{bindingsOf, addBindingOf}
+use Rattle.endpoint.specs.Config.{bindingsOf, addBindingOf, mostBindings}
 use Rattle.endpoint.specs.Laws.ConfigExits.{withBindings}
 use Rattle.endpoint.proofs.config.Endpoint as T
 use Rattle.endpoint.proofs.config.Endpoint.Laws as T′
@@ -67,6 +67,7 @@ use Rattle.niulassenc.proofs.config.niulassenc_add_binding.Key.{name as
 use Rattle.niulassenc.proofs.config.niulassenc_add_binding as f
 use Rattle.niulassenc.proofs.config.niulassenc_add_binding.Statement as stated
 use Rattle.niulassenc.proofs.config.niulassenc_add_binding.Code as code
+use Rattle.niulassenc.proofs.Offsets.{networksAt, tenantsAt, peerCountAt, bindingCountAt, kindsAt, ownersAt}
 
 abbrev stayed : Stays (f.ended .signature .params) (f.ended .kept)
 stayed = (
@@ -127,20 +128,20 @@ module _ {M : Type 1} (𝓤 : URA M) (H : Heap 𝓤) (A : Atoms 𝓤) (W : Given
     args = (
       record { ptr = (b, o + 0); name = g .0; now = h .networks },
       (
-        record { ptr = (b, o + 940); name = g .1 .0; now = h .kinds },
+        record { ptr = (b, o + kindsAt); name = g .1 .0; now = h .kinds },
         (
           record {
             ptr =
-                (b, o + 1004);
+                (b, o + ownersAt);
             name = g .1 .1 .0;
             now = h .owners;
           },
           (
-            record { ptr = (b, o + 804); name = g .1 .1 .1 .0; now = h .tenants },
+            record { ptr = (b, o + tenantsAt); name = g .1 .1 .1 .0; now = h .tenants },
             (
               record {
                 ptr =
-                    (b, o + 938);
+                    (b, o + bindingCountAt);
                 name = g .1 .1 .1 .1;
                 now = h .«binding_count»;
               },
@@ -153,15 +154,15 @@ module _ {M : Type 1} (𝓤 : URA M) (H : Heap 𝓤) (A : Atoms 𝓤) (W : Given
 
     abbrev vals : Vals adding.signature κs
     vals = (
-      vptr b (o + 0) ∷ [],
+      vptr b (o + networksAt) ∷ [],
       (
-        vptr b (o + 940) ∷ [],
+        vptr b (o + kindsAt) ∷ [],
         (
-          vptr b (o + 1004) ∷ [],
+          vptr b (o + ownersAt) ∷ [],
           (
-            vptr b (o + 804) ∷ [],
+            vptr b (o + tenantsAt) ∷ [],
             (
-              vptr b (o + 938) ∷ [],
+              vptr b (o + bindingCountAt) ∷ [],
               (
                 vint w16
                     (h .«peer_count») ∷ [],
@@ -228,16 +229,22 @@ module _ {M : Type 1} (𝓤 : URA M) (H : Heap 𝓤) (A : Atoms 𝓤) (W : Given
         spelt ! T.the-row (Is T.the-row) (shows 𝓤 H A T.the-row) (LL.vals T.the-type T′.the-laws) (LL.tells T.the-type T′.the-laws) fullShare h vs b o $
         move ! (1 ∷ []) $ peeks ! T.the-row (Is T.the-row) (shows 𝓤 H A T.the-row) h (mach ∷ []) (λ was. move ! (1 ∷ 0 ∷ []) $
         -- [the endpoint's cell; what it owns; the open borrow; obs; auth; _11; …; _0; …]
-        assigns ! (addr ! (from ! (hop ! (look ! 25 refl) (fld ! {τ = tyArray (tyInt w64) 64} {d = 0} refl (stop !))))) (from ! (stop !)) (init ! 15 refl
+        assigns ! (addr ! (from ! (hop ! (look ! 25 refl) (fld ! {τ = tyArray (tyInt w64) mostBindings} {d = networksAt} refl (stop !))))) (from ! (stop !))
+        (init ! 15 refl
         (tt, tt)) $
-        assigns ! (addr ! (from ! (hop ! (look ! 25 refl) (fld ! {τ = tyArray (tyInt w8) 64} {d = 940} refl (stop !))))) (from ! (stop !)) (init ! 13 refl
+        assigns ! (addr ! (from ! (hop ! (look ! 25 refl) (fld ! {τ = tyArray (tyInt w8) mostBindings} {d = kindsAt} refl (stop !))))) (from ! (stop !))
+        (init ! 13 refl
         (tt, tt)) $
-        assigns ! (addr ! (from ! (hop ! (look ! 25 refl) (fld ! {τ = tyArray (tyInt w8) 64} {d = 1004} refl (stop !))))) (from ! (stop !)) (init ! 11 refl
+        assigns ! (addr ! (from ! (hop ! (look ! 25 refl) (fld ! {τ = tyArray (tyInt w8) mostBindings} {d = ownersAt} refl (stop !))))) (from ! (stop !))
+        (init ! 11 refl
         (tt, tt)) $
-        assigns ! (addr ! (from ! (hop ! (look ! 25 refl) (fld ! {τ = tyArray (tyInt w16) 64} {d = 804} refl (stop !))))) (from ! (stop !)) (init ! 9 refl
+        assigns ! (addr ! (from ! (hop ! (look ! 25 refl) (fld ! {τ = tyArray (tyInt w16) mostBindings} {d = tenantsAt} refl (stop !))))) (from ! (stop !))
+        (init ! 9 refl
         (tt, tt)) $
-        assigns ! (addr ! (from ! (hop ! (look ! 25 refl) (fld ! {τ = tyInt w16} {d = 938} refl (stop !))))) (from ! (stop !)) (init ! 7 refl (tt, tt)) $
-        assigns ! (of-opd ! (load ! (from ! (hop ! (look ! 25 refl) (fld ! {τ = tyInt w16} {d = 936} refl (stop !)))) (look-in ! 0 (sub ! 7 refl (whole !)))))
+        assigns ! (addr ! (from ! (hop ! (look ! 25 refl) (fld ! {τ = tyInt w16} {d = bindingCountAt} refl (stop !))))) (from ! (stop !)) (init ! 7 refl
+        (tt, tt)) $
+        assigns ! (of-opd ! (load ! (from ! (hop ! (look ! 25 refl) (fld ! {τ = tyInt w16} {d = peerCountAt} refl (stop !)))) (look-in ! 0 (sub ! 7 refl
+        (whole !)))))
         (from ! (stop !)) (init ! 5 refl (tt, record { fits = peers-fit h was })) $
         -- the fields are lent
         use2 W (‵ (partAt T.the-row fullShare h b o)) (lies-in 𝓤 H A W fullShare T.the-row h b o (mach ∷ [])) $ lft-new ! tt (λ α₀. lft-new ! tt (λ α₁.

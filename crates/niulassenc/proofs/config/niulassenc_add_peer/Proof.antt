@@ -67,6 +67,8 @@ use Rattle.niulassenc.proofs.config.niulassenc_add_peer.Key.{name as #t
 use Rattle.niulassenc.proofs.config.niulassenc_add_peer as f
 use Rattle.niulassenc.proofs.config.niulassenc_add_peer.Statement as stated
 use Rattle.niulassenc.proofs.config.niulassenc_add_peer.Code as code
+use Rattle.niulassenc.proofs.Offsets.{addressesAt, ownAt, portAt, peerCountAt}
+use Rattle.reassembly.specs.Slots.{mostPeers}
 
 abbrev stayed : Stays (f.ended .signature .params) (f.ended .kept)
 stayed = (stay-ref (0 ∷ []) tt (plain (λ _. T.the-row)), (stay-none (λ _. u32) yes, tt))
@@ -105,9 +107,9 @@ module _ {M : Type 1} (𝓤 : URA M) (H : Heap 𝓤) (A : Atoms 𝓤) (W : Given
 
     abbrev args : Args adding.signature κs
     args = (
-      record { ptr = (b, o + 768); name = g .0; now = h .addresses },
+      record { ptr = (b, o + addressesAt); name = g .0; now = h .addresses },
       (
-        record { ptr = (b, o + 936); name = g .1; now = h .«peer_count» },
+        record { ptr = (b, o + peerCountAt); name = g .1; now = h .«peer_count» },
         (
           h .own,
           (h .port, (n, tt)),
@@ -116,7 +118,7 @@ module _ {M : Type 1} (𝓤 : URA M) (H : Heap 𝓤) (A : Atoms 𝓤) (W : Given
     )
 
     abbrev vals : Vals adding.signature κs
-    vals = (vptr b (o + 768) ∷ [], (vptr b (o + 936) ∷ [], (vint w32 (h .own) ∷ [], (vint w16 (h .port) ∷ [], (vint w32 n ∷ [], tt)))))
+    vals = (vptr b (o + addressesAt) ∷ [], (vptr b (o + peerCountAt) ∷ [], (vint w32 (h .own) ∷ [], (vint w16 (h .port) ∷ [], (vint w32 n ∷ [], tt)))))
 
     abbrev to : Adds 𝓤 H A at-mem run .Ghost
     to = ((κs, (fullShare, (fullShare, tt)), tt, args, vals), tt)
@@ -161,12 +163,15 @@ module _ {M : Type 1} (𝓤 : URA M) (H : Heap 𝓤) (A : Atoms 𝓤) (W : Given
         spelt ! T.the-row (Is T.the-row) (shows 𝓤 H A T.the-row) (LL.vals T.the-type T′.the-laws) (LL.tells T.the-type T′.the-laws) fullShare h vs b o $
         move ! (1 ∷ []) $ peeks ! T.the-row (Is T.the-row) (shows 𝓤 H A T.the-row) h (mach ∷ []) (λ was. move ! (1 ∷ 0 ∷ []) $
         -- [the endpoint's cell; what it owns; the open borrow; obs; auth; _6; …; _0; …]
-        assigns ! (addr ! (from ! (hop ! (look ! 15 refl) (fld ! {τ = tyArray (tyInt w32) 8} {d = 768} refl (stop !))))) (from ! (stop !)) (init ! 11 refl
+        assigns ! (addr ! (from ! (hop ! (look ! 15 refl) (fld ! {τ = tyArray (tyInt w32) mostPeers} {d = addressesAt} refl (stop !))))) (from ! (stop !))
+        (init ! 11 refl
         (tt, tt)) $
-        assigns ! (addr ! (from ! (hop ! (look ! 15 refl) (fld ! {τ = tyInt w16} {d = 936} refl (stop !))))) (from ! (stop !)) (init ! 9 refl (tt, tt)) $
-        assigns ! (of-opd ! (load ! (from ! (hop ! (look ! 15 refl) (fld ! {τ = tyInt w32} {d = 800} refl (stop !)))) (look-in ! 0 (sub ! 3 refl (whole !)))))
+        assigns ! (addr ! (from ! (hop ! (look ! 15 refl) (fld ! {τ = tyInt w16} {d = peerCountAt} refl (stop !))))) (from ! (stop !)) (init ! 9 refl
+        (tt, tt)) $
+        assigns ! (of-opd ! (load ! (from ! (hop ! (look ! 15 refl) (fld ! {τ = tyInt w32} {d = ownAt} refl (stop !)))) (look-in ! 0 (sub ! 3 refl (whole !)))))
         (from ! (stop !)) (init ! 7 refl (tt, record { fits = own-fits h was })) $
-        assigns ! (of-opd ! (load ! (from ! (hop ! (look ! 15 refl) (fld ! {τ = tyInt w16} {d = 932} refl (stop !)))) (look-in ! 0 (sub ! 5 refl (whole !)))))
+        assigns ! (of-opd ! (load ! (from ! (hop ! (look ! 15 refl) (fld ! {τ = tyInt w16} {d = portAt} refl (stop !)))) (look-in ! 0 (sub ! 5 refl
+        (whole !)))))
         (from ! (stop !)) (init ! 5 refl (tt, record { fits = port-fits h was })) $
         -- the fields are lent
         use2 W (‵ (partAt T.the-row fullShare h b o)) (lies-in 𝓤 H A W fullShare T.the-row h b o (mach ∷ [])) $ lft-new ! tt (λ α₀. lft-new ! tt (λ α₁.

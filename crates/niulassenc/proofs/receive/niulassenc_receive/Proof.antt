@@ -70,6 +70,8 @@ use Rattle.niulassenc.proofs.receive.niulassenc_receive.Key.{name as #t
 use Rattle.niulassenc.proofs.receive.niulassenc_receive as f
 use Rattle.niulassenc.proofs.receive.niulassenc_receive.Statement as stated
 use Rattle.niulassenc.proofs.receive.niulassenc_receive.Code as code
+use Rattle.niulassenc.proofs.Offsets.{peersAt}
+use Rattle.reassembly.specs.Slots.{mostPeers}
 
 abbrev stayed : Stays (f.ended .signature .params) (f.ended .kept)
 stayed = (stay-ref (0 ∷ []) tt (plain (λ _. T.the-row)), (stay-none-slice (1 ∷ []) tt (plain (λ _. u8)) yes, (gave-slice (2 ∷ []) tt (plain (λ _. u8)), tt)))
@@ -144,7 +146,7 @@ module _ {M : Type 1} (𝓤 : URA M) (H : Heap 𝓤) (A : Atoms 𝓤) (W : Given
         (2 ∷ 0 ∷ []) $ join ! $ move ! (1 ∷ 0 ∷ []) $ join ! $
         move ! (1 ∷ 2 ∷ []) $ join ! $ join ! $ frame ! $ done !
 
-  below : (r : PeerUpdate) {zs : List ℕ} → Says r zs → r .peer < 8
+  below : (r : PeerUpdate) {zs : List ℕ} → Says r zs → r .peer < mostPeers
   below r e = outcome-below h (m .now) (p .now) r (e .0)
 
   -- what whoever holds the result knows of its fields
@@ -219,7 +221,7 @@ module _ {M : Type 1} (𝓤 : URA M) (H : Heap 𝓤) (A : Atoms 𝓤) (W : Given
         (init ! 20 refl (tt, record { fits = peer-fits r v is })) $
         assigns ! (bin ! (load ! (from ! (stop !)) (look ! 20 refl)) (lit ! tt) (record { fits = offset-fits (r .peer) (below r e) })) (from ! (stop !))
         (init ! 12 refl (tt, record { fits = offset-fits (r .peer) (below r e) })) $
-        assigns ! (addr ! (from ! (hop ! (look ! 28 refl) (fld ! {d = 512} refl (stop !))))) (from ! (stop !)) (init ! 10 refl (tt, tt)) $
+        assigns ! (addr ! (from ! (hop ! (look ! 28 refl) (fld ! {d = peersAt} refl (stop !))))) (from ! (stop !)) (init ! 10 refl (tt, tt)) $
         assigns ! (bin ! (load ! (from ! (stop !)) (look ! 10 refl)) (load ! (from ! (stop !)) (look ! 12 refl)) tt) (from ! (stop !))
         (init ! 8 refl (tt, tt)) $
         -- the loan is over: the endpoint is back, and the row is reached

@@ -62,6 +62,8 @@ use Rattle.niulassenc.proofs.receive.opened.Key.{name as #this}
 use Rattle.niulassenc.proofs.receive.opened as f
 use Rattle.niulassenc.proofs.receive.opened.Statement as stated
 use Rattle.niulassenc.proofs.receive.opened.Code as code
+use Rattle.niulassenc.proofs.Offsets.{addressesAt, ownAt, portAt, peerCountAt}
+use Rattle.reassembly.specs.Slots.{mostPeers}
 
 abbrev stayed : Stays (f.ended .signature .params) (f.ended .kept)
 stayed = (stay-none-ref (0 ∷ []) tt (plain (λ _. T.the-row)) yes, (stay-none-slice (1 ∷ []) tt (plain (λ _. u8)) yes, (stay-none (λ _. u64) yes, tt)))
@@ -109,12 +111,12 @@ module _ {M : Type 1} (𝓤 : URA M) (H : Heap 𝓤) (A : Atoms 𝓤) (W : Given
   Says x = x ≡ openedBy h (p .now) n
 
   abbrev Addresses : GName → Fml
-  Addresses g = Field 𝓤 H A W (Array u32 8) (named 0) κe (h .addresses) b (o + 768) g
+  Addresses g = Field 𝓤 H A W (Array u32 mostPeers) (named 0) κe (h .addresses) b (o + addressesAt) g
 
   -- the call of `open`
   module _ (was : Is T.the-row h (mach ∷ [])) (g : GName) where
     abbrev args : Args opening.signature κs
-    args = (col b o (h .addresses) 768 g, (h .own, (h .port, (h .«peer_count», (p, (n, tt))))))
+    args = (col b o (h .addresses) addressesAt g, (h .own, (h .port, (h .«peer_count», (p, (n, tt))))))
 
     abbrev to : Opens 𝓤 H A at-mem run .Ghost
     to = (
@@ -124,7 +126,7 @@ module _ {M : Type 1} (𝓤 : URA M) (H : Heap 𝓤) (A : Atoms 𝓤) (W : Given
         tt,
         args,
         (
-          vptr b (o + 768) ∷ [],
+          vptr b (o + addressesAt) ∷ [],
           (
             vint w32 (h .own) ∷ [],
             (vint w16 (h .port) ∷ [], (vint w16 (h .«peer_count») ∷ [], (vp ∷ [], (vint w64 n ∷ [], tt)))),
@@ -173,13 +175,15 @@ module _ {M : Type 1} (𝓤 : URA M) (H : Heap 𝓤) (A : Atoms 𝓤) (W : Given
         spelt ! T.the-row (Is T.the-row) (shows 𝓤 H A T.the-row) (LL.vals T.the-type T′.the-laws) (LL.tells T.the-type T′.the-laws) q′ h vs b o $
         move ! (1 ∷ []) $ peeks ! T.the-row (Is T.the-row) (shows 𝓤 H A T.the-row) h (mach ∷ []) (λ was. move ! (1 ∷ 0 ∷ []) $
         -- [a share of the endpoint's cell; what it owns; what shuts it; the borrow; _7; …; _0; …; res; packet; packet; the other token]
-        assigns ! (addr ! (from ! (hop ! (look ! 16 refl) (fld ! {τ = tyArray (tyInt w32) 8} {d = 768} refl (stop !))))) (from ! (stop !))
+        assigns ! (addr ! (from ! (hop ! (look ! 16 refl) (fld ! {τ = tyArray (tyInt w32) mostPeers} {d = addressesAt} refl (stop !))))) (from ! (stop !))
         (init ! 10 refl (tt, tt)) $
-        assigns ! (of-opd ! (load ! (from ! (hop ! (look ! 16 refl) (fld ! {τ = tyInt w32} {d = 800} refl (stop !)))) (look-in ! 0 (sub ! 3 refl (whole !)))))
+        assigns ! (of-opd ! (load ! (from ! (hop ! (look ! 16 refl) (fld ! {τ = tyInt w32} {d = ownAt} refl (stop !)))) (look-in ! 0 (sub ! 3 refl (whole !)))))
         (from ! (stop !)) (init ! 8 refl (tt, record { fits = own-fits h was })) $
-        assigns ! (of-opd ! (load ! (from ! (hop ! (look ! 16 refl) (fld ! {τ = tyInt w16} {d = 932} refl (stop !)))) (look-in ! 0 (sub ! 5 refl (whole !)))))
+        assigns ! (of-opd ! (load ! (from ! (hop ! (look ! 16 refl) (fld ! {τ = tyInt w16} {d = portAt} refl (stop !)))) (look-in ! 0 (sub ! 5 refl
+        (whole !)))))
         (from ! (stop !)) (init ! 6 refl (tt, record { fits = port-fits h was })) $
-        assigns ! (of-opd ! (load ! (from ! (hop ! (look ! 16 refl) (fld ! {τ = tyInt w16} {d = 936} refl (stop !)))) (look-in ! 0 (sub ! 7 refl (whole !)))))
+        assigns ! (of-opd ! (load ! (from ! (hop ! (look ! 16 refl) (fld ! {τ = tyInt w16} {d = peerCountAt} refl (stop !)))) (look-in ! 0 (sub ! 7 refl
+        (whole !)))))
         (from ! (stop !)) (init ! 4 refl (tt, record { fits = peers-fit h was })) $
         shuts ! tt T.the-row q′ h (mach ∷ []) b o $ move ! (1 ∷ 0 ∷ []) $
         use2 W (later (some (λ (g : GName). ‵ (Addresses g) ⊛ (‵ Shared ⊛ ‵ (flft κe qe)))))

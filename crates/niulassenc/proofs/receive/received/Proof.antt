@@ -75,6 +75,8 @@ use Rattle.niulassenc.proofs.receive.received.Key.{name as #this}
 use Rattle.niulassenc.proofs.receive.received as f
 use Rattle.niulassenc.proofs.receive.received.Statement as stated
 use Rattle.niulassenc.proofs.receive.received.Code as code
+use Rattle.niulassenc.proofs.Offsets.{peersAt}
+use Rattle.reassembly.specs.Slots.{mostPeers}
 
 abbrev stayed : Stays (f.ended .signature .params) (f.ended .kept)
 stayed = (
@@ -176,11 +178,11 @@ module _ {M : Type 1} (𝓤 : URA M) (H : Heap 𝓤) (A : Atoms 𝓤) (W : Given
         move ! (2 ∷ 0 ∷ []) $ join ! $ move ! (1 ∷ 0 ∷ []) $ join ! $ move ! (1 ∷ 2 ∷ []) $ join ! $ move ! (2 ∷ 0 ∷ []) $ join ! $ join ! $ frame ! $ done !
 
   -- it is put back where it was
-  stays : (q : Share) (n : ℕ) → n < 8 → ent 𝓤 (Reached 𝓤 H A W q h n b o (rowPlace o n) (rowAt h n)) (sem 𝓤 H A (partAt T.the-row q h b o))
+  stays : (q : Share) (n : ℕ) → n < mostPeers → ent 𝓤 (Reached 𝓤 H A W q h n b o (rowPlace o n) (rowAt h n)) (sem 𝓤 H A (partAt T.the-row q h b o))
   stays q n l = subst (λ (e : Endpoint). ent 𝓤 (Reached 𝓤 H A W q h n b o (rowPlace o n) (rowAt h n)) (sem 𝓤 H A (partAt T.the-row q e b o))) (same-row h n)
       (comes-back 𝓤 H A W q h n b o l (rowAt h n))
 
-  below : (x : Arrival) → Saw x → x .peer < 8
+  below : (x : Arrival) → Saw x → x .peer < mostPeers
   below x saw = arrival-listed h (m .now) (p .now) x saw
 
   peer-fits : (x : Arrival) (v : Val) → Is S.the-row x (v ∷ []) → x .peer < 2 ^ 64
@@ -237,7 +239,7 @@ module _ {M : Type 1} (𝓤 : URA M) (H : Heap 𝓤) (A : Atoms 𝓤) (W : Given
         (init ! 17 refl (tt, record { fits = peer-fits x v is })) $
         assigns ! (bin ! (load ! (from ! (stop !)) (look ! 17 refl)) (lit ! tt) (record { fits = offset-fits (x .peer) (below x saw) })) (from ! (stop !))
         (store ! 13 refl (tt, record { fits = offset-fits (x .peer) (below x saw) })) $
-        assigns ! (addr ! (from ! (hop ! (look ! 25 refl) (fld ! {d = 512} refl (stop !))))) (from ! (stop !)) (init ! 11 refl (tt, tt)) $
+        assigns ! (addr ! (from ! (hop ! (look ! 25 refl) (fld ! {d = peersAt} refl (stop !))))) (from ! (stop !)) (init ! 11 refl (tt, tt)) $
         assigns ! (bin ! (load ! (from ! (stop !)) (look ! 11 refl)) (load ! (from ! (stop !)) (look ! 13 refl)) tt) (from ! (stop !))
         (init ! 9 refl (tt, tt)) $
         -- the borrow is looked into; the row is reached, and read

@@ -50,7 +50,7 @@ use denote.Triple.Spec.{Meets, tripleOf}
 use denote.Triple.Table.{entered, cited}
 use denote.Triple.Walked.{says, Stays, stay-ref, walkOf, AllGo, goes-ref, Walks, ends-at, walked, walk-meets}
 use denote.Triple.Clauses.{ensured, lasts}
-use Rattle.reassembly.specs.Slots.{olderRow}
+use Rattle.reassembly.specs.Slots.{olderRow, mostPeers}
 use Rattle.reassembly.specs.declared.slot.Peer.{Peer}
 use Rattle.endpoint.specs.declared.answer.Tick.{Tick}
 use Rattle.endpoint.specs.declared.answer.Tick.the-variants as K
@@ -73,6 +73,7 @@ use Rattle.niulassenc.proofs.tick.niulassenc_tick.Key.{name as #this}
 use Rattle.niulassenc.proofs.tick.niulassenc_tick as f
 use Rattle.niulassenc.proofs.tick.niulassenc_tick.Statement as stated
 use Rattle.niulassenc.proofs.tick.niulassenc_tick.Code as code
+use Rattle.niulassenc.proofs.Offsets.{peersAt}
 
 abbrev stayed : Stays (f.ended .signature .params) (f.ended .kept)
 stayed = (stay-ref (0 ∷ []) tt (plain (λ _. T.the-row)), tt)
@@ -114,10 +115,11 @@ ty k = tyAt (code.function .locals) k
 abbrev aged : Endpoint → ℕ → Endpoint
 aged h p = withRows h (olderBefore (h .peers) p)
 
-eight-rows : (h : Endpoint) → Is T.the-row h (LL.vals T.the-type T′.the-laws h) → length (h .peers) ≡ 8
+eight-rows : (h : Endpoint) → Is T.the-row h (LL.vals T.the-type T′.the-laws h) → length (h .peers) ≡ mostPeers
 eight-rows h is = sym (length-map (h .peers) _) ∙ LL.owed T.the-type T′.the-laws h (LL.vals T.the-type T′.the-laws h) is .1 .0 .1 .0 .1
 
-older-row : (h : Endpoint) (p : ℕ) (r : Peer) → length (h .peers) ≡ 8 → p < 8 → r ≡ olderRow (rowAt (aged h p) p) → withRow (aged h p) p r ≡ aged h (p + 1)
+older-row : (h : Endpoint) (p : ℕ) (r : Peer) → length (h .peers) ≡ mostPeers → p < mostPeers → r ≡ olderRow (rowAt (aged h p) p) → withRow (aged h p) p r
+    ≡ aged h (p + 1)
 older-row h p r eight l e = one-older h (aged h p) p r (omega (arith, eight)) refl e
 
 -- the only answer
@@ -170,15 +172,15 @@ module _ {M : Type 1} (𝓤 : URA M) (H : Heap 𝓤) (A : Atoms 𝓤) (W : Given
   -- ---- the loop: how many peers' rows are older
 
   abbrev Upto : Type 0
-  Upto = (i : ℕ) × (i ≤ 8)
+  Upto = (i : ℕ) × (i ≤ mostPeers)
 
   abbrev Nearer : Upto → Upto → Type 0
-  Nearer j i = 8 - j .0 < 8 - i .0
+  Nearer j i = mostPeers - j .0 < mostPeers - i .0
 
   Nearer-wf : WellFounded Nearer
-  Nearer-wf = InvImage·wf (λ (i : Upto). 8 - i .0) (Nat·lt-wfRel .wf)
+  Nearer-wf = InvImage·wf (λ (i : Upto). mostPeers - i .0) (Nat·lt-wfRel .wf)
 
-  module _ (𝓣 : Tables 𝓤 H) (known : Triple 𝓤 (𝓣 .C #ageing) (Ages 𝓤 H A at-mem run)) (eight : length (h .peers) ≡ 8)
+  module _ (𝓣 : Tables 𝓤 H) (known : Triple 𝓤 (𝓣 .C #ageing) (Ages 𝓤 H A at-mem run)) (eight : length (h .peers) ≡ mostPeers)
       (l₀ l₁ l₂ l₃ l₄ l₅ l₆ l₇ l₈ l₉ l₁₀ : ℕ) where
     abbrev C : Calls 𝓤 H
     C = 𝓣 .C
@@ -204,7 +206,7 @@ module _ {M : Type 1} (𝓤 : URA M) (H : Heap 𝓤) (A : Atoms 𝓤) (W : Given
         ∷ room 10 l₁₀ (room 9 l₉ (room 8 l₈ (room 7 l₇ (room 6 l₆ (room 5 l₅ (room 4 l₄ (room 3 l₃ (holds 2 l₂ (vint w64 (i .0)) (holds 1 l₁ (vptr b o)
         (room 0 l₀ []))))))))))
 
-    -- a turn's postcondition: it ends nearer to 8, or the loop is left and the rest of the code runs
+    -- a turn's postcondition: it ends nearer to the last peer, or the loop is left and the rest of the code runs
     abbrev Turned : Upto → Out → SProp 𝓤
     Turned i = afterTurn 𝓤 H (Below 𝓤 H A Nearer At i) (afterBlock 𝓤 H (afterSeq 𝓤 H (Wp 𝓤 H C Λ En rest (atReturn 𝓤 H En Post)) (atReturn 𝓤 H En Post)))
 
@@ -218,10 +220,10 @@ module _ {M : Type 1} (𝓤 : URA M) (H : Heap 𝓤) (A : Atoms 𝓤) (W : Given
       fits : p < 2 ^ 64
       fits = omega (arith, i .1)
 
-      abbrev next : T (ltb p 8) → Upto
-      next less = (p + 1, add-one-le (ltb→lt p 8 less))
+      abbrev next : T (ltb p mostPeers) → Upto
+      next less = (p + 1, add-one-le (ltb→lt p mostPeers less))
 
-      next-fits : T (ltb p 8) → p + 1 < 2 ^ 64
+      next-fits : T (ltb p mostPeers) → p + 1 < 2 ^ 64
       next-fits less = omega (arith, i .1)
 
       turns : Sq W (At i) (runs C Λ En turn (anyQ (Turned i)))
@@ -229,11 +231,11 @@ module _ {M : Type 1} (𝓤 : URA M) (H : Heap 𝓤) (A : Atoms 𝓤) (W : Given
       turns =
           assigns ! (bin ! (load ! (from ! (stop !)) (look ! 20 refl)) (lit ! tt) tt) (from ! (stop !)) (init ! 16 refl (tt, tt)) $
           first ! $ branches ! (load ! (from ! (stop !)) (look ! 16 refl))
-          (λ less. let l : p < 8 = ltb→lt p 8 less in
+          (λ less. let l : p < mostPeers = ltb→lt p mostPeers less in
           skips ! $ exec ! C Λ En ages (anyQ (Turned i)) $
           assigns ! (bin ! (load ! (from ! (stop !)) (look ! 20 refl)) (lit ! tt) (record { fits = offset-fits p l })) (from ! (stop !)) (init ! 14 refl
           (tt, record { fits = offset-fits p l })) $
-          assigns ! (addr ! (from ! (hop ! (look ! 22 refl) (fld ! {d = 512} refl (stop !))))) (from ! (stop !)) (init ! 12 refl (tt, tt)) $
+          assigns ! (addr ! (from ! (hop ! (look ! 22 refl) (fld ! {d = peersAt} refl (stop !))))) (from ! (stop !)) (init ! 12 refl (tt, tt)) $
           assigns ! (bin ! (load ! (from ! (stop !)) (look ! 12 refl)) (load ! (from ! (stop !)) (look ! 14 refl)) tt) (from ! (stop !)) (init ! 10 refl
           (tt, tt)) $
           -- the row is reached, and read
@@ -260,7 +262,7 @@ module _ {M : Type 1} (𝓤 : URA M) (H : Heap 𝓤) (A : Atoms 𝓤) (W : Given
           -- what `tick_row` made of it is stored there
           assigns ! (bin ! (load ! (from ! (stop !)) (look ! 25 refl)) (lit ! tt) (record { fits = offset-fits p l })) (from ! (stop !)) (store ! 19 refl
           (tt, record { fits = offset-fits p l })) $
-          assigns ! (addr ! (from ! (hop ! (look ! 27 refl) (fld ! {d = 512} refl (stop !))))) (from ! (stop !)) (init ! 11 refl (tt, tt)) $
+          assigns ! (addr ! (from ! (hop ! (look ! 27 refl) (fld ! {d = peersAt} refl (stop !))))) (from ! (stop !)) (init ! 11 refl (tt, tt)) $
           assigns ! (bin ! (load ! (from ! (stop !)) (look ! 11 refl)) (load ! (from ! (stop !)) (look ! 19 refl)) tt) (from ! (stop !)) (init ! 9 refl
           (tt, tt)) $
           assigns ! (of-opd ! (load ! (from ! (stop !)) (look ! 13 refl))) (from ! (hop ! (look ! 9 refl) (stop !))) (store-raw ! 1 refl
@@ -274,7 +276,7 @@ module _ {M : Type 1} (𝓤 : URA M) (H : Heap 𝓤) (A : Atoms 𝓤) (W : Given
           use1 W (‵ (partAt T.the-row fullShare (withRow (aged h p) p r) b o)) (comes-back 𝓤 H A W fullShare (aged h p) p b o l r) $
           rewrite ! 0 (λ (y : Endpoint). ‵ (partAt T.the-row fullShare y b o)) (older-row h p r eight l e) refl $ forget ! 4 refl $ forget ! 6 refl $
           forget ! 8 refl $ forget ! 10 refl $ forget ! 12 refl $ forget ! 14 refl $ forget ! 16 refl $ forget ! 18 refl $
-          again ! Nearer At i (next less) (add-one-dec 8 p l))))))))
+          again ! Nearer At i (next less) (add-one-dec mostPeers p l))))))))
           -- the borrow is closed
           (λ over. jumps ! $ exec ! C Λ En rest (atRet En Post) $
           assigns ! (of-opd ! (lit ! tt)) (from ! (stop !)) (init ! 24 refl (tt, record { fits = lit< tt })) $
@@ -282,9 +284,9 @@ module _ {M : Type 1} (𝓤 : URA M) (H : Heap 𝓤) (A : Atoms 𝓤) (W : Given
           forget ! 23 refl $ move ! (23 ∷ 24 ∷ []) $ free1 ! $ move ! (21 ∷ 22 ∷ []) $ free1 ! $ move ! (19 ∷ 20 ∷ []) $ free1 ! $ move ! (17 ∷ 18 ∷ []) $
           free1 ! $ move ! (15 ∷ 16 ∷ []) $ free1 ! $ move ! (13 ∷ 14 ∷ []) $ free1 ! $ move ! (11 ∷ 12 ∷ []) $ free1 ! $ move ! (9 ∷ 10 ∷ []) $ free1 ! $
           move ! (7 ∷ 8 ∷ []) $ free1 ! $ move ! (5 ∷ 6 ∷ []) $ free1 ! $ move ! (3 ∷ 4 ∷ []) $ free1 ! $ free0 ! $
-          by ! (exits (aged h p) (all-ticked p (le-antisymm (i .1) (nltb→le p 8 over)))))
+          by ! (exits (aged h p) (all-ticked p (le-antisymm (i .1) (nltb→le p mostPeers over)))))
         where
-          all-ticked : (n : ℕ) → n ≡ 8 → record { endpoint = aged h n; answer = tickOf h .answer } ≡ tickOf h
+          all-ticked : (n : ℕ) → n ≡ mostPeers → record { endpoint = aged h n; answer = tickOf h .answer } ≡ tickOf h
           all-ticked n is = ticked-out h n (is ∙ sym eight)
 
   walk : (𝓣 : Tables 𝓤 H) → Triple 𝓤 (𝓣 .C #ageing) (Ages 𝓤 H A at-mem run) → ent 𝓤 (onEntry 𝓤 H A f.signature (κ, tt) (q, tt) x at) (WpFn 𝓤 H (𝓣 .C)

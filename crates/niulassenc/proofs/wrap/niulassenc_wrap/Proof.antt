@@ -30,7 +30,6 @@ use denote.Laws.{Is, shows}
 use denote.Memory.{partAt}
 use denote.Plain.{uint-makes, uint-vals, uint-tells}
 use denote.Builtin.{u8, u16, u32}
-use denote.Array.{Array}
 use denote.Ref.{RefT, ShrRef, ptr-vals, shr-tells}
 use denote.Signature.{plain}
 use denote.Slice.{sliceVal, ShrSlice, MutSlice, finally, slice-vals, shr-slice-tells, shr-slice-lawful, shr-slice-copy, mut-slice-tells, mut-slice-lawful}
@@ -48,7 +47,7 @@ use denote.Triple.Clauses.{ensured, lasts}
 use denote.Exit.{yes}
 use Rattle.endpoint.specs.declared.config.Endpoint.{Endpoint}
 use Rattle.endpoint.specs.Answer.{wrapValuesOf}
-use Rattle.endpoint.specs.Config.{lent}
+use Rattle.endpoint.specs.Config.{lent, mostBindings}
 use Rattle.endpoint.specs.Wrap.{Wrote, wrapOf}
 use Rattle.endpoint.specs.Laws.WrapExits.{wrap-lent}
 use Rattle.endpoint.proofs.config.Endpoint as T
@@ -66,6 +65,8 @@ use Rattle.niulassenc.proofs.wrap.niulassenc_wrap.Key.{name as #niulass
 use Rattle.niulassenc.proofs.wrap.niulassenc_wrap as f
 use Rattle.niulassenc.proofs.wrap.niulassenc_wrap.Statement as stated
 use Rattle.niulassenc.proofs.wrap.niulassenc_wrap.Code as code
+use Rattle.niulassenc.proofs.Offsets.{networksAt, addressesAt, ownAt, portAt, mtuAt, bindingCountAt, kindsAt, ownersAt, Addresses}
+use Rattle.reassembly.specs.Slots.{mostPeers}
 
 abbrev stayed : Stays (f.ended .signature .params) (f.ended .kept)
 stayed = (
@@ -132,19 +133,19 @@ module _ {M : Type 1} (𝓤 : URA M) (H : Heap 𝓤) (A : Atoms 𝓤) (W : Given
   Says r zs = (r ≡ writingOf (wrapValuesOf (wrote .answer))) × (zs ≡ wrote .output)
 
   abbrev Cols : Names → Item 𝓤
-  Cols g = columns 𝓤 H A W (named 0) κe h b o (Array u32 8) (h .addresses) 768 g
+  Cols g = columns 𝓤 H A W (named 0) κe h b o Addresses (h .addresses) addressesAt g
 
   -- the call of `wrapped`
   module _ (was : Is T.the-row h (mach ∷ [])) (g : Names) where
     abbrev args : Args wrapped.signature (κe, (κp, (κm, tt)))
     args = (
-      col b o (h .networks) 0 (g .0),
+      col b o (h .networks) networksAt (g .0),
       (
-        col b o (h .kinds) 940 (g .1 .0),
+        col b o (h .kinds) kindsAt (g .1 .0),
         (
-          col b o (h .owners) 1004 (g .1 .1 .0),
+          col b o (h .owners) ownersAt (g .1 .1 .0),
           (
-            col b o (h .addresses) 768 (g .1 .1 .1),
+            col b o (h .addresses) addressesAt (g .1 .1 .1),
             (h .own, (h .port, (h .mtu, (h .«binding_count», (n, (p, (s, (i, (m, tt))))))))),
           ),
         ),
@@ -159,13 +160,13 @@ module _ {M : Type 1} (𝓤 : URA M) (H : Heap 𝓤) (A : Atoms 𝓤) (W : Given
         tt,
         args,
         (
-          vptr b (o + 0) ∷ [],
+          vptr b (o + networksAt) ∷ [],
           (
-            vptr b (o + 940) ∷ [],
+            vptr b (o + kindsAt) ∷ [],
             (
-              vptr b (o + 1004) ∷ [],
+              vptr b (o + ownersAt) ∷ [],
               (
-                vptr b (o + 768) ∷ [],
+                vptr b (o + addressesAt) ∷ [],
                 (
                   vint w32 (h .own) ∷ [],
                   (
@@ -243,21 +244,23 @@ module _ {M : Type 1} (𝓤 : URA M) (H : Heap 𝓤) (A : Atoms 𝓤) (W : Given
         spelt ! T.the-row (Is T.the-row) (shows 𝓤 H A T.the-row) (LL.vals T.the-type T′.the-laws) (LL.tells T.the-type T′.the-laws) q′ h vs b o $
         move ! (1 ∷ []) $ peeks ! T.the-row (Is T.the-row) (shows 𝓤 H A T.the-row) h (mach ∷ []) (λ was. move ! (1 ∷ 0 ∷ []) $
         -- [a share of the endpoint's cell; what it owns; what shuts it; the borrow; _16; …; _0; …; res; frame; frame; output; true; the other tokens]
-        assigns ! (addr ! (from ! (hop ! (look ! 34 refl) (fld ! {τ = tyArray (tyInt w64) 64} {d = 0} refl (stop !))))) (from ! (stop !))
+        assigns ! (addr ! (from ! (hop ! (look ! 34 refl) (fld ! {τ = tyArray (tyInt w64) mostBindings} {d = networksAt} refl (stop !))))) (from ! (stop !))
         (init ! 22 refl (tt, tt)) $
-        assigns ! (addr ! (from ! (hop ! (look ! 34 refl) (fld ! {τ = tyArray (tyInt w8) 64} {d = 940} refl (stop !))))) (from ! (stop !))
+        assigns ! (addr ! (from ! (hop ! (look ! 34 refl) (fld ! {τ = tyArray (tyInt w8) mostBindings} {d = kindsAt} refl (stop !))))) (from ! (stop !))
         (init ! 20 refl (tt, tt)) $
-        assigns ! (addr ! (from ! (hop ! (look ! 34 refl) (fld ! {τ = tyArray (tyInt w8) 64} {d = 1004} refl (stop !))))) (from ! (stop !))
+        assigns ! (addr ! (from ! (hop ! (look ! 34 refl) (fld ! {τ = tyArray (tyInt w8) mostBindings} {d = ownersAt} refl (stop !))))) (from ! (stop !))
         (init ! 18 refl (tt, tt)) $
-        assigns ! (addr ! (from ! (hop ! (look ! 34 refl) (fld ! {τ = tyArray (tyInt w32) 8} {d = 768} refl (stop !))))) (from ! (stop !))
+        assigns ! (addr ! (from ! (hop ! (look ! 34 refl) (fld ! {τ = tyArray (tyInt w32) mostPeers} {d = addressesAt} refl (stop !))))) (from ! (stop !))
         (init ! 16 refl (tt, tt)) $
-        assigns ! (of-opd ! (load ! (from ! (hop ! (look ! 34 refl) (fld ! {τ = tyInt w32} {d = 800} refl (stop !)))) (look-in ! 0 (sub ! 3 refl (whole !)))))
+        assigns ! (of-opd ! (load ! (from ! (hop ! (look ! 34 refl) (fld ! {τ = tyInt w32} {d = ownAt} refl (stop !)))) (look-in ! 0 (sub ! 3 refl (whole !)))))
         (from ! (stop !)) (init ! 14 refl (tt, record { fits = own-fits h was })) $
-        assigns ! (of-opd ! (load ! (from ! (hop ! (look ! 34 refl) (fld ! {τ = tyInt w16} {d = 932} refl (stop !)))) (look-in ! 0 (sub ! 5 refl (whole !)))))
+        assigns ! (of-opd ! (load ! (from ! (hop ! (look ! 34 refl) (fld ! {τ = tyInt w16} {d = portAt} refl (stop !)))) (look-in ! 0 (sub ! 5 refl
+        (whole !)))))
         (from ! (stop !)) (init ! 12 refl (tt, record { fits = port-fits h was })) $
-        assigns ! (of-opd ! (load ! (from ! (hop ! (look ! 34 refl) (fld ! {τ = tyInt w16} {d = 934} refl (stop !)))) (look-in ! 0 (sub ! 6 refl (whole !)))))
+        assigns ! (of-opd ! (load ! (from ! (hop ! (look ! 34 refl) (fld ! {τ = tyInt w16} {d = mtuAt} refl (stop !)))) (look-in ! 0 (sub ! 6 refl (whole !)))))
         (from ! (stop !)) (init ! 10 refl (tt, record { fits = mtu-fits h was })) $
-        assigns ! (of-opd ! (load ! (from ! (hop ! (look ! 34 refl) (fld ! {τ = tyInt w16} {d = 938} refl (stop !)))) (look-in ! 0 (sub ! 8 refl (whole !)))))
+        assigns ! (of-opd ! (load ! (from ! (hop ! (look ! 34 refl) (fld ! {τ = tyInt w16} {d = bindingCountAt} refl (stop !)))) (look-in ! 0 (sub ! 8 refl
+        (whole !)))))
         (from ! (stop !)) (init ! 8 refl (tt, record { fits = bindings-fit h was })) $
         shuts ! tt T.the-row q′ h (mach ∷ []) b o $
         -- [the token; the borrow; _16; …]
@@ -266,7 +269,7 @@ module _ {M : Type 1} (𝓤 : URA M) (H : Heap 𝓤) (A : Atoms 𝓤) (W : Given
         (and-then ! (load ! (from ! (fld ! refl (stop !))) (look-in ! 22 (sub ! 1 refl (whole !)))) (no-more !)))) (from ! (stop !))
         (init ! 2 refl (tt, (tt, (record { fits = im .0 .1 .0 }, tt)))) $
         move ! (1 ∷ 0 ∷ []) $ use2 W (later (some (λ (g : Names). Cols g ⊛ (‵ Shared ⊛ ‵ (flft κe qe)))))
-        (lends-columns 𝓤 H A W (named 0) κe qe h b o (Array u32 8) (h .addresses) 768 (lends-addresses 𝓤 H A W (named 0) κe qe h b o)) $ await ! tt $ pick
+        (lends-columns 𝓤 H A W (named 0) κe qe h b o Addresses (h .addresses) addressesAt (lends-addresses 𝓤 H A W (named 0) κe qe h b o)) $ await ! tt $ pick
         ! (λ g. split ! $ move ! (1 ∷ []) $ split ! $
         -- [the borrow; its token; columns; _16; …; res; frame; frame; output; true; the other tokens]
         move ! (2 ∷ 38 ∷ 40 ∷ 1 ∷ 42 ∷ []) $ join ! $ join ! $ use3 W (raw (Wrapped 𝓤 H A at-mem run .pre (to was g))) (goes-in was g) $

@@ -5,17 +5,17 @@ use mathlib.Core.Bool.{false}
 use Prim.Native.Nat.{ℕ, _≤_, _<_, _-_}
 use native.Mathlib.Omega.{arith}
 use lib.ListN.{getD}
-use Rattle.reassembly.specs.Slots.{free, bears}
+use Rattle.reassembly.specs.Slots.{free, bears, mostSlots}
 use Rattle.reassembly.specs.Laws.Base.{more-not}
 use Rattle.reassembly.specs.Laws.Take.{found-at, found-nothing}
 use Rattle.reassembly.proofs.slot.find_pending.Statement.{statement}
 use Rattle.reassembly.proofs.slot.find_pending.Tie as tie
 
 abbrev Inv-loop : tie.InvT-loop
-Inv-loop identifier row s₀ s = (s ≤ 4) × ((t : ℕ) → t < s → bears identifier (getD (row .slots) t free) ≡ false)
+Inv-loop identifier row s₀ s = (s ≤ mostSlots) × ((t : ℕ) → t < s → bears identifier (getD (row .slots) t free) ≡ false)
 
 abbrev μ-loop : tie.MeasureT-loop
-μ-loop identifier row s₀ s = 4 - s
+μ-loop identifier row s₀ s = mostSlots - s
 
 loop-holds : tie.Need-loop-holds Inv-loop μ-loop
 loop-holds c = (omega arith, λ t h. absurd (omega arith))

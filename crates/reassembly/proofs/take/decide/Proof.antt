@@ -2,7 +2,7 @@
 -- Assumes nothing.
 use mathlib.Core.Path.{sym, _∙_}
 use Prim.Native.Nat.{_<_}
-use Rattle.reassembly.specs.Slots.{Slot, bears}
+use Rattle.reassembly.specs.Slots.{Slot, bears, mostSlots}
 use native.Mathlib.Omega.{arith}
 use mathlib.Core.List.{List}
 use Rattle.reassembly.specs.Take.{Seg, segOf, Fits}
@@ -67,7 +67,8 @@ enum-known-pending c = search needs
 mul-frame : tie.Need-mul-frame
 mul-frame c =
     let s = c .before .pending .given .0 .0 in
-    let l : s < 4 = found-slot (bears (c .before .before .before .before .before .before .before .before .before .before .before .before .before .args .segment .identifier))
+    let l : s < mostSlots = found-slot
+    (bears (c .before .before .before .before .before .before .before .before .before .before .before .before .before .args .segment .identifier))
     (c .before .before .before .before .before .before .before .before .before .before .before .before .before .args .t1 .slots) s
     (sym (c .before .pending .given .1) ∙ c .before .before .before .find-pending .ensures) in
     omega arith

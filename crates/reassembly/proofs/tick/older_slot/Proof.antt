@@ -4,7 +4,7 @@ use mathlib.Core.Path.{_∙_}
 use Prim.Native.Nat.{_+_}
 use native.Mathlib.Omega.{arith}
 use borrow.Author.Tests.{lt-ltb, le-ltb, not-true, not-false}
-use Rattle.reassembly.specs.Slots.{older}
+use Rattle.reassembly.specs.Slots.{older, lifetime}
 use borrow.Author.Needs.{needs}
 use Rattle.reassembly.proofs.tick.older_slot.Statement.{statement}
 use Rattle.reassembly.proofs.tick.older_slot.Tie as tie
@@ -20,7 +20,7 @@ returns-2 : tie.Need-returns-2
 unfolding older
 returns-2 c =
     let slot = c .before .before .before .before .before .args .slot in
-    c .free-slot .ensures ∙ simp (not-false (slot .pending) (c .before .before .before .if1 .left), le-ltb (slot .age + 1) 4 (omega arith))
+    c .free-slot .ensures ∙ simp (not-false (slot .pending) (c .before .before .before .if1 .left), le-ltb (slot .age + 1) lifetime (omega arith))
 
 add-t3 : tie.Need-add-t3
 add-t3 c = search needs
@@ -29,7 +29,7 @@ returns-3 : tie.Need-returns-3
 unfolding older
 returns-3 c =
     let slot = c .before .before .before .before .before .args .slot in
-    simp (not-false (slot .pending) (c .before .before .before .if1 .left), lt-ltb (slot .age + 1) 4 (omega arith))
+    simp (not-false (slot .pending) (c .before .before .before .if1 .left), lt-ltb (slot .age + 1) lifetime (omega arith))
 
 pub older-slot-spec : {M : Type 1} → statement M
 older-slot-spec = tie.close (tie.spec returns free-slot-requires returns-2 add-t3 returns-3)

@@ -3,7 +3,7 @@
 use mathlib.Core.Path.{_≡_, ap}
 use mathlib.Core.List.{List, map}
 use lib.ListN.{length}
-use Rattle.reassembly.specs.Slots.{Slot, older, olderRow, free}
+use Rattle.reassembly.specs.Slots.{Slot, older, olderRow, free, mostSlots}
 use Rattle.reassembly.proofs.Sizes.{four-slots, four}
 use borrow.Author.Needs.{needs}
 use Rattle.reassembly.proofs.tick.tick_row.Statement.{statement}
@@ -38,7 +38,7 @@ unfolding olderRow
 returns c =
     let start = c .before .before .before .before .before .before .before .before in
     let l = start .args .t1 .slots in
-    let n : length l ≡ 4 = four-slots (start .args .t1) (start .good .0) in
+    let n : length l ≡ mostSlots = four-slots (start .args .t1) (start .good .0) in
     let e = ap (λ (t : List Slot). map older t) (four free l n) in
     cc (c .before .before .before .older-slot .ensures, c .before .before .older-slot2 .ensures, c .before .older-slot3 .ensures, c .older-slot4 .ensures, e)
 
