@@ -8,6 +8,7 @@ use mathlib.Core.List.{List, [], _∷_, _++_, map}
 use lib.ListN.{replicate}
 use Rattle.wire.specs.Bytes.{be, beAt, part}
 use Rattle.wire.specs.Sum.{total, ones, pseudo, complement}
+use Rattle.wire.specs.Checks as Checks
 use Rattle.wire.specs.Ipv4 as I
 use Rattle.wire.specs.Udp.{udp}
 use Rattle.wire.specs.Vxlan.{vxlan}
@@ -115,7 +116,7 @@ cases =
 
 -- THE STATEMENT
 pub worked : map given cases ≡ map paper cases
-unfolding cases total ones be beAt I.header complement udp vxlan gre nvgreChecks nvgreAt nvgreOf ipv4With outer ipv4Head packet sourcePort vxlanBody nvgreBody
+unfolding cases codeOf Checks.first total ones be beAt I.header complement udp vxlan gre nvgreChecks nvgreAt nvgreOf ipv4With outer ipv4Head packet sourcePort vxlanBody nvgreBody
     vxlanPacket nvgrePacket stt sttFrame flagsOf tcpWith S.header pseudo part segmentHeader segmentBytes segmentBody segmentPacket allBelow first bears isFree
     chosen isOn bitAt setBit setBits segmentsOf packetOf
 worked = refl

@@ -6,6 +6,7 @@ use mathlib.Core.Path.{_≡_, refl}
 use mathlib.Core.Bool.{Bool, true, false, cond}
 use mathlib.Core.List.{[], _∷_, map}
 use borrow.Author.Tests.{lt-leb, le-leb}
+use Rattle.wire.specs.Refusal.{codeOf}
 use Rattle.wire.specs.declared.refusal.Refusal.{Refusal}
 use Rattle.wire.specs.declared.refusal.Refusal.the-variants as F
 use Rattle.reassembly.specs.declared.take.Rejection.{Rejection}
@@ -100,6 +101,7 @@ past p m start length true h = rw (lt-leb (start + length) m h)
 past p m start length false h = rw (lt-leb (start + length) p h)
 
 pub worked-answers : WorkedAnswers
+unfolding codeOf
 worked-answers = record {
   delivered = λ tenant binding start length inMemory. refl;
   pending = refl;

@@ -69,22 +69,22 @@ sum bytes = ones (total bytes)
 
 -- ---- the outer header (RFC 791): its fields; 3, 4, 5
 
-abbrev pub headerLengthOf : (packet : List ℕ) → ℕ
+unfoldable pub headerLengthOf : (packet : List ℕ) → ℕ
 headerLengthOf packet = 4 * (beAt packet 0 1 % 16)
 
-abbrev pub totalLengthOf : (packet : List ℕ) → ℕ
+unfoldable pub totalLengthOf : (packet : List ℕ) → ℕ
 totalLengthOf packet = beAt packet 2 2
 
-abbrev pub protocolOf : (packet : List ℕ) → ℕ
+unfoldable pub protocolOf : (packet : List ℕ) → ℕ
 protocolOf packet = beAt packet 9 1
 
-abbrev pub sourceOf : (packet : List ℕ) → ℕ
+unfoldable pub sourceOf : (packet : List ℕ) → ℕ
 sourceOf packet = beAt packet 12 4
 
-abbrev pub destinationOf : (packet : List ℕ) → ℕ
+unfoldable pub destinationOf : (packet : List ℕ) → ℕ
 destinationOf packet = beAt packet 16 4
 
-abbrev pub payloadOf : (packet : List ℕ) → List ℕ
+unfoldable pub payloadOf : (packet : List ℕ) → List ℕ
 payloadOf packet = part packet (headerLengthOf packet) (totalLengthOf packet)
 
 unfoldable pub ipv4Rows : (packet : List ℕ) → Rows
@@ -99,19 +99,19 @@ ipv4Rows packet =
 -- ---- what the IP payload carries: 9, 8, 9, 10
 
 -- the fields of an STT segment's header, and the bytes behind it
-abbrev pub dataWordsOf : (payload : List ℕ) → ℕ
+unfoldable pub dataWordsOf : (payload : List ℕ) → ℕ
 dataWordsOf payload = beAt payload 12 1 / 16
 
-abbrev pub frameLengthOf : (payload : List ℕ) → ℕ
+unfoldable pub frameLengthOf : (payload : List ℕ) → ℕ
 frameLengthOf payload = beAt payload 4 2
 
-abbrev pub offsetOf : (payload : List ℕ) → ℕ
+unfoldable pub offsetOf : (payload : List ℕ) → ℕ
 offsetOf payload = beAt payload 6 2
 
-abbrev pub identifierOf : (payload : List ℕ) → ℕ
+unfoldable pub identifierOf : (payload : List ℕ) → ℕ
 identifierOf payload = beAt payload 8 4
 
-abbrev pub segmentBytesOf : (payload : List ℕ) → List ℕ
+unfoldable pub segmentBytesOf : (payload : List ℕ) → List ℕ
 segmentBytesOf payload = drop (4 * dataWordsOf payload) payload
 
 unfoldable pub payloadRows : (protocol source destination sttPort : ℕ) (payload : List ℕ) → Rows
@@ -132,21 +132,21 @@ payloadRows protocol source destination sttPort payload =
 -- ---- tunnel headers: 11
 
 -- VXLAN over UDP: flag 0x08
-abbrev pub vniOf : (payload : List ℕ) → ℕ
+unfoldable pub vniOf : (payload : List ℕ) → ℕ
 vniOf payload = beAt payload 12 3
 
 unfoldable pub vxlanRows : (payload : List ℕ) → Rows
 vxlanRows payload = (beAt payload 8 1 / 8 % 2 isnt 1 ⇒ 11) ∷ []
 
 -- NVGRE: first byte 0x20 to 0x23, low three bits of the second 0, protocol type 0x6558
-abbrev pub vsidOf : (payload : List ℕ) → ℕ
+unfoldable pub vsidOf : (payload : List ℕ) → ℕ
 vsidOf payload = beAt payload 4 3
 
 unfoldable pub nvgreRows : (payload : List ℕ) → Rows
 nvgreRows payload = (beAt payload 0 1 below 0x20 || beAt payload 0 1 above 0x23 || beAt payload 1 1 % 8 isnt 0 || beAt payload 2 2 isnt 0x6558 ⇒ 11) ∷ []
 
 -- a complete STT frame: version 0; flags 0x01 and 0x02 not both set
-abbrev pub contextOf : (frame : List ℕ) → ℕ
+unfoldable pub contextOf : (frame : List ℕ) → ℕ
 contextOf frame = beAt frame 8 8
 
 unfoldable pub sttRows : (frame : List ℕ) → Rows

@@ -12,7 +12,8 @@ use lib.ListN.{length, getD, set, replicate, length-set}
 use lib.Seq.{getD-set-same, getD-set-other}
 use lib.Dec.{eqb}
 use borrow.Author.Tests.{eq-eqb, ne-eqb, le-leb, leb-false, eqb-true, eqb-false, not-false}
-use Rattle.wire.specs.Checks.{Check, _⇒_, first, Passed}
+use Rattle.wire.specs.Checks.{Passed}
+use Rattle.wire.specs.Laws.Checks.{cases}
 use Rattle.reassembly.specs.Laws.Base.{caseB, either, clash}
 use Rattle.reassembly.specs.Slots.{olderRow, mostPeers}
 use Rattle.endpoint.specs.declared.answer.ConfigRefusal.the-variants as C
@@ -25,15 +26,9 @@ use Rattle.endpoint.specs.Config.{addressAt, freeRow, tickOf, configOf, 
 use Rattle.endpoint.specs.Config.{refusedStart, startOf}
 use Rattle.endpoint.specs.Config.{addressChecks, refusedAdd, addPeerChecks, withAddress, addPeerOf, isNetwork, addBindingChecks, withBinding}
 use Rattle.endpoint.specs.Config.{addBindingOf, Adding, addPeer, addBinding, added, addedAll, setUp, mostBindings}
-use Rattle.endpoint.specs.Laws.ConfigExits.{peerAdded, bindingAdded, add-binding-exit}
+use Rattle.endpoint.specs.Laws.ConfigExits.{peerAdded, bindingAdded, add-peer-exit, add-binding-exit}
 
 -- ---- what a call leaves: the endpoint as it came, or the one with the addition
-
-pub cases : {R A : Type 0} (P : A → Type 0) (refused : R → A) (checks : List (Check R)) (accepted : A)
-    → ((r : R) → P (refused r)) → (Passed checks → P accepted) → P (first refused checks accepted)
-cases P refused [] accepted f g = g tt
-cases P refused ((true ⇒ r) ∷ checks) accepted f g = f r
-cases P refused ((false ⇒ r) ∷ checks) accepted f g = cases P refused checks accepted f (λ p. g (refl, p))
 
 pub start-cases : (P : Endpoint → Type 0) (own port mtu : ℕ) → P (fresh 0 0 0) → (Passed (startChecks own port mtu) → P (fresh own port mtu))
     → P (startOf own port mtu .endpoint)
@@ -57,7 +52,7 @@ add-binding-cases P e peer kind network tenant f g =
 
 pub refused-start-peer : (address : ℕ) → addPeerOf (fresh 0 0 0) address ≡ refusedAdd (fresh 0 0 0) C.OutOfRange
 unfolding addPeerOf addPeerChecks fresh
-refused-start-peer address = refl
+refused-start-peer address = add-peer-exit (fresh 0 0 0) address 0 refl
 
 pub refused-start-binding : (peer kind network tenant : ℕ) → addBindingOf (fresh 0 0 0) peer kind network tenant ≡ refusedAdd (fresh 0 0 0) C.OutOfRange
 unfolding addBindingChecks configOf fresh

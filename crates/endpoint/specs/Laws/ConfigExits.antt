@@ -11,8 +11,9 @@ use lib.Dec.{ltb, eqb}
 use native.Mathlib.Omega.{arith}
 use borrow.Author.Tests.{le-leb, lt-leb, ne-eqb, eqb-true}
 use Rattle.reassembly.specs.Laws.Base.{caseB, clash}
-use Rattle.wire.specs.Checks.{Check, _⇒_, first, Passed}
+use Rattle.wire.specs.Checks.{Check, _⇒_, Passed}
 use Rattle.wire.specs.Laws.Checks.{At, given, decided}
+use Rattle.wire.specs.Laws.Table.{pull}
 use Rattle.endpoint.specs.declared.answer.Added.{Added}
 use Rattle.endpoint.specs.declared.answer.Added.the-variants as A
 use Rattle.endpoint.specs.declared.answer.Start.the-variants as S
@@ -61,12 +62,6 @@ module _ (e : Endpoint) (peer kind network tenant : ℕ) where
   add-binding-exit n p = decided (refusedAdd e) (addBindingChecks e peer kind network tenant) bindingAdded n p
 
 -- ---- an adding call reads and changes its own columns and count: what it makes of an endpoint of which only these are told makes up the whole call
-
-pull : {R A B : Type 0} (g : A → B) (refused : R → A) (checks : List (Check R)) (accepted : A)
-    → g (first refused checks accepted) ≡ first (λ (r : R). g (refused r)) checks (g accepted)
-pull g refused [] accepted = refl
-pull g refused ((true ⇒ r) ∷ checks) accepted = refl
-pull g refused ((false ⇒ r) ∷ checks) accepted = pull g refused checks accepted
 
 -- the endpoint e with these peers, and with these bindings
 abbrev pub withPeers : Endpoint → (addresses : List ℕ) (count : ℕ) → Endpoint

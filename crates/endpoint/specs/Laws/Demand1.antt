@@ -11,16 +11,13 @@ use borrow.Author.Tests.{ltb-false, eqb-true, eqb-false}
 use lib.ListN.{length, getD, set, drop, length-set}
 use lib.Seq.{set-getD, getD-set-same, getD-set-other, getD-append-add, getD-drop}
 use lib.Dec.{ltb, eqb}
-use Rattle.wire.specs.Checks.{Check, _⇒_, first}
-use Rattle.wire.specs.Refusal.{codeOf}
-use Rattle.wire.specs.Laws.Refusal.{stt-code, frame-code}
+use Rattle.wire.specs.Laws.Checks.{cases, by-each}
+use Rattle.wire.specs.Laws.Refusal.{code-most, stt-code, frame-code}
 use Rattle.wire.specs.Bytes.{wrote}
 use Rattle.wire.specs.Laws.Bytes.{wrote-length}
 use Rattle.wire.specs.Laws.WriteIs.{wrote-is}
 use Rattle.wire.specs.Stt.{sttOf}
 use Rattle.wire.specs.Frame.{frameOf}
-use Rattle.wire.specs.declared.refusal.Refusal.{Refusal}
-use Rattle.wire.specs.declared.refusal.Refusal.the-variants as F
 use Rattle.wire.specs.declared.stt.SttRead.{SttRead}
 use Rattle.wire.specs.declared.stt.SttRead.the-variants as H
 use Rattle.wire.specs.declared.frame.FrameRead.{FrameRead}
@@ -44,7 +41,7 @@ use Rattle.endpoint.specs.Answer.{dropCode, configCode, valuesOf, AddedV
 use Rattle.endpoint.specs.Search.{lowest}
 use Rattle.endpoint.specs.Config.{Config, configOf, binds, fresh, startChecks, refusedStart, startOf, refusedAdd, addPeerChecks, withAddress, addPeerOf}
 use Rattle.endpoint.specs.Config.{addBindingChecks, withBinding, addBindingOf, tickOf}
-use Rattle.endpoint.specs.Laws.Config.{cases, rows-tick}
+use Rattle.endpoint.specs.Laws.Config.{rows-tick}
 use Rattle.endpoint.specs.Laws.ConfigExits.{peerAdded, bindingAdded}
 use Rattle.endpoint.specs.Receive.{answers, byBinding, innerFrom, byStt, sttFrom, headerOf, judgeOf, Step, rowAt, stepped, stepOf, withRow}
 use Rattle.endpoint.specs.Laws.Formats.{segment-sound, segment-complete}
@@ -59,25 +56,10 @@ use Rattle.endpoint.specs.declared.answer.Received.the-variants as R
 use Rattle.endpoint.specs.declared.answer.WrapRefusal.{WrapRefusal}
 use Rattle.endpoint.specs.declared.answer.WrapRefusal.the-variants as X
 use Rattle.endpoint.specs.declared.config.Endpoint.{Endpoint}
-use Rattle.endpoint.specs.declared.config.StartResult.{StartResult}
 use Rattle.endpoint.specs.Demand1.{_among_, slotAt, Entered, SameConfiguration, Blank, StartRule, PeerAdded, BindingAdded, AddRule, Empties, Unchanged}
 use Rattle.endpoint.specs.Demand1.{FoundBad, ReceiveRule, TickRule, WrapRule}
 
 -- ---- start. Each of its checks refuses by 18
-
-abbrev onlyOut : List (Check ConfigRefusal) → Bool
-onlyOut [] = true
-onlyOut ((test ⇒ C.OutOfRange) ∷ checks) = onlyOut checks
-onlyOut ((test ⇒ C.AlreadyListed) ∷ checks) = false
-onlyOut ((test ⇒ C.Full) ∷ checks) = false
-
-start-by : (P : StartResult → Type 0) (checks : List (Check ConfigRefusal)) (accepted : StartResult) → onlyOut checks ≡ true → P (refusedStart C.OutOfRange)
-    → P accepted → P (first refusedStart checks accepted)
-start-by P [] accepted o f g = g
-start-by P ((true ⇒ C.OutOfRange) ∷ checks) accepted o f g = f
-start-by P ((false ⇒ C.OutOfRange) ∷ checks) accepted o f g = start-by P checks accepted o f g
-start-by P ((test ⇒ C.AlreadyListed) ∷ checks) accepted o f g = clash (cc (o))
-start-by P ((test ⇒ C.Full) ∷ checks) accepted o f g = clash (cc (o))
 
 blank : (own port mtu : ℕ) → Blank own port mtu (fresh own port mtu)
 unfolding fresh
@@ -98,8 +80,9 @@ blank own port mtu = record {
 pub start-rule : (own port mtu : ℕ) → StartRule own port mtu (startOf own port mtu)
 unfolding startOf startChecks
 start-rule own port mtu =
-    start-by (StartRule own port mtu) (startChecks own port mtu) (record { endpoint = fresh own port mtu; answer = S.Done }) refl
-    (record { number = refl; done = λ e. absurd (omega arith); refused = λ e. blank 0 0 0 })
+    let out : StartRule own port mtu (refusedStart C.OutOfRange) = record { number = refl; done = λ e. absurd (omega arith); refused = λ e. blank 0 0 0 } in
+    by-each (StartRule own port mtu) refusedStart (startChecks own port mtu) (record { endpoint = fresh own port mtu; answer = S.Done })
+    (out, (out, (out, (out, (out, (out, tt))))))
     (record { number = refl; done = λ e. blank own port mtu; refused = λ d. absurd (d refl) })
 
 -- ---- adding
@@ -169,36 +152,11 @@ module _ (e : Endpoint) (peer kind network tenant : ℕ) where
 
 -- ---- a receive: its numbers
 
-format-most : (r : Refusal) → codeOf r ≤ 17
-format-most F.Truncated = omega arith
-format-most F.Version = omega arith
-format-most F.HeaderLength = omega arith
-format-most F.TotalLength = omega arith
-format-most F.HeaderChecksum = omega arith
-format-most F.Fragment = omega arith
-format-most F.Protocol = omega arith
-format-most F.Port = omega arith
-format-most F.Short = omega arith
-format-most F.UdpLength = omega arith
-format-most F.TcpLength = omega arith
-format-most F.DataOffset = omega arith
-format-most F.UdpChecksum = omega arith
-format-most F.TcpChecksum = omega arith
-format-most F.VxlanFlag = omega arith
-format-most F.GreFlags = omega arith
-format-most F.GreVersion = omega arith
-format-most F.GreTypeHigh = omega arith
-format-most F.GreTypeLow = omega arith
-format-most F.SttVersion = omega arith
-format-most F.SttFlags = omega arith
-format-most F.FrameLength = omega arith
-format-most F.FrameTag = omega arith
-
 number-most : (a : Received) → valuesOf a .number ≤ 17
 number-most (R.Delivered t p) = omega arith
 number-most R.Pending = omega arith
 number-most (R.Dropped D.Memory) = omega arith
-number-most (R.Dropped (D.Format r)) = format-most r
+number-most (R.Dropped (D.Format r)) = omega (arith, code-most r)
 number-most (R.Dropped D.Destination) = omega arith
 number-most (R.Dropped D.Peer) = omega arith
 number-most (R.Dropped D.Binding) = omega arith

@@ -2,11 +2,11 @@
 -- Assumes nothing.
 use Prim.Native.Nat.{ℕ, zero, suc, _+_, _^_, _<_, min}
 use mathlib.Core.Path.{_≡_, refl, sym, ap, ap₂, subst, _∙_}
-use mathlib.Core.Bool.{true, false}
 use mathlib.Core.List.{List, [], _∷_, _++_}
 use native.Mathlib.Omega.{arith}
 use lib.ListN.{getD, set, replicate}
-use Rattle.wire.specs.Checks.{Check, _⇒_, first}
+use Rattle.wire.specs.Checks.{Check, first}
+use Rattle.wire.specs.Laws.Checks.{relates}
 use Rattle.endpoint.specs.Config.{Config, configOf, findPeer, isSome, fresh, startOf, refusedAdd, addPeerChecks, withAddress, addPeerOf, addBindingChecks}
 use Rattle.endpoint.specs.Config.{withBinding, addBindingOf, tickOf, Adding, addPeer, addBinding, added, addedAll, setUp, mostBindings}
 use Rattle.endpoint.specs.Laws.Config.{start-cases, add-peer-cases, add-binding-cases, Valid, set-up-valid, config-tick}
@@ -19,14 +19,6 @@ use Rattle.endpoint.specs.declared.config.Endpoint.{Endpoint}
 use Rattle.endpoint.specs.declared.config.AddResult.{AddResult}
 use Rattle.endpoint.specs.Reached.{Call, add, got, ticked, left, leftBy, Typed, AllTyped, Reached}
 use Rattle.reassembly.specs.Slots.{mostPeers}
-
--- ---- ordered checks of two endpoints
-
-relates : {R A : Type 0} (P : A → A → Type 0) (f g : R → A) (checks : List (Check R)) (x y : A) → ((r : R) → P (f r) (g r)) → P x y
-    → P (first f checks x) (first g checks y)
-relates P f g [] x y h k = k
-relates P f g ((true ⇒ r) ∷ checks) x y h k = h r
-relates P f g ((false ⇒ r) ∷ checks) x y h k = relates P f g checks x y h k
 
 -- ---- adding looks at the configuration alone
 

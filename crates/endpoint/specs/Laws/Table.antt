@@ -12,7 +12,7 @@ use lib.Dec.{ltb, leb, eqb}
 use borrow.Author.Tests.{ltb-true, ltb-false, leb-false, lt-ltb, le-ltb, le-leb, lt-leb, ne-eqb}
 use Rattle.wire.specs.Checks.{pick, _⇒_}
 use Rattle.wire.specs.Bytes.{Bytes, part}
-use Rattle.wire.specs.Laws.Bytes.{be-lt, part-short, part-drop, bytes-part}
+use Rattle.wire.specs.Laws.Bytes.{part-short, part-drop, bytes-part}
 use Rattle.wire.specs.Laws.Write.{vxlan-length-is, nvgre-length-is, segment-length-is}
 use Rattle.wire.specs.Ipv4.{ipv4Of}
 use Rattle.wire.specs.Carriage.{carriageOf}
@@ -20,7 +20,8 @@ use Rattle.wire.specs.Stt.{sttOf}
 use Rattle.wire.specs.Frame.{frameOf}
 use Rattle.wire.specs.Table as T
 use Rattle.wire.specs.Table.{_andThen_, _otherwise_}
-use Rattle.wire.specs.Laws.Table.{pull, under, behind, row3, row6, wire-table}
+use Rattle.wire.specs.Laws.Checks.{choices, unless}
+use Rattle.wire.specs.Laws.Table.{pull, behind, row3, row6, payload-is, segment-bytes-are, total-most, wire-table}
 use Rattle.wire.specs.declared.ipv4.Ipv4.{Ipv4}
 use Rattle.wire.specs.declared.ipv4.Ipv4Read.{Ipv4Read}
 use Rattle.wire.specs.declared.ipv4.Ipv4Read.the-variants as I
@@ -80,7 +81,7 @@ pub start-number : (own port mtu : ℕ) → startCode (startOf own port mtu .ans
 unfolding startOf startChecks P.startRows
 start-number own port mtu =
     pull (λ (s : StartResult). startCode (s .answer)) refusedStart (startChecks own port mtu) (record { endpoint = fresh own port mtu; answer = S.Done })
-    ∙ row6 18 (eqb (own / 2 ^ 24) 0) (leb 224 (own / 2 ^ 24)) (eqb port 0) (ltb 65535 port) (ltb mtu 576) (ltb 1600 mtu) 0
+    ∙ simp choices (row6 18 (eqb (own / 2 ^ 24) 0) (leb 224 (own / 2 ^ 24)) (eqb port 0) (ltb 65535 port) (ltb mtu 576) (ltb 1600 mtu) 0)
 
 peer-rows : (p a b o : Bool) (x : ℕ) → pick p 18 (pick a 18 (pick b 18 (pick o 18 x))) ≡ pick (p || (a || b) || o) 18 x
 peer-rows true a b o x = refl
@@ -92,7 +93,7 @@ add-peer-number e address =
     rw (some-lowest (min (e .«peer_count») mostPeers) (λ i. eqb (getD (e .addresses) i 0) address))
     (pull (λ (s : AddResult). addedCode (s .answer)) (refusedAdd e) (addPeerChecks e address)
     (record { endpoint = withAddress e (e .«peer_count») address; answer = A.Number (e .«peer_count») })
-    ∙ peer-rows (eqb (e .port) 0) (eqb (address / 2 ^ 24) 0) (leb 224 (address / 2 ^ 24)) (eqb address (e .own)) _)
+    ∙ simp choices (peer-rows (eqb (e .port) 0) (eqb (address / 2 ^ 24) 0) (leb 224 (address / 2 ^ 24)) (eqb address (e .own)) _))
 
 -- numbers up to b are those not above it
 up-to : (n b : ℕ) → ltb n (suc b) ≡ not (ltb b n)
@@ -132,9 +133,12 @@ add-binding-number e peer kind network tenant =
     rw (some-lowest (min (e .«binding_count») mostBindings) (P.isBinding e peer kind network), sym (network-bad kind network))
     (pull (λ (s : AddResult). addedCode (s .answer)) (refusedAdd e) (addBindingChecks e peer kind network tenant)
     (record { endpoint = withBinding e (e .«binding_count») peer kind network tenant; answer = A.Number (e .«binding_count») })
-    ∙ row3 18 (leb (min (e .«peer_count») mostPeers) peer) (not (isNetwork kind network)) (ltb 65535 tenant) _)
+    ∙ simp choices (row3 18 (leb (min (e .«peer_count») mostPeers) peer) (not (isNetwork kind network)) (ltb 65535 tenant) _))
 
 -- ---- the inner frame: 12, 13
+
+frame-row : (n : ℕ) (frame : List ℕ) → T.frameNumber n (frameOf frame) ≡ pick (T.badFrame frame) 13 n
+frame-row n frame = simp choices at (wire-table .inner-frame n frame)
 
 -- the number of a verdict
 verdictNumber : Verdict answers → ℕ
@@ -149,7 +153,7 @@ module _ (e : Endpoint) (peer kind network : ℕ) (frame : List ℕ) where
   unfolding innerFrom binds verdictNumber P.innerRows
   inner-number =
       rw (some-lowest (P.bindings e) (P.isBinding e peer kind network))
-      (by-binding (lowest (P.isBinding e peer kind network) (P.bindings e)))
+      (simp choices (by-binding (lowest (P.isBinding e peer kind network) (P.bindings e))))
     where
       by-frame : (r : FrameRead) (t : Target) → verdictNumber (byFrame r t) ≡ T.frameNumber 0 r
       by-frame F.Good t = refl
@@ -157,7 +161,7 @@ module _ (e : Endpoint) (peer kind network : ℕ) (frame : List ℕ) where
 
       by-binding : (o : Option ℕ) → verdictNumber (byBinding (e .tenants) o (frameOf frame)) ≡ pick (not (isSome o)) 12 (pick (T.badFrame frame) 13 0)
       by-binding none = refl
-      by-binding (some b) = by-frame (frameOf frame) (record { tenant = getD (e .tenants) b 0; binding = b }) ∙ wire-table .inner-frame 0 frame
+      by-binding (some b) = by-frame (frameOf frame) (record { tenant = getD (e .tenants) b 0; binding = b }) ∙ frame-row 0 frame
 
 -- ---- a complete STT frame: 11, 12, 13
 
@@ -231,7 +235,7 @@ module _ (e : Endpoint) (m k : List ℕ) where
   protocol = T.protocolOf k
 
   abbrev payload : List ℕ
-  payload = T.payloadOf k
+  payload = part k start end
 
   abbrev carried : Segment
   carried = record {
@@ -279,7 +283,8 @@ module _ (e : Endpoint) (m k : List ℕ) where
   segment-is : peer < mostPeers → 55296 ≤ length m → segmentNumber carried ≡ T.numbered (P.sttNext e m peer payload)
   unfolding segmentNumber P.sttNext
   segment-is small enough =
-      ap (λ (bs : List ℕ). seenNumber e m (segment peer (segOf carried bs))) (sym (part-drop k start end (4 * T.dataWordsOf payload)))
+      ap (λ (bs : List ℕ). seenNumber e m (segment peer (segOf carried bs)))
+      (sym (part-drop k start end (4 * T.dataWordsOf payload)) ∙ sym (segment-bytes-are payload))
       ∙ segment-number e m peer (P.segmentOf payload) small enough
 
   payload-number : Bytes k → peer < mostPeers → 55296 ≤ length m
@@ -293,7 +298,7 @@ module _ (e : Endpoint) (m k : List ℕ) where
       ∙ sym (behind carriage next 0)
     where
       short : length payload ≤ 65535
-      short = let t : end < 256 ^ 2 = be-lt k bytes 2 2 in omega (arith, part-short k start end)
+      short = omega (arith, total-most k bytes, part-short k start end)
 
       by-protocol : cond (eqb protocol 17) (T.vxlanRows payload otherwise tunnelNumber (record { kind = 1; network = T.vniOf payload; start = 16 }))
           (cond (eqb protocol 47) (T.nvgreRows payload otherwise tunnelNumber (record { kind = 2; network = T.vsidOf payload; start = 8 }))
@@ -344,12 +349,19 @@ module _ (e : Endpoint) (m k : List ℕ) where
         by-header (I.Packet h) = refl
         by-header (I.Refused r) = refl
 
+  -- behind 5: 6, 7, and the rest
+  abbrev ours : T.Rows
+  ours = (not (eqb (T.destinationOf k) (e .own)) ⇒ 6) ∷ (not (someBelow (P.peers e) sends) ⇒ 7) ∷ (carriage andThen next)
+
+  behind-header : (T.ipv4Rows k otherwise pick (not (eqb (T.destinationOf k) (e .own))) 6 seventh) ≡ T.numbered (T.ipv4Rows k andThen ours)
+  behind-header = sym (simp choices at (behind (T.ipv4Rows k) ours 0))
+
   pub receive-number : Bytes k → valuesOf (stepOf e m k .answer) .number ≡ T.numbered (P.receiveRows e m k)
   unfolding stepOf seenNumber P.receiveRows
   receive-number bytes =
       caseB (ltb (length m) 55296)
-      (λ q. rw q)
-      (λ q. rw q (header-number bytes (ltb-false (length m) 55296 q) ∙ sym (behind (T.ipv4Rows k) _ 0)))
+      (λ q. simp (choices, q))
+      (λ q. simp (choices, q, payload-is k) (header-number bytes (ltb-false (length m) 55296 q) ∙ behind-header))
 
 -- a refusal and answer 1 carry no tenant, no binding and the empty place
 pub receive-empties : (a : Received) → valuesOf a .number ≢ 0
@@ -362,7 +374,7 @@ receive-empties (R.Dropped r) d = refl
 
 -- a frame is refused exactly where it is bad
 frame-bad : (frame : List ℕ) → isBad (frameOf frame) ≡ T.badFrame frame
-frame-bad frame = by (frameOf frame) (T.badFrame frame) (λ n. wire-table .inner-frame n frame)
+frame-bad frame = by (frameOf frame) (T.badFrame frame) (λ n. frame-row n frame)
   where
     by : (r : FrameRead) (b : Bool) → ((n : ℕ) → T.frameNumber n r ≡ pick b 13 n) → isBad r ≡ b
     by F.Good true h = absurd (omega (arith, h 0))
@@ -396,22 +408,22 @@ module _ (e : Endpoint) (b : ℕ) (frame : List ℕ) (k identifier : ℕ) (outpu
 
   last-vxlan : kindAt e b ≡ 1 → lastNumber ≡ T.numbered lastWrapRows
   unfolding exceeds segmentsOf packetOf
-  last-vxlan q = rw (q, vxlan-length-is (e .own) (peerAt e b) (low32 (networkAt e b)) frame)
+  last-vxlan q = rw (q, vxlan-length-is (e .own) (peerAt e b) (low32 (networkAt e b)) frame) (simp choices)
 
   last-nvgre : kindAt e b ≡ 2 → lastNumber ≡ T.numbered lastWrapRows
   unfolding exceeds segmentsOf packetOf
-  last-nvgre q = rw (q, nvgre-length-is (e .own) (peerAt e b) (low32 (networkAt e b)) frame)
+  last-nvgre q = rw (q, nvgre-length-is (e .own) (peerAt e b) (low32 (networkAt e b)) frame) (simp choices)
 
   last-stt : kindAt e b ≡ 3 → 576 ≤ e .mtu → lastNumber ≡ T.numbered lastWrapRows
   unfolding exceeds packetOf
   last-stt q l =
       rw (q, many-stt (length frame) (e .mtu) l)
-      (under (λ (n : ℕ). n) ((leb ((18 + length frame + capacity (e .mtu) - 1) / capacity (e .mtu)) k ⇒ 23) ∷ []) _ _ (λ p.
+      (simp choices (unless (leb ((18 + length frame + capacity (e .mtu) - 1) / capacity (e .mtu)) k) 23 _ _ (λ p.
       let many : k < (18 + length frame + capacity (e .mtu) - 1) / capacity (e .mtu) =
-      leb-false ((18 + length frame + capacity (e .mtu) - 1) / capacity (e .mtu)) k (p .0) in
+      leb-false ((18 + length frame + capacity (e .mtu) - 1) / capacity (e .mtu)) k p in
       let begins : k * capacity (e .mtu) < 18 + length frame = starts-within (18 + length frame) (capacity (e .mtu)) k (omega arith) many in
       rw (segment-length-is (e .own) (peerAt e b) (e .port) (networkAt e b) identifier (segmentStart (e .mtu) k) (segmentSize (length frame) (e .mtu) k)
-      (eqb (k + 1) ((18 + length frame + capacity (e .mtu) - 1) / capacity (e .mtu))) frame (omega arith))))
+      (eqb (k + 1) ((18 + length frame + capacity (e .mtu) - 1) / capacity (e .mtu))) frame (omega arith)))))
 
   last-number : Listed e b → lastNumber ≡ T.numbered lastWrapRows
   last-number l = by (by-kind (kindAt e b) (networkAt e b) (l .network-good))
@@ -425,10 +437,10 @@ module _ (e : Endpoint) (b : ℕ) (frame : List ℕ) (k identifier : ℕ) (outpu
   unfolding wrapOf wrapChecks configOf P.wrapRows
   wrap-number reached =
       pull (λ (w : Wrote). wrapValuesOf (w .answer) .number) (refusedWrap output) (wrapChecks e b frame k identifier output) _
-      ∙ under (λ (n : ℕ). n) ((leb (P.bindings e) b ⇒ 23) ∷ []) _ _ (λ p.
-      let l = ready-listed e b (reached-ready e reached) (leb-false (P.bindings e) b (p .0)) in
+      ∙ simp choices (unless (leb (P.bindings e) b) 23 _ _ (λ p.
+      let l = ready-listed e b (reached-ready e reached) (leb-false (P.bindings e) b p) in
       rw (lt-leb mostPeers (ownerAt e b) (l .owner-below), frame-bad frame)
-      (ap (pick (T.badFrame frame) 13) (last-number l)))
+      (ap (pick (T.badFrame frame) 13) (simp choices at (last-number l)))))
 
 -- a refusal carries the length 0 and no segment
 pub wrap-empties : (a : Wrapped) → wrapValuesOf a .number ≢ 0 → wrapValuesOf a ≡ record { number = wrapValuesOf a .number; length-is = 0; segments = 0 }

@@ -11,6 +11,7 @@ use native.Mathlib.Nat.{le-refl}
 use borrow.Author.Tests.{ne-eqb, ltb-true, ltb-false, eqb-true, eqb-false, lt-ltb, le-ltb}
 use lib.ListN.{length, getD, take, replicate, length-replicate}
 use lib.Dec.{ltb, eqb}
+use Rattle.wire.specs.Checks.{first}
 use Rattle.wire.specs.Bytes.{Bytes, beAt}
 use Rattle.wire.specs.Laws.Bytes.{be-two}
 use Rattle.wire.specs.Frame.{IsFrame}
@@ -111,32 +112,32 @@ abbrev held : Endpoint → (b p : ℕ) → List ℕ
 held e b p = e .own ∷ e .port ∷ e .mtu ∷ e .«peer_count» ∷ e .«binding_count» ∷ addressAt e p ∷ ownerAt e b ∷ kindAt e b ∷ networkAt e b ∷ []
 
 sends-vxlan : held sender 0 0 ≡ 167772161 ∷ 7471 ∷ 576 ∷ 1 ∷ 3 ∷ 167772162 ∷ 0 ∷ 1 ∷ 22 ∷ []
-unfolding addressAt configOf from lowest hasAddress findPeer binds findBinding fresh startChecks startOf addPeerChecks withAddress addPeerOf isNetwork
+unfolding first addressAt configOf from lowest hasAddress findPeer binds findBinding fresh startChecks startOf addPeerChecks withAddress addPeerOf isNetwork
     addBindingChecks withBinding addBindingOf added addedAll setUp
 sends-vxlan = refl
 
 takes-vxlan : held receiver 2 1 ≡ 167772162 ∷ 7471 ∷ 576 ∷ 2 ∷ 3 ∷ 167772161 ∷ 1 ∷ 1 ∷ 22 ∷ []
-unfolding addressAt configOf from lowest hasAddress findPeer binds findBinding fresh startChecks startOf addPeerChecks withAddress addPeerOf isNetwork
+unfolding first addressAt configOf from lowest hasAddress findPeer binds findBinding fresh startChecks startOf addPeerChecks withAddress addPeerOf isNetwork
     addBindingChecks withBinding addBindingOf added addedAll setUp
 takes-vxlan = refl
 
 sends-nvgre : held sender 1 0 ≡ 167772161 ∷ 7471 ∷ 576 ∷ 1 ∷ 3 ∷ 167772162 ∷ 0 ∷ 2 ∷ 4096 ∷ []
-unfolding addressAt configOf from lowest hasAddress findPeer binds findBinding fresh startChecks startOf addPeerChecks withAddress addPeerOf isNetwork
+unfolding first addressAt configOf from lowest hasAddress findPeer binds findBinding fresh startChecks startOf addPeerChecks withAddress addPeerOf isNetwork
     addBindingChecks withBinding addBindingOf added addedAll setUp
 sends-nvgre = refl
 
 takes-nvgre : held receiver 1 1 ≡ 167772162 ∷ 7471 ∷ 576 ∷ 2 ∷ 3 ∷ 167772161 ∷ 1 ∷ 2 ∷ 4096 ∷ []
-unfolding addressAt configOf from lowest hasAddress findPeer binds findBinding fresh startChecks startOf addPeerChecks withAddress addPeerOf isNetwork
+unfolding first addressAt configOf from lowest hasAddress findPeer binds findBinding fresh startChecks startOf addPeerChecks withAddress addPeerOf isNetwork
     addBindingChecks withBinding addBindingOf added addedAll setUp
 takes-nvgre = refl
 
 sends-stt : held sender 2 0 ≡ 167772161 ∷ 7471 ∷ 576 ∷ 1 ∷ 3 ∷ 167772162 ∷ 0 ∷ 3 ∷ 72623859790382856 ∷ []
-unfolding addressAt configOf from lowest hasAddress findPeer binds findBinding fresh startChecks startOf addPeerChecks withAddress addPeerOf isNetwork
+unfolding first addressAt configOf from lowest hasAddress findPeer binds findBinding fresh startChecks startOf addPeerChecks withAddress addPeerOf isNetwork
     addBindingChecks withBinding addBindingOf added addedAll setUp
 sends-stt = refl
 
 takes-stt : held receiver 0 1 ≡ 167772162 ∷ 7471 ∷ 576 ∷ 2 ∷ 3 ∷ 167772161 ∷ 1 ∷ 3 ∷ 72623859790382856 ∷ []
-unfolding addressAt configOf from lowest hasAddress findPeer binds findBinding fresh startChecks startOf addPeerChecks withAddress addPeerOf isNetwork
+unfolding first addressAt configOf from lowest hasAddress findPeer binds findBinding fresh startChecks startOf addPeerChecks withAddress addPeerOf isNetwork
     addBindingChecks withBinding addBindingOf added addedAll setUp
 takes-stt = refl
 
@@ -256,7 +257,7 @@ longest-good =
 
 -- the tenant that the receiver has for it
 tenant-is : getD (receiver .tenants) 0 0 ≡ 4
-unfolding configOf from lowest hasAddress findPeer binds findBinding fresh startChecks startOf addPeerChecks withAddress addPeerOf isNetwork addBindingChecks
+unfolding first configOf from lowest hasAddress findPeer binds findBinding fresh startChecks startOf addPeerChecks withAddress addPeerOf isNetwork addBindingChecks
     withBinding addBindingOf added addedAll setUp
 tenant-is = refl
 

@@ -10,7 +10,7 @@ use borrow.Author.Tests.{eq-eqb, ne-eqb, lt-ltb, le-ltb, le-leb, lt-leb, leb-tru
 use lib.ListN.{length, getD}
 use lib.Dec.{ltb, leb, eqb}
 use Rattle.wire.specs.Bytes.{wrote}
-use Rattle.wire.specs.Laws.Checks.{At, given, decided, tests}
+use Rattle.wire.specs.Laws.Checks.{At, given, decided, choices, tests}
 use Rattle.wire.specs.Frame.{frameOf}
 use Rattle.wire.specs.Write.{fits, segmentFits, vxlanPacket, nvgrePacket, segmentPacket, Written}
 use Rattle.wire.specs.Laws.Write.{fits-met, fits-says, segment-fits-met, segment-fits-says, vxlan-length-is, nvgre-length-is, segment-length-is}
@@ -234,12 +234,12 @@ module _ (t : Route) (frame : List ℕ) (k identifier : ℕ) (old : List ℕ) wh
 module _ (e : Endpoint) (b : ℕ) (frame : List ℕ) (k identifier : ℕ) (old : List ℕ) where
   pub wrap-unlisted : min (e .«binding_count») mostBindings ≤ b → Leaves (wrapOf e b frame k identifier old) (Y.Refused X.Binding) old
   unfolding wrapOf wrapChecks configOf
-  wrap-unlisted h = rw (le-leb (min (e .«binding_count») mostBindings) b h) (refl, refl)
+  wrap-unlisted h = simp (choices, le-leb (min (e .«binding_count») mostBindings) b h) (refl, refl)
 
   module _ (listed : b < min (e .«binding_count») mostBindings) where
     pub wrap-ownerless : mostPeers ≤ ownerAt e b → Leaves (wrapOf e b frame k identifier old) (Y.Refused X.Binding) old
     unfolding wrapOf wrapChecks configOf
-    wrap-ownerless h = rw (lt-leb (min (e .«binding_count») mostBindings) b listed, le-leb mostPeers (ownerAt e b) h) (refl, refl)
+    wrap-ownerless h = simp (choices, lt-leb (min (e .«binding_count») mostBindings) b listed, le-leb mostPeers (ownerAt e b) h) (refl, refl)
 
     -- the peer's address, as the code reads it
     pub wrap-sends : ownerAt e b < mostPeers
@@ -256,7 +256,7 @@ module _ (e : Endpoint) (b : ℕ) (frame : List ℕ) (k identifier : ℕ) (old :
         frame k identifier old
     unfolding wrapOf wrapChecks configOf sendOf sendChecks
     wrap-sends h =
-        rw (lt-leb (min (e .«binding_count») mostBindings) b listed, lt-leb mostPeers (ownerAt e b) h)
+        simp (choices, lt-leb (min (e .«binding_count») mostBindings) b listed, lt-leb mostPeers (ownerAt e b) h)
 
 -- it knows of an endpoint only the columns and settings that it is lent
 pub wrap-lent : (e : Endpoint) (b : ℕ) (frame : List ℕ) (k identifier : ℕ) (old : List ℕ)

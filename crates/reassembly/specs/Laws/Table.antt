@@ -3,13 +3,14 @@
 use Prim.Native.Nat.{ℕ, _+_, _<_, _≤_}
 use mathlib.Core.Path.{_≡_, refl, sym, ap, _∙_}
 use mathlib.Core.Bool.{Bool, true, false, not, cond, _&&_, _||_}
-use mathlib.Core.List.{List, [], _∷_}
+use mathlib.Core.List.{List}
 use mathlib.Core.Option.{Option, none, some}
 use native.Mathlib.Omega.{arith}
 use lib.ListN.{length, getD, set}
 use lib.Dec.{ltb, eqb}
 use borrow.Author.Tests.{ltb-false, not-true, not-false}
-use Rattle.wire.specs.Checks.{pick, _⇒_}
+use Rattle.wire.specs.Checks.{pick}
+use Rattle.wire.specs.Laws.Checks.{choices, unless}
 use Rattle.wire.specs.Table.{_otherwise_}
 use Rattle.wire.specs.Laws.Table.{under, row4}
 use Rattle.reassembly.specs.Laws.Base.{caseB, caseO, clash, or-false-l, or-false-r, allBelow-ext, allBelow-at, allBelow-intro, table-ext, length-table}
@@ -222,15 +223,14 @@ module _ (f : List ℕ → ℕ) (p : ℕ) (row : Peer) (m : List ℕ) (g : Seg) 
       (completeFrame p row m g))
   unfolding effectNumber placedNumber takeSegment segmentRows
   segment-number small enough =
-      chosen-is (λ (c : Choice). effectNumber (placed bytesOf p slots m g c)) slots g
-      ∙ under (λ (n : ℕ). n)
-      ((eqb (length (g .bytes)) 0 ⇒ 14)
-      ∷ (ltb frameLength 32 ⇒ 14)
-      ∷ (ltb 1532 frameLength ⇒ 14)
-      ∷ (ltb frameLength (g .offset + length (g .bytes)) ⇒ 14)
-      ∷ []) _ _
-      (λ h. choose-number enough small (ltb-false 1532 frameLength (h .1 .1 .0)) (ltb-false frameLength (g .offset + length (g .bytes)) (h .1 .1 .1 .0)))
-      ∙ row4 14 (eqb (length (g .bytes)) 0) (ltb frameLength 32) (ltb 1532 frameLength) (ltb frameLength (g .offset + length (g .bytes))) _
+      simp choices
+      (chosen-is (λ (c : Choice). effectNumber (placed bytesOf p slots m g c)) slots g
+      ∙ unless (eqb (length (g .bytes)) 0) 14 _ _ (λ _.
+      unless (ltb frameLength 32) 14 _ _ (λ _.
+      unless (ltb 1532 frameLength) 14 _ _ (λ most.
+      unless (ltb frameLength (g .offset + length (g .bytes))) 14 _ _ (λ inside.
+      choose-number enough small (ltb-false 1532 frameLength most) (ltb-false frameLength (g .offset + length (g .bytes)) inside)))))
+      ∙ row4 14 (eqb (length (g .bytes)) 0) (ltb frameLength 32) (ltb 1532 frameLength) (ltb frameLength (g .offset + length (g .bytes))) _)
 
   taken-number : p < mostPeers → 55296 ≤ length m → effectNumber (takeIn p row m g) ≡ (segmentRows p row m g otherwise f (completeFrame p row m g))
   taken-number small enough = ap effectNumber (take-in p row m g small enough) ∙ segment-number small enough

@@ -173,7 +173,7 @@ module _ (s t : List ℕ) (n : ℕ) (same : take n s ≡ take n t) where
   same-front k h = sym (take-take k n s h) ∙ ap (take k) same ∙ take-take k n t h
 
   pub ignores-trailing : 20 ≤ n → n ≤ length s → n ≤ length t → beAt s 2 2 ≤ n → ipv4Of s ≡ ipv4Of t
-  unfolding ipv4Of ipv4Checks ipv4At
+  unfolding ipv4Of ipv4Checks ipv4At first
   ignores-trailing a ls lt total-within =
       let e0 : beAt s 0 1 ≡ beAt t 0 1 = same-field 0 1 (omega arith) in
       let e2 : beAt s 2 2 ≡ beAt t 2 2 = same-field 2 2 (omega arith) in

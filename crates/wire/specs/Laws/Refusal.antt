@@ -1,9 +1,10 @@
--- The numbers of two readers' refusals: a complete STT frame's is 11, an inner frame's is 13.
+-- The numbers of refusals: at most 13; a complete STT frame's is 11, an inner frame's is 13.
 -- Assumes nothing.
 use Prim.Native.Nat.{ℕ, _≤_, _%_}
 use mathlib.Core.Path.{_≡_, refl, sym, ap, _∙_}
 use mathlib.Core.Bool.{true, false, not}
 use mathlib.Core.List.{List, [], _∷_}
+use native.Mathlib.Omega.{arith}
 use borrow.Author.Tests.{le-ltb}
 use lib.ListN.{length}
 use lib.Dec.{eqb}
@@ -19,6 +20,33 @@ use Rattle.wire.specs.declared.stt.SttRead.the-variants as T
 use Rattle.wire.specs.declared.frame.FrameRead.{FrameRead}
 use Rattle.wire.specs.declared.frame.FrameRead.the-variants as F
 
+-- a format refuses by 13 at most
+pub code-most : (r : Refusal) → codeOf r ≤ 13
+unfolding codeOf
+code-most R.Truncated = omega arith
+code-most R.Version = omega arith
+code-most R.HeaderLength = omega arith
+code-most R.TotalLength = omega arith
+code-most R.HeaderChecksum = omega arith
+code-most R.Fragment = omega arith
+code-most R.Protocol = omega arith
+code-most R.Port = omega arith
+code-most R.Short = omega arith
+code-most R.UdpLength = omega arith
+code-most R.TcpLength = omega arith
+code-most R.DataOffset = omega arith
+code-most R.UdpChecksum = omega arith
+code-most R.TcpChecksum = omega arith
+code-most R.VxlanFlag = omega arith
+code-most R.GreFlags = omega arith
+code-most R.GreVersion = omega arith
+code-most R.GreTypeHigh = omega arith
+code-most R.GreTypeLow = omega arith
+code-most R.SttVersion = omega arith
+code-most R.SttFlags = omega arith
+code-most R.FrameLength = omega arith
+code-most R.FrameTag = omega arith
+
 -- every check of the list refuses with the number n
 abbrev Gives : ℕ → List (Check Refusal) → Type 0
 Gives n [] = Unit {0}
@@ -28,6 +56,7 @@ Gives n ((test ⇒ r) ∷ checks) = (codeOf r ≡ n) × Gives n checks
 gives : {A : Type 0} (number : A → ℕ) (refused : Refusal → A) (n : ℕ) (checks : List (Check Refusal)) (accepted : A)
     → ((r : Refusal) → number (refused r) ≡ codeOf r) → number accepted ≡ n
     → Gives n checks → number (first refused checks accepted) ≡ n
+unfolding first
 gives number refused n [] accepted f a g = a
 gives number refused n ((true ⇒ r) ∷ checks) accepted f a g = rw (f r) (g .0)
 gives number refused n ((false ⇒ r) ∷ checks) accepted f a g = gives number refused n checks accepted f a (g .1)
@@ -37,7 +66,7 @@ sttNumber (T.Header context) = 11
 sttNumber (T.Refused r) = codeOf r
 
 pub stt-code : (s : List ℕ) (r : Refusal) → 18 ≤ length s → sttOf s ≡ T.Refused r → codeOf r ≡ 11
-unfolding sttOf sttChecks
+unfolding sttOf sttChecks first codeOf
 stt-code s r l e =
     let two : List (Check Refusal) = (not (eqb (beAt s 0 1) 0) ⇒ R.SttVersion) ∷ (eqb (beAt s 1 1 % 4) 3 ⇒ R.SttFlags) ∷ [] in
     let z : first T.Refused two (T.Header (beAt s 8 8)) ≡ T.Refused r = rw (le-ltb (length s) 18 l) at e in
@@ -48,5 +77,5 @@ frameNumber F.Good = 13
 frameNumber (F.Refused r) = codeOf r
 
 pub frame-code : (s : List ℕ) (r : Refusal) → frameOf s ≡ F.Refused r → codeOf r ≡ 13
-unfolding frameOf frameChecks
+unfolding frameOf frameChecks codeOf
 frame-code s r e = sym (ap frameNumber e) ∙ gives frameNumber F.Refused 13 (frameChecks s) F.Good (λ x. refl) refl (refl, (refl, (refl, (refl, tt))))

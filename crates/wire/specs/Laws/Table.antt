@@ -1,6 +1,6 @@
 -- What each reader answers, by document 01's rows (Table.antt).
 -- Assumes nothing.
-use Prim.Native.Nat.{ℕ, _+_, _*_, _/_, _%_, _<_, _≤_}
+use Prim.Native.Nat.{ℕ, _+_, _*_, _/_, _%_, _^_, _<_, _≤_}
 use mathlib.Core.Path.{_≡_, refl, sym, ap, _∙_}
 use mathlib.Core.Logic.{_≢_}
 use mathlib.Core.Bool.{Bool, true, false, not, cond, _&&_, _||_}
@@ -11,7 +11,7 @@ use lib.Dec.{ltb, eqb}
 use borrow.Author.Tests.{ltb-false, eqb-true, eqb-false, eq-eqb, le-ltb, ne-eqb}
 use Rattle.wire.specs.Checks.{pick, Check, _⇒_, first, Passed}
 use Rattle.wire.specs.Laws.Checks.{tests}
-use Rattle.wire.specs.Bytes.{Bytes, beAt}
+use Rattle.wire.specs.Bytes.{Bytes, beAt, part}
 use Rattle.wire.specs.Laws.Bytes.{caseB, be-lt, be-split, be-drop}
 use Rattle.wire.specs.Sum.{total, ones, pseudo}
 use Rattle.wire.specs.Refusal.{codeOf}
@@ -31,6 +31,9 @@ use Rattle.wire.specs.declared.stt.SttRead.the-variants as H
 use Rattle.wire.specs.declared.frame.FrameRead.the-variants as F
 use Rattle.wire.specs.declared.carriage.Tunnel.{Tunnel}
 use Rattle.wire.specs.Table.{Rows, _andThen_, _otherwise_, ipv4Rows, payloadRows, vxlanRows, nvgreRows, sttRows, badFrame, ipv4Number, carriedNumber}
+use Rattle.wire.specs.Table.{totalLengthOf, headerLengthOf, dataWordsOf, sourceOf, destinationOf, protocolOf, vniOf, vsidOf, frameLengthOf, offsetOf}
+use Rattle.wire.specs.Table.{identifierOf, contextOf}
+use Rattle.wire.specs.Table.{payloadOf, segmentBytesOf}
 use Rattle.wire.specs.Table.{sttNumber, frameNumber, Table}
 
 -- ---- rows
@@ -38,18 +41,21 @@ use Rattle.wire.specs.Table.{sttNumber, frameNumber, Table}
 -- what is made of the answer of a list of checks
 pub pull : {R A B : Type 0} (g : A → B) (refused : R → A) (checks : List (Check R)) (accepted : A)
     → g (first refused checks accepted) ≡ first (λ (r : R). g (refused r)) checks (g accepted)
+unfolding first
 pull g refused [] accepted = refl
 pull g refused ((true ⇒ r) ∷ checks) accepted = refl
 pull g refused ((false ⇒ r) ∷ checks) accepted = pull g refused checks accepted
 
 -- behind checks, what holds where none is met
 pub under : {R A : Type 0} (f : R → A) (checks : List (Check R)) (x y : A) → (Passed checks → x ≡ y) → first f checks x ≡ first f checks y
+unfolding first
 under f [] x y h = h tt
 under f ((true ⇒ r) ∷ checks) x y h = refl
 under f ((false ⇒ r) ∷ checks) x y h = under f checks x y (λ p. h (refl, p))
 
 -- rows behind rows
 pub behind : (a b : Rows) (n : ℕ) → (a andThen b otherwise n) ≡ (a otherwise (b otherwise n))
+unfolding first
 behind [] b n = refl
 behind ((true ⇒ r) ∷ a) b n = refl
 behind ((false ⇒ r) ∷ a) b n = behind a b n
@@ -75,7 +81,7 @@ row6 n a b c d f g x = row5 n a b c d f (pick g n x) ∙ row2 n (a || b || c || 
 -- ---- the outer header: 3, 4, 5
 
 ipv4-number : (f : Ipv4 → ℕ) (k : List ℕ) → ipv4Number f (ipv4Of k) ≡ (ipv4Rows k otherwise f (ipv4At k))
-unfolding ipv4Of ipv4Checks ipv4Rows
+unfolding ipv4Of ipv4Checks ipv4Rows first codeOf totalLengthOf headerLengthOf
 ipv4-number f k =
     pull (ipv4Number f) I.Refused (ipv4Checks k) (I.Packet (ipv4At k))
     ∙ row5 3 (ltb (length k) 20) (not (eqb (beAt k 0 1 / 16) 4)) (ltb (beAt k 0 1 % 16) 5) (ltb (beAt k 2 2) (4 * (beAt k 0 1 % 16)))
@@ -114,11 +120,11 @@ type-row s w =
 
 -- 11 of VXLAN, where there is room for its header, and of NVGRE
 flag-row : (s : List ℕ) → 16 ≤ length s → (x : ℕ) → first codeOf (vxlanChecks (drop 8 s)) x ≡ (vxlanRows s otherwise x)
-unfolding vxlanChecks vxlanRows
+unfolding vxlanChecks vxlanRows first codeOf
 flag-row s l x = rw (le-ltb (length (drop 8 s)) 8 (omega (arith, length-drop 8 s)), be-drop s 8 0 1)
 
 gre-row : (s : List ℕ) → Bytes s → 8 ≤ length s → (x : ℕ) → first codeOf (nvgreChecks s) x ≡ (nvgreRows s otherwise x)
-unfolding nvgreChecks nvgreRows
+unfolding nvgreChecks nvgreRows codeOf first
 gre-row s w l x =
     rw (le-ltb (length s) 8 l, type-row s w)
     (ap (λ (y : ℕ). pick (ltb (beAt s 0 1) 32) 11 (pick (ltb 35 (beAt s 0 1)) 11 (pick (not (eqb (beAt s 1 1 % 8) 0)) 11 y)))
@@ -148,25 +154,25 @@ module _ (f : Tunnel → ℕ) (g : Segment → ℕ) (protocol source destination
 
   -- the checks of each protocol are the page's
   udp-rows : protocol ≡ 17 → (x : ℕ) → first codeOf (udpChecks source destination s) x ≡ (rows otherwise x)
-  unfolding udpChecks udpSum payloadRows
+  unfolding udpChecks udpSum payloadRows codeOf first
   udp-rows q x =
       rw (q, sum-row (beAt s 6 2) (ones (total (pseudo source destination 17 (length s) ++ s))))
       (vxlan-shape (ltb (length s) 8) (not (eqb (beAt s 2 2) 4789)) (not (eqb (beAt s 4 2) (length s))) (ltb (length s) 16)
       (not (eqb (beAt s 6 2) 0) && not (eqb (ones (total (pseudo source destination 17 (length s) ++ s))) 65535)) x)
 
   nvgre-rows : protocol ≡ 47 → (x : ℕ) → pick (ltb (length s) 8) 9 x ≡ (rows otherwise x)
-  unfolding payloadRows
+  unfolding payloadRows first
   nvgre-rows q x = rw q (nvgre-shape (ltb (length s) 8) x)
 
   segment-rows : protocol ≡ 6 → length s ≤ 65535 → (x : ℕ) → first codeOf (segmentChecks source destination port s) x ≡ (rows otherwise x)
-  unfolding segmentChecks payloadRows
+  unfolding segmentChecks payloadRows first codeOf dataWordsOf
   segment-rows q l x =
       rw (q, le-ltb 65535 (length s) l)
       (ap (λ (y : ℕ). pick (ltb (length s) 20) 9 (pick (not (eqb (beAt s 2 2) port)) 8 y))
       (row2 9 (ltb (beAt s 12 1 / 16) 5) (ltb (length s) (4 * (beAt s 12 1 / 16))) _))
 
   none-rows : eqb protocol 17 ≡ false → eqb protocol 47 ≡ false → eqb protocol 6 ≡ false → (x : ℕ) → 8 ≡ (rows otherwise x)
-  unfolding payloadRows
+  unfolding payloadRows first
   none-rows a b c x = rw (a, b, c)
 
   -- what follows them
@@ -187,7 +193,7 @@ module _ (f : Tunnel → ℕ) (g : Segment → ℕ) (protocol source destination
       ∙ udp-rows q vxlanNext
 
   by-nvgre : Bytes s → protocol ≡ 47 → carriedNumber f g (nvgreOf s) ≡ (rows otherwise nvgreNext)
-  unfolding nvgreChecks
+  unfolding nvgreChecks first codeOf
   by-nvgre w q = nvgre-read ∙ short-first ∙ nvgre-rows q nvgreNext
     where
       short-first : first codeOf (nvgreChecks s) (f (record { start = 8; network = beAt s 4 3; kind = 2 })) ≡ pick (ltb (length s) 8) 9 nvgreNext
@@ -202,7 +208,7 @@ module _ (f : Tunnel → ℕ) (g : Segment → ℕ) (protocol source destination
   payload-number : Bytes s → length s ≤ 65535
       → carriedNumber f g (carriageOf protocol source destination port s)
       ≡ (rows otherwise cond (eqb protocol 17) vxlanNext (cond (eqb protocol 47) nvgreNext (g (segmentAt s))))
-  unfolding carriageOf
+  unfolding carriageOf codeOf
   payload-number w l =
       caseB (eqb protocol 17)
       (λ a. rw a (by-vxlan (eqb-true protocol 17 a)))
@@ -215,7 +221,7 @@ module _ (f : Tunnel → ℕ) (g : Segment → ℕ) (protocol source destination
 -- ---- a complete STT frame: 11
 
 stt-number : (f : ℕ → ℕ) (frame : List ℕ) → 18 ≤ length frame → sttNumber f (sttOf frame) ≡ (sttRows frame otherwise f (beAt frame 8 8))
-unfolding sttOf sttChecks sttRows
+unfolding sttOf sttChecks sttRows first codeOf
 stt-number f frame l =
     pull (sttNumber f) H.Refused (sttChecks frame) (H.Header (beAt frame 8 8))
     ∙ rw (le-ltb (length frame) 18 l) (row2 11 (not (eqb (beAt frame 0 1) 0)) (eqb (beAt frame 1 1 % 4) 3) _)
@@ -223,15 +229,29 @@ stt-number f frame l =
 -- ---- the inner frame: 13
 
 frame-number : (n : ℕ) (frame : List ℕ) → frameNumber n (frameOf frame) ≡ ((badFrame frame ⇒ 13) ∷ [] otherwise n)
-unfolding frameOf frameChecks badFrame
+unfolding frameOf frameChecks badFrame first codeOf
 frame-number n frame =
     pull (frameNumber n) F.Refused (frameChecks frame) F.Good
     ∙ row4 13 (ltb (length frame) 14) (ltb 1514 (length frame)) (eqb (beAt frame 12 2) 33024) (eqb (beAt frame 12 2) 34984) n
 
+-- ---- the fields: what a reader of the page needs of their places
+
+pub payload-is : (packet : List ℕ) → payloadOf packet ≡ part packet (headerLengthOf packet) (totalLengthOf packet)
+unfolding payloadOf
+payload-is packet = refl
+
+pub segment-bytes-are : (payload : List ℕ) → segmentBytesOf payload ≡ drop (4 * dataWordsOf payload) payload
+unfolding segmentBytesOf
+segment-bytes-are payload = refl
+
+pub total-most : (packet : List ℕ) → Bytes packet → totalLengthOf packet ≤ 65535
+unfolding totalLengthOf
+total-most packet bytes = let t : beAt packet 2 2 < 256 ^ 2 = be-lt packet bytes 2 2 in omega arith
+
 -- ---- the table
 
 pub wire-table : Table
-unfolding ipv4At segmentAt
+unfolding ipv4At segmentAt headerLengthOf totalLengthOf sourceOf destinationOf protocolOf vniOf vsidOf frameLengthOf offsetOf identifierOf dataWordsOf contextOf
 wire-table = record {
   ipv4 = ipv4-number;
   payload = payload-number;
