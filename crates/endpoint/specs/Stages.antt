@@ -2,7 +2,7 @@
 -- up to `Receive.stepOf`.
 -- Assumes nothing.
 use Prim.Native.Nat.{ℕ, _+_, _-_, _*_, _<_, _≤_, min}
-use mathlib.Core.Bool.{true, false, cond}
+use mathlib.Core.Bool.{Bool, true, false, cond}
 use mathlib.Core.List.{List}
 use mathlib.Core.Option.{Option, none, some}
 use lib.ListN.{length}
@@ -42,15 +42,6 @@ use Rattle.endpoint.specs.declared.receive.Offer.the-variants as B
 use Rattle.endpoint.specs.declared.receive.Changed.{Changed}
 use Rattle.reassembly.specs.Slots.{mostPeers, mostSlots}
 
--- the cause, where a reader refused
-abbrev pub ipDrop : Ipv4Read → Drop
-ipDrop (I.Packet h) = D.Memory
-ipDrop (I.Refused r) = D.Format r
-
-abbrev pub sttDrop : SttRead → Drop
-sttDrop (T.Header context) = D.Memory
-sttDrop (T.Refused r) = D.Format r
-
 -- ---- a packet is opened: check 2, then 3 to 10, and 11 for VXLAN and NVGRE. `room` is the memory's length, and `peers` of the addresses are listed
 
 -- what a listed peer's packet brings, by what it carries
@@ -66,6 +57,11 @@ contentFrom port h k = carriedFrom (h .start) (h .end) (carriageOf (h .protocol)
 -- a packet of no listed peer
 abbrev pub fromOther : Drop → Arrival
 fromOther d = record { peer = 0; content = A.Refused d }
+
+-- one of which no listed peer is known to be the sender, by what its IPv4 header reads as
+abbrev pub unlistedOf : Ipv4Read → Arrival
+unlistedOf (I.Refused r) = fromOther (D.Format r)
+unlistedOf (I.Packet h) = fromOther D.Peer
 
 abbrev pub openPeer : Option ℕ → Content → Arrival
 openPeer none content = fromOther D.Peer
@@ -105,6 +101,18 @@ Lies peer (O.Rejected r) size m = Unit {0}
 Lies peer O.Pending size m = Unit {0}
 Lies peer O.NoMemory size m = Unit {0}
 Lies peer (O.Complete s) size m = (peer < mostPeers) × ((s < mostSlots) × ((size ≤ 1532) × (55296 ≤ length m)))
+
+-- is there a segment to take
+abbrev pub bringsSegment : Content → Bool
+bringsSegment (A.Refused d) = false
+bringsSegment (A.Frame f) = false
+bringsSegment (A.Segment d) = true
+
+-- what there is to deliver while nothing is taken
+abbrev pub untakenOf : Content → Offer
+untakenOf (A.Refused d) = B.Refused d
+untakenOf (A.Frame f) = B.Frame f
+untakenOf (A.Segment d) = B.Pending
 
 -- the row and the memory that taking leaves, and what there is to deliver
 pub record Change : Type 0 where

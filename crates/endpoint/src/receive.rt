@@ -9,7 +9,7 @@ ghost use Rattle.wire.specs.Table.{numbered};
 ghost use Rattle.endpoint.specs.Table.{receiveRows};
 ghost use Rattle.endpoint.specs.Demand1.{ReceiveRule};
 ghost use Rattle.endpoint.specs.Receive.{stepOf, receiptOf};
-ghost use Rattle.endpoint.specs.Stages.{ipDrop, sttDrop, fromOther, contentFrom, openOf, offerAt, Lies, offerOf, takeOf, changedOf, deliverOf};
+ghost use Rattle.endpoint.specs.Stages.{fromOther, unlistedOf, contentFrom, openOf, offerAt, Lies, offerOf, bringsSegment, untakenOf, takeOf, changedOf, deliverOf};
 ghost use Rattle.endpoint.specs.Config.{mostBindings};
 use crate::answer::Drop;
 use crate::answer::Place;
@@ -85,31 +85,22 @@ pub struct ReceiveResult {
     pub answer: Received,
 }
 
-// The causes, for the else of a let-else, which binds nothing.
-fn ip_drop(read: Ipv4Read) -> Drop
-    ensures { λ r. ⌜ r ≡ ipDrop read ⌝ }
-{
-    match read {
-        Ipv4Read::Packet(_) => Drop::Memory,
-        Ipv4Read::Refused(r) => Drop::Format(r),
-    }
-}
-
-fn stt_drop(read: SttRead) -> Drop
-    ensures { λ r. ⌜ r ≡ sttDrop read ⌝ }
-{
-    match read {
-        SttRead::Header(_) => Drop::Memory,
-        SttRead::Refused(r) => Drop::Format(r),
-    }
-}
-
 fn other_sender(d: Drop) -> Arrival
     ensures { λ r. ⌜ r ≡ fromOther d ⌝ }
 {
     Arrival {
         peer: 0,
         content: Content::Refused(d),
+    }
+}
+
+// A packet of which no listed peer is known to be the sender, by what its IPv4 header reads as: 3 to 5 where there is no header to go by, else 7.
+fn unlisted(ip: Ipv4Read) -> Arrival
+    ensures { λ r. ⌜ r ≡ unlistedOf ip ⌝ }
+{
+    match ip {
+        Ipv4Read::Refused(r) => other_sender(Drop::Format(r)),
+        Ipv4Read::Packet(_) => other_sender(Drop::Peer),
     }
 }
 
@@ -165,14 +156,14 @@ pub fn open(
     }
     let ip = wire::ipv4::read(packet);
     let Ipv4Read::Packet(h) = ip else {
-        return other_sender(ip_drop(ip));
+        return unlisted(ip);
     };
     if h.destination != own {
         return other_sender(Drop::Destination);
     }
     let sender = find_peer(addresses, least(peer_count as usize, PEERS), h.source);
     let Lookup::At(p) = sender else {
-        return other_sender(Drop::Peer);
+        return unlisted(ip);
     };
     let content = unpack(port, h, packet);
     Arrival {
@@ -187,18 +178,18 @@ fn complete(at: usize, frame: &[u8]) -> Offer
     ensures { λ r. ⌜ r ≡ offerAt at (now (frame .entry)) ⌝ }
 {
     let header = wire::stt::read(frame);
-    let SttRead::Header(context) = header else {
-        return Offer::Refused(stt_drop(header));
-    };
-    Offer::Frame(InnerFrame {
-        network: context,
-        place: Place {
-            start: at + STT_HEADER,
-            length: frame.len() - STT_HEADER,
-            in_memory: true,
-        },
-        kind: KIND_STT,
-    })
+    match header {
+        SttRead::Refused(r) => Offer::Refused(Drop::Format(r)),
+        SttRead::Header(context) => Offer::Frame(InnerFrame {
+            network: context,
+            place: Place {
+                start: at + STT_HEADER,
+                length: frame.len() - STT_HEADER,
+                in_memory: true,
+            },
+            kind: KIND_STT,
+        }),
+    }
 }
 
 // What there is to deliver once a segment is taken, by what taking it gave.
@@ -215,6 +206,30 @@ fn settled(peer: usize, outcome: Outcome, size: u16, memory: &[u8]) -> Offer
             let end = at + size as usize;
             complete(at, &memory[at..end])
         }
+    }
+}
+
+// Is there a segment to take? Only then is the sender's peer record needed.
+pub fn brings_segment(arrival: Arrival) -> bool
+    ensures { λ r. ⌜ r ≡ bringsSegment (arrival .content) ⌝ }
+{
+    let content = arrival.content;
+    match content {
+        Content::Refused(_) => false,
+        Content::Frame(_) => false,
+        Content::Segment(_) => true,
+    }
+}
+
+// What there is to deliver while nothing is taken: a refusal and a frame pass, and of a segment the frame is pending.
+pub fn untaken(arrival: Arrival) -> Offer
+    ensures { λ r. ⌜ r ≡ untakenOf (arrival .content) ⌝ }
+{
+    let content = arrival.content;
+    match content {
+        Content::Refused(d) => Offer::Refused(d),
+        Content::Frame(f) => Offer::Frame(f),
+        Content::Segment(_) => Offer::Pending,
     }
 }
 

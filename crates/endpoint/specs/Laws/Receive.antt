@@ -63,7 +63,7 @@ use Rattle.endpoint.specs.declared.receive.Offer.{Offer}
 use Rattle.endpoint.specs.declared.receive.Offer.the-variants as B
 use Rattle.endpoint.specs.declared.receive.Changed.{Changed}
 use Rattle.endpoint.specs.declared.config.Endpoint.{Endpoint}
-use Rattle.endpoint.specs.Stages.{carriedFrom, contentFrom, fromOther, openPeer, openHeader, openIp, openOf, sttOffer, offerAt, offerOf, Lies, changedOf}
+use Rattle.endpoint.specs.Stages.{carriedFrom, contentFrom, fromOther, unlistedOf, openPeer, openHeader, openIp, openOf, sttOffer, offerAt, offerOf, Lies, changedOf}
 use Rattle.endpoint.specs.Stages.{takeOf, deliverOf, settleOf, openedBy, settledBy}
 
 -- ---- a search, as the code makes it
@@ -105,9 +105,9 @@ module _ (addresses : List ℕ) (own port peers : ℕ) (k : List ℕ) (room : �
   open-memory l = rw (lt-ltb room 55296 l)
 
   module _ (enough : 55296 ≤ room) where
-    pub open-ip : (r : Refusal) (d : Drop) → ipv4Of k ≡ I.Refused r → d ≡ D.Format r → fromOther d ≡ openOf addresses own port peers k room
+    pub open-ip : (x : Ipv4Read) (r : Refusal) → x ≡ ipv4Of k → x ≡ I.Refused r → unlistedOf x ≡ openOf addresses own port peers k room
     unfolding openOf
-    open-ip r d q z = rw (le-ltb room 55296 enough, q, z)
+    open-ip x r is q = rw (le-ltb room 55296 enough, ← is, q)
 
     module _ (h : Ipv4) (ip : ipv4Of k ≡ I.Packet h) where
       pub open-destination : (h .destination ≡ own → ⊥) → fromOther D.Destination ≡ openOf addresses own port peers k room
@@ -115,7 +115,7 @@ module _ (addresses : List ℕ) (own port peers : ℕ) (k : List ℕ) (room : �
       open-destination n = rw (le-ltb room 55296 enough, ip, ne-eqb (h .destination) own n)
 
       module _ (ours : h .destination ≡ own) where
-        pub open-stranger : lowest (hasAddress addresses (h .source)) peers ≡ none → fromOther D.Peer ≡ openOf addresses own port peers k room
+        pub open-stranger : lowest (hasAddress addresses (h .source)) peers ≡ none → unlistedOf (I.Packet h) ≡ openOf addresses own port peers k room
         unfolding openOf
         open-stranger q = rw (le-ltb room 55296 enough, ip, eq-eqb (h .destination) own ours, q)
 
@@ -127,9 +127,9 @@ module _ (addresses : List ℕ) (own port peers : ℕ) (k : List ℕ) (room : �
 -- ---- the ways out of a complete STT frame's check 11
 
 module _ (at : ℕ) (frame : List ℕ) where
-  pub offer-refused : (r : Refusal) (d : Drop) → sttOf frame ≡ T.Refused r → d ≡ D.Format r → B.Refused d ≡ offerAt at frame
+  pub offer-refused : (r : Refusal) → sttOf frame ≡ T.Refused r → B.Refused (D.Format r) ≡ offerAt at frame
   unfolding offerAt
-  offer-refused r d e q = rw (e, q)
+  offer-refused r e = rw e
 
   pub offer-header : (context : ℕ) → sttOf frame ≡ T.Header context
       → B.Frame (record { network = context; place = record { start = at + 18; length = length frame - 18; «in_memory» = true }; kind = 3 }) ≡ offerAt at frame

@@ -1,12 +1,11 @@
 -- `endpoint::receive::open` meets its contract, exit by exit.
 -- Assumes nothing.
 use Prim.Native.Nat.{min}
-use mathlib.Core.Path.{_≡_, _∙_, sym, ap}
+use mathlib.Core.Path.{_≡_, _∙_, sym}
 use Rattle.wire.specs.Laws.Ipv4.{ipv4-bounds}
 use Rattle.endpoint.specs.Config.{hasAddress}
 use Rattle.endpoint.specs.declared.answer.Drop.the-variants as D
 use Rattle.endpoint.specs.Search.{lowest, foundOf}
-use Rattle.endpoint.specs.Stages.{ipDrop}
 use Rattle.endpoint.specs.Laws.Receive.{found-none, found-some, found-among, open-memory, open-ip, open-destination, open-stranger, open-peer}
 use borrow.Author.Needs.{needs}
 use Rattle.endpoint.proofs.receive.open.Statement.{statement}
@@ -28,25 +27,20 @@ enum-known-ip c = search needs
 enum-told : tie.Need-enum-told
 enum-told c = search needs
 
-ip-drop-requires : tie.Need-ip-drop-requires
-ip-drop-requires c κs = search needs
+unlisted-requires : tie.Need-unlisted-requires
+unlisted-requires c κs = search needs
+
+returns-2 : tie.Need-returns-2
+returns-2 c =
+    c .unlisted .ensures
+    ∙ open-ip _ _ _ _ _ _ (c .before .before .before .before .if1 .left) _ _ (c .before .before .before .read .ensures) (c .before .enum-told .given .1)
 
 other-sender-requires-2 : tie.Need-other-sender-requires-2
 other-sender-requires-2 c κs = search needs
 
-returns-2 : tie.Need-returns-2
-returns-2 c =
-    c .other-sender2 .ensures
-    ∙ open-ip _ _ _ _ _ _ (c .before .before .before .before .before .if1 .left) _ _
-    (sym (c .before .before .before .before .read .ensures) ∙ c .before .before .enum-told .given .1)
-    (c .before .ip-drop .ensures ∙ ap ipDrop (c .before .before .enum-told .given .1))
-
-other-sender-requires-3 : tie.Need-other-sender-requires-3
-other-sender-requires-3 c κs = search needs
-
 returns-3 : tie.Need-returns-3
 returns-3 c =
-    c .other-sender3 .ensures
+    c .other-sender2 .ensures
     ∙ open-destination _ _ _ _ _ _ (c .before .before .before .before .before .before .before .if1 .left) _
     (sym (c .before .before .before .before .before .before .read .ensures) ∙ c .before .before .before .before .ip .given .1) (c .before .if2 .taken)
 
@@ -69,12 +63,12 @@ found : (c : tie.After-find-peer) →
     (min (a .peer-count) mostPeers))
 found c = found-among _ _ _ _ _ (c .find-peer .ensures) (c .before .least .ensures)
 
-other-sender-requires-4 : tie.Need-other-sender-requires-4
-other-sender-requires-4 c κs = search needs
+unlisted-requires-2 : tie.Need-unlisted-requires-2
+unlisted-requires-2 c κs = search needs
 
 returns-4 : tie.Need-returns-4
 returns-4 c =
-    c .other-sender4 .ensures
+    c .unlisted2 .ensures
     ∙ open-stranger _ _ _ _ _ _ (c .before .before .before .before .before .before .before .before .before .before .before .if1 .left) _
     (sym (c .before .before .before .before .before .before .before .before .before .before .read .ensures)
     ∙ c .before .before .before .before .before .before .before .before .ip .given .1) (c .before .before .before .before .before .if2 .left)
@@ -101,16 +95,15 @@ open-spec =
     read-requires
     enum-known-ip
     enum-told
-    ip-drop-requires
-    other-sender-requires-2
+    unlisted-requires
     returns-2
-    other-sender-requires-3
+    other-sender-requires-2
     returns-3
     least-requires
     find-peer-requires
     enum-known-sender
     enum-told-2
-    other-sender-requires-4
+    unlisted-requires-2
     returns-4
     unpack-requires
     returns-5)
