@@ -11,7 +11,7 @@ use lib.Dec.{ltb, eqb}
 use native.Mathlib.Omega.{arith}
 use borrow.Author.Tests.{le-leb, lt-leb, ne-eqb, eqb-true}
 use Rattle.reassembly.specs.Laws.Base.{caseB, clash}
-use Rattle.wire.specs.Checks.{Check, _⇒_, first, Passed}
+use Rattle.wire.specs.Checks.{Check, _⇒_, Passed}
 use Rattle.wire.specs.Laws.Checks.{At, given, decided}
 use Rattle.endpoint.specs.declared.answer.Added.{Added}
 use Rattle.endpoint.specs.declared.answer.Added.the-variants as A
@@ -25,8 +25,9 @@ use Rattle.endpoint.specs.declared.config.AddResult.{AddResult}
 use Rattle.endpoint.specs.Search.{lowest, foundOf}
 use Rattle.endpoint.specs.Config.{configOf, hasAddress, findPeer, binds, findBinding, isSome, fresh, startChecks, refusedStart, startOf, refusedAdd}
 use Rattle.endpoint.specs.Config.{addPeerChecks, withAddress, addPeerOf, isNetwork, addBindingChecks, withBinding, addBindingOf, peersOf, bindingsOf}
-use Rattle.endpoint.specs.Config.{mostBindings}
+use Rattle.endpoint.specs.Config.{mostBindings, lent}
 use Rattle.reassembly.specs.Slots.{mostPeers}
+use Rattle.wire.specs.Laws.Table.{pull}
 
 -- ---- ordered checks: behind k that are passed
 
@@ -61,12 +62,6 @@ module _ (e : Endpoint) (peer kind network tenant : ℕ) where
   add-binding-exit n p = decided (refusedAdd e) (addBindingChecks e peer kind network tenant) bindingAdded n p
 
 -- ---- an adding call reads and changes its own columns and count: what it makes of an endpoint of which only these are told makes up the whole call
-
-pull : {R A B : Type 0} (g : A → B) (refused : R → A) (checks : List (Check R)) (accepted : A)
-    → g (first refused checks accepted) ≡ first (λ (r : R). g (refused r)) checks (g accepted)
-pull g refused [] accepted = refl
-pull g refused ((true ⇒ r) ∷ checks) accepted = refl
-pull g refused ((false ⇒ r) ∷ checks) accepted = pull g refused checks accepted
 
 -- the endpoint e with these peers, and with these bindings
 abbrev pub withPeers : Endpoint → (addresses : List ℕ) (count : ℕ) → Endpoint
@@ -119,7 +114,7 @@ module _ (addresses : List ℕ) (own port count address : ℕ) where
 pub add-peer-out : (e : Endpoint) (address : ℕ) (a : Added) (xs : List ℕ) (n : ℕ)
     → ListedPeer (e .addresses) (e .own) (e .port) (e .«peer_count») address a xs n
     → record { endpoint = withPeers e xs n; answer = a } ≡ addPeerOf e address
-unfolding addPeerOf addPeerChecks withAddress findPeer configOf
+unfolding addPeerOf addPeerChecks withAddress findPeer configOf peersOf lent
 add-peer-out e address a xs n w =
     let s : Endpoint = peersOf (e .addresses) (e .own) (e .port) (e .«peer_count») in
     rw (w .0, w .1 .0, w .1 .1)
@@ -165,7 +160,7 @@ module _ (networks kinds owners tenants : List ℕ) (peers count peer kind netwo
 pub add-binding-out : (e : Endpoint) (peer kind network tenant : ℕ) (a : Added) (ns ks os ts : List ℕ) (n : ℕ)
     → ListedBinding (e .networks) (e .kinds) (e .owners) (e .tenants) (e .«peer_count») (e .«binding_count») peer kind network tenant a ns ks os ts n
     → record { endpoint = withBindings e ns ks os ts n; answer = a } ≡ addBindingOf e peer kind network tenant
-unfolding addBindingOf addBindingChecks withBinding findBinding configOf
+unfolding addBindingOf addBindingChecks withBinding findBinding configOf bindingsOf lent
 add-binding-out e peer kind network tenant a ns ks os ts n w =
     let s : Endpoint = bindingsOf (e .networks) (e .kinds) (e .owners) (e .tenants) (e .«peer_count») (e .«binding_count») in
     rw (w .0, w .1 .0, w .1 .1 .0, w .1 .1 .1 .0, w .1 .1 .1 .1 .0, w .1 .1 .1 .1 .1)

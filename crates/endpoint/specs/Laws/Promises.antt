@@ -32,6 +32,7 @@ start-promised own port mtu r is = (is, (rw is (document-table .start own port m
 -- ---- adding
 
 added-number : (a : Added) → addedValuesOf a .number ≡ addedCode a
+unfolding addedCode
 added-number (A.Number n) = refl
 added-number (A.Refused r) = refl
 
