@@ -53,7 +53,7 @@ valuesOf (R.Delivered t p) = record { number = 0; tenant = some (t .tenant); bin
 valuesOf R.Pending = record { number = 1; tenant = none; binding = none; place = P.nowhere }
 valuesOf (R.Dropped d) = record { number = dropCode d; tenant = none; binding = none; place = P.nowhere }
 
-abbrev pub addedCode : Added → ℕ
+unfoldable pub addedCode : Added → ℕ
 addedCode (A.Number n) = 0
 addedCode (A.Refused r) = configCode r
 
@@ -66,11 +66,11 @@ abbrev pub addedValuesOf : Added → AddedValues
 addedValuesOf (A.Number n) = record { number = 0; entry = some n }
 addedValuesOf (A.Refused r) = record { number = configCode r; entry = none }
 
-abbrev pub startCode : Start → ℕ
+unfoldable pub startCode : Start → ℕ
 startCode S.Done = 0
 startCode (S.Refused r) = configCode r
 
-abbrev pub tickCode : Tick → ℕ
+unfoldable pub tickCode : Tick → ℕ
 tickCode T.Done = 0
 
 abbrev pub wrapRefusalCode : WrapRefusal → ℕ
@@ -86,6 +86,6 @@ pub record WrapValues : Type 0 where
   pub length-is : ℕ
   pub segments : ℕ
 
-abbrev pub wrapValuesOf : Wrapped → WrapValues
+unfoldable pub wrapValuesOf : Wrapped → WrapValues
 wrapValuesOf (Y.Written p) = record { number = 0; length-is = p .length; segments = p .segments }
 wrapValuesOf (Y.Refused r) = record { number = wrapRefusalCode r; length-is = 0; segments = 0 }

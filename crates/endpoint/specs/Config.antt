@@ -69,7 +69,7 @@ withRows e l = record {
 }
 
 -- an endpoint with these columns and settings, and no rows: what a function that is lent them knows of one
-abbrev pub lent : (networks kinds owners tenants addresses : List ℕ) (own port mtu peers bindings : ℕ) → Endpoint
+unfoldable pub lent : (networks kinds owners tenants addresses : List ℕ) (own port mtu peers bindings : ℕ) → Endpoint
 lent networks kinds owners tenants addresses own port mtu peers bindings = record {
   networks = networks;
   peers = [];
@@ -85,10 +85,10 @@ lent networks kinds owners tenants addresses own port mtu peers bindings = recor
 }
 
 -- what a function that adds a peer knows of an endpoint, and what one that adds a binding knows
-abbrev pub peersOf : (addresses : List ℕ) (own port count : ℕ) → Endpoint
+unfoldable pub peersOf : (addresses : List ℕ) (own port count : ℕ) → Endpoint
 peersOf addresses own port count = lent [] [] [] [] addresses own port 0 count 0
 
-abbrev pub bindingsOf : (networks kinds owners tenants : List ℕ) (peers count : ℕ) → Endpoint
+unfoldable pub bindingsOf : (networks kinds owners tenants : List ℕ) (peers count : ℕ) → Endpoint
 bindingsOf networks kinds owners tenants peers count = lent networks kinds owners tenants [] 0 0 0 peers count
 
 -- ---- lookups: the lowest-numbered one that matches

@@ -1,4 +1,5 @@
 -- What stands here is there for proofs: laws of the definitions beside this folder, and the proofs of the statements.
+pub mod Answer
 pub mod Search
 pub mod View
 pub mod ConfigExits

@@ -41,6 +41,5 @@ pub record Reached (e : Endpoint) : Type 0 where
   pub port : ℕ
   pub mtu : ℕ
   pub calls : List Call
-  pub port-typed : port < 256 ^ 2  -- u16
   pub typed : AllTyped calls
   pub is : leftBy (startOf own port mtu .endpoint) calls ≡ e

@@ -177,7 +177,7 @@ abbrev pub withRow : Endpoint → ℕ → Peer → Endpoint
 withRow e p row = withRows e (set (e .peers) p row)
 
 -- what the call gives back; the memory is the step's
-abbrev pub receiptOf : Endpoint → Step → ReceiveResult
+unfoldable pub receiptOf : Endpoint → Step → ReceiveResult
 receiptOf e s = record { endpoint = withRow e (s .peer) (s .row); answer = s .answer }
 
 -- an endpoint and its memory, as the theory of runs has them

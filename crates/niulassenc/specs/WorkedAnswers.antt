@@ -11,7 +11,7 @@ use Rattle.wire.specs.declared.refusal.Refusal.{Refusal}
 use Rattle.wire.specs.declared.refusal.Refusal.the-variants as F
 use Rattle.reassembly.specs.declared.take.Rejection.{Rejection}
 use Rattle.reassembly.specs.declared.take.Rejection.the-variants as J
-use Rattle.endpoint.specs.Answer.{valuesOf, wrapValuesOf}
+use Rattle.endpoint.specs.Answer.{valuesOf, addedCode, startCode, wrapValuesOf}
 use Rattle.endpoint.specs.View.{cutWithin, cutOf}
 use Rattle.endpoint.specs.declared.answer.Drop.{Drop}
 use Rattle.endpoint.specs.declared.answer.Drop.the-variants as D
@@ -101,7 +101,7 @@ past p m start length true h = rw (lt-leb (start + length) m h)
 past p m start length false h = rw (lt-leb (start + length) p h)
 
 pub worked-answers : WorkedAnswers
-unfolding codeOf
+unfolding codeOf startCode addedCode wrapValuesOf
 worked-answers = record {
   delivered = λ tenant binding start length inMemory. refl;
   pending = refl;

@@ -15,7 +15,7 @@ use Rattle.reassembly.specs.SetUp.{World, Replied, receives, receiveBy, next, r
 use Rattle.reassembly.specs.declared.slot.Peer.{Peer}
 use Rattle.endpoint.specs.Config.{Config, configOf, tickOf}
 use Rattle.endpoint.specs.Laws.Config.{rows-tick, config-tick}
-use Rattle.endpoint.specs.Receive.{answers, layers, headerOf, Step, rowAt, stepped, stepOf, withRow, worldOf}
+use Rattle.endpoint.specs.Receive.{answers, layers, headerOf, Step, rowAt, stepped, stepOf, withRow, worldOf, receiptOf}
 use Rattle.endpoint.specs.Laws.Receive.{header-kept, header-whose, config-few}
 use Rattle.endpoint.specs.declared.answer.Drop.the-variants as D
 use Rattle.endpoint.specs.declared.answer.Received.the-variants as R
@@ -39,6 +39,11 @@ same-world : (e : Endpoint) (p : ℕ) (m : List ℕ) → worldOf (withRow e p (r
 same-world e p m = world-row e p (getD (e .peers) p noRow) m ∙ rw (set-getD (e .peers) p noRow)
 
 -- ---- a receive
+
+-- the endpoint that it gives back
+pub receipt-left : (e : Endpoint) (s : Step) → receiptOf e s .endpoint ≡ withRow e (s .peer) (s .row)
+unfolding receiptOf
+receipt-left e s = refl
 
 -- what the call answers, and the endpoint and memory that it leaves
 abbrev afterStep : Endpoint → Step → Replied answers Config layers

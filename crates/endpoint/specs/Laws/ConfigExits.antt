@@ -26,8 +26,9 @@ use Rattle.endpoint.specs.declared.config.AddResult.{AddResult}
 use Rattle.endpoint.specs.Search.{lowest, foundOf}
 use Rattle.endpoint.specs.Config.{configOf, hasAddress, findPeer, binds, findBinding, isSome, fresh, startChecks, refusedStart, startOf, refusedAdd}
 use Rattle.endpoint.specs.Config.{addPeerChecks, withAddress, addPeerOf, isNetwork, addBindingChecks, withBinding, addBindingOf, peersOf, bindingsOf}
-use Rattle.endpoint.specs.Config.{mostBindings}
+use Rattle.endpoint.specs.Config.{mostBindings, lent}
 use Rattle.reassembly.specs.Slots.{mostPeers}
+use Rattle.wire.specs.Laws.Table.{pull}
 
 -- ---- ordered checks: behind k that are passed
 
@@ -114,7 +115,7 @@ module _ (addresses : List ℕ) (own port count address : ℕ) where
 pub add-peer-out : (e : Endpoint) (address : ℕ) (a : Added) (xs : List ℕ) (n : ℕ)
     → ListedPeer (e .addresses) (e .own) (e .port) (e .«peer_count») address a xs n
     → record { endpoint = withPeers e xs n; answer = a } ≡ addPeerOf e address
-unfolding addPeerOf addPeerChecks withAddress findPeer configOf
+unfolding addPeerOf addPeerChecks withAddress findPeer configOf peersOf lent
 add-peer-out e address a xs n w =
     let s : Endpoint = peersOf (e .addresses) (e .own) (e .port) (e .«peer_count») in
     rw (w .0, w .1 .0, w .1 .1)
@@ -160,7 +161,7 @@ module _ (networks kinds owners tenants : List ℕ) (peers count peer kind netwo
 pub add-binding-out : (e : Endpoint) (peer kind network tenant : ℕ) (a : Added) (ns ks os ts : List ℕ) (n : ℕ)
     → ListedBinding (e .networks) (e .kinds) (e .owners) (e .tenants) (e .«peer_count») (e .«binding_count») peer kind network tenant a ns ks os ts n
     → record { endpoint = withBindings e ns ks os ts n; answer = a } ≡ addBindingOf e peer kind network tenant
-unfolding addBindingOf addBindingChecks withBinding findBinding configOf
+unfolding addBindingOf addBindingChecks withBinding findBinding configOf bindingsOf lent
 add-binding-out e peer kind network tenant a ns ks os ts n w =
     let s : Endpoint = bindingsOf (e .networks) (e .kinds) (e .owners) (e .tenants) (e .«peer_count») (e .«binding_count») in
     rw (w .0, w .1 .0, w .1 .1 .0, w .1 .1 .1 .0, w .1 .1 .1 .1 .0, w .1 .1 .1 .1 .1)

@@ -37,7 +37,7 @@ use Rattle.reassembly.specs.declared.take.Rejection.{Rejection}
 use Rattle.reassembly.specs.declared.take.Rejection.the-variants as J
 use Rattle.reassembly.specs.declared.take.Outcome.{Outcome}
 use Rattle.reassembly.specs.declared.take.Outcome.the-variants as O
-use Rattle.endpoint.specs.Answer.{dropCode, configCode, valuesOf, AddedValues, tickCode, wrapRefusalCode, wrapValuesOf}
+use Rattle.endpoint.specs.Answer.{dropCode, configCode, valuesOf, AddedValues, tickCode, wrapRefusalCode, wrapValuesOf, startCode}
 use Rattle.endpoint.specs.Search.{lowest}
 use Rattle.endpoint.specs.Config.{Config, configOf, binds, fresh, startChecks, refusedStart, startOf, refusedAdd, addPeerChecks, withAddress, addPeerOf}
 use Rattle.endpoint.specs.Config.{addBindingChecks, withBinding, addBindingOf, tickOf}
@@ -58,6 +58,7 @@ use Rattle.endpoint.specs.declared.answer.WrapRefusal.the-variants as X
 use Rattle.endpoint.specs.declared.config.Endpoint.{Endpoint}
 use Rattle.endpoint.specs.Demand1.{_among_, slotAt, Entered, SameConfiguration, Blank, StartRule, PeerAdded, BindingAdded, AddRule, Empties, Unchanged}
 use Rattle.endpoint.specs.Demand1.{FoundBad, ReceiveRule, TickRule, WrapRule}
+use Rattle.endpoint.specs.Laws.Answer.{tick-code}
 
 -- ---- start. Each of its checks refuses by 18
 
@@ -78,7 +79,7 @@ blank own port mtu = record {
 }
 
 pub start-rule : (own port mtu : ℕ) → StartRule own port mtu (startOf own port mtu)
-unfolding startOf startChecks
+unfolding startOf startChecks startCode
 start-rule own port mtu =
     let out : StartRule own port mtu (refusedStart C.OutOfRange) = record { number = refl; done = λ e. absurd (omega arith); refused = λ e. blank 0 0 0 } in
     by-each (StartRule own port mtu) refusedStart (startChecks own port mtu) (record { endpoint = fresh own port mtu; answer = S.Done })
@@ -353,13 +354,9 @@ tick-same e = record {
   bindings = record { count = refl; owners = refl; kinds = refl; networks = refl; tenants = refl };
 }
 
-tick-number : (e : Endpoint) → tickCode (tickOf e .answer) ≡ 0
-unfolding tickOf
-tick-number e = refl
-
 pub tick-rule : (e : Endpoint) → TickRule e (tickCode (tickOf e .answer)) (tickOf e .endpoint)
 tick-rule e = record {
-  is = tick-number e;
+  is = tick-code (tickOf e .answer);
   younger = λ p s a l. slot-older e p s ∙ older-younger (slotAt e p s) a l;
   given-up = λ p s a l. ap (λ (v : Slot). v .pending) (slot-older e p s ∙ older-gone (slotAt e p s) a l);
   idle = λ p s a. slot-older e p s ∙ older-free (slotAt e p s) a;
@@ -389,10 +386,11 @@ module _ (e : Endpoint) (b : ℕ) (frame : List ℕ) (segment identifier : ℕ) 
   Ruled w = WrapRule output (wrapValuesOf (w .answer)) (w .output)
 
   wrap-refused : (r : WrapRefusal) → Ruled (refusedWrap output r)
+  unfolding wrapValuesOf
   wrap-refused r = record { number = wrap-among r; refused = λ d. (refl, (refl, refl)); size = refl; beyond = λ i l. refl }
 
   pub wrap-rule : WrapRule output (wrapValuesOf (wrapOf e b frame segment identifier output .answer)) (wrapOf e b frame segment identifier output .output)
-  unfolding wrapOf wrapChecks
+  unfolding wrapOf wrapChecks wrapValuesOf
   wrap-rule =
       cases Ruled (refusedWrap output) (wrapChecks e b frame segment identifier output) _ wrap-refused
       (λ p. record {

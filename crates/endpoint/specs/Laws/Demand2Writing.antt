@@ -16,7 +16,7 @@ use Rattle.wire.specs.Segment.{IsSegment}
 use Rattle.wire.specs.Frame.{IsFrame}
 use Rattle.wire.specs.Write.{vxlanBody, vxlanPacket, nvgreBody, nvgrePacket, sttFrame, segmentBytes, segmentBody, segmentPacket}
 use Rattle.wire.specs.Laws.Write.{vxlan-is, vxlan-length-is, nvgre-is, nvgre-length-is, stt-is, stt-length, segment-is, segment-length-is, segment-bytes-is}
-use Rattle.wire.specs.Laws.WriteIs.{part-short, part-join, part-all, wrote-is}
+use Rattle.wire.specs.Laws.WriteIs.{part-past-end, part-join, part-all, wrote-is}
 use Rattle.wire.specs.Layout.{SegmentLaidOut}
 use Rattle.wire.specs.Laws.Layout.{layouts}
 use Rattle.reassembly.specs.Laws.Base.{either}
@@ -38,7 +38,7 @@ joined-front mtu whole zero = rw zero-mul (sym (part-empty whole 0))
 joined-front mtu whole (suc n) =
     let c : ℕ = mtu - 40 in
     let z : suc n * c ≡ n * c + c = suc-mul n c in
-    ap₂ (λ (x y : List ℕ). x ++ y) (joined-front mtu whole n) (part-short whole (n * c) (n * c + c))
+    ap₂ (λ (x y : List ℕ). x ++ y) (joined-front mtu whole n) (part-past-end whole (n * c) (n * c + c))
     ∙ part-join whole 0 (n * c) (n * c + c) (omega arith) (omega arith)
     ∙ ap (λ (x : ℕ). part whole 0 x) (sym z)
 

@@ -3,7 +3,7 @@
 use mathlib.Core.Path.{ap}
 use Rattle.reassembly.specs.SetUp.{Replied}
 use Rattle.endpoint.specs.Config.{Config}
-use Rattle.endpoint.specs.Receive.{answers, layers}
+use Rattle.endpoint.specs.Receive.{answers, layers, receiptOf}
 use Rattle.endpoint.specs.Laws.View.{view-rule}
 use Rattle.endpoint.specs.Laws.Calls.{calls-are, receive-is}
 use Rattle.endpoint.specs.Laws.Table.{document-table}
@@ -15,6 +15,7 @@ use Rattle.endpoint.specs.Laws.Demand3.{set-up-claims, set-up-every, wor
 use Rattle.endpoint.specs.Demands.{Demand1, Demand2, Demand3}
 
 pub demand-one : Demand1
+unfolding receiptOf
 demand-one = record {
   start = start-rule;
   add-peer = add-peer-rule;

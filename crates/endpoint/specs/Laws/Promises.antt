@@ -32,6 +32,7 @@ start-promised own port mtu r is = (is, (rw is (document-table .start own port m
 -- ---- adding
 
 added-number : (a : Added) → addedValuesOf a .number ≡ addedCode a
+unfolding addedCode
 added-number (A.Number n) = refl
 added-number (A.Refused r) = refl
 
@@ -54,6 +55,7 @@ pub receive-promised : (e : Endpoint) (m k : List ℕ) (r : ReceiveResult) (m′
     → (r ≡ receiptOf e (stepOf e m k))
     × ((m′ ≡ stepOf e m k .mem)
     × ((Bytes k → valuesOf (r .answer) .number ≡ numbered (receiveRows e m k)) × ReceiveRule e m k (valuesOf (r .answer)) (r .endpoint) m′))
+unfolding receiptOf
 receive-promised e m k r m′ is left = (is, (left, (λ b. rw is (document-table .receive e m k b), rw (is, left) (receive-rule e m k))))
 
 -- ---- a tick

@@ -8,7 +8,7 @@ use lib.ListN.{getD, set, replicate}
 use Rattle.wire.specs.Checks.{Check, first}
 use Rattle.wire.specs.Laws.Checks.{relates}
 use Rattle.endpoint.specs.Config.{Config, configOf, findPeer, isSome, fresh, startOf, refusedAdd, addPeerChecks, withAddress, addPeerOf, addBindingChecks}
-use Rattle.endpoint.specs.Config.{withBinding, addBindingOf, tickOf, Adding, addPeer, addBinding, added, addedAll, setUp, mostBindings}
+use Rattle.endpoint.specs.Config.{withBinding, addBindingOf, tickOf, Adding, addPeer, addBinding, added, addedAll, setUp, mostBindings, startChecks}
 use Rattle.endpoint.specs.Laws.Config.{start-cases, add-peer-cases, add-binding-cases, Valid, set-up-valid, config-tick}
 use Rattle.endpoint.specs.Laws.ConfigExits.{peerAdded, bindingAdded}
 use Rattle.endpoint.specs.Receive.{stepOf}
@@ -19,6 +19,7 @@ use Rattle.endpoint.specs.declared.config.Endpoint.{Endpoint}
 use Rattle.endpoint.specs.declared.config.AddResult.{AddResult}
 use Rattle.endpoint.specs.Reached.{Call, add, got, ticked, left, leftBy, Typed, AllTyped, Reached}
 use Rattle.reassembly.specs.Slots.{mostPeers}
+use borrow.Author.Tests.{ltb-false}
 
 -- ---- adding looks at the configuration alone
 
@@ -141,8 +142,11 @@ fresh-fit : (own port mtu : ℕ) → port < 256 ^ 2 → Fit (fresh own port mtu)
 unfolding fresh
 fresh-fit own port mtu h = record { port = h; networks = zeros mostBindings }
 
-start-fit : (own port mtu : ℕ) → port < 256 ^ 2 → Fit (startOf own port mtu .endpoint)
-start-fit own port mtu h = start-cases Fit own port mtu (fresh-fit 0 0 0 (omega arith)) (λ p. fresh-fit own port mtu h)
+-- a start whose port is more than a u16 is refused
+start-fit : (own port mtu : ℕ) → Fit (startOf own port mtu .endpoint)
+unfolding startChecks
+start-fit own port mtu =
+    start-cases Fit own port mtu (fresh-fit 0 0 0 (omega arith)) (λ p. fresh-fit own port mtu (omega (arith, ltb-false 65535 port (p .1 .1 .1 .0))))
 
 peer-fit : (e : Endpoint) (n address : ℕ) → Fit e → Fit (withAddress e n address)
 unfolding withAddress
@@ -215,4 +219,4 @@ reached-ready e r =
     subst Ready (r .is)
     (left-ready (r .own) (r .port) (r .mtu) s s (r .calls) (started (r .own) (r .port) (r .mtu)) (record { config = refl; peers = refl; bindings = refl })
     (r .typed)
-    (start-fit (r .own) (r .port) (r .mtu) (r .port-typed)))
+    (start-fit (r .own) (r .port) (r .mtu)))

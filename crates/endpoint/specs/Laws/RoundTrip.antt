@@ -18,7 +18,7 @@ use Rattle.wire.specs.Frame.{IsFrame}
 use Rattle.wire.specs.Stt.{IsStt}
 use Rattle.wire.specs.Write.{sttFrame}
 use Rattle.wire.specs.Laws.Write.{stt-is, stt-length}
-use Rattle.wire.specs.Laws.WriteIs.{part-short, part-join, part-all, wrote-front, vxlan-bytes, nvgre-bytes}
+use Rattle.wire.specs.Laws.WriteIs.{part-past-end, part-join, part-all, wrote-front, vxlan-bytes, nvgre-bytes}
 use Rattle.reassembly.specs.Slots.{noMark, mostPeers}
 use Rattle.reassembly.specs.Receive.{segment}
 use Rattle.reassembly.specs.Mix as M
@@ -168,7 +168,7 @@ module _ (mtu : ℕ) (whole : List ℕ) (packets : ℕ → List ℕ) where
       let far : (i + suc n) * c ≡ (i + n) * c + c = ap (λ (x : ℕ). x * c) (add-suc i n) ∙ suc-mul (i + n) c in
       let near : i * c ≤ (i + n) * c = mul-le-mul-right c (omega arith) in
       let here : suc i * c ≡ i * c + c = suc-mul i c in
-      ap₂ (λ (x y : List ℕ). x ++ y) (part-short whole (i * c) (i * c + c)) (pieces-joined (suc i) n)
+      ap₂ (λ (x y : List ℕ). x ++ y) (part-past-end whole (i * c) (i * c + c)) (pieces-joined (suc i) n)
       ∙ rw (z, here) (part-join whole (i * c) (i * c + c) ((i + suc n) * c) (omega arith) (omega arith))
 
   abbrev frameFrom : (count identifier : ℕ) → M.Frame

@@ -78,7 +78,7 @@ some-lowest n f =
 -- ---- start and adding
 
 pub start-number : (own port mtu : ℕ) → startCode (startOf own port mtu .answer) ≡ T.numbered (P.startRows own port mtu)
-unfolding startOf startChecks P.startRows
+unfolding startOf startChecks P.startRows startCode
 start-number own port mtu =
     pull (λ (s : StartResult). startCode (s .answer)) refusedStart (startChecks own port mtu) (record { endpoint = fresh own port mtu; answer = S.Done })
     ∙ simp choices (row6 18 (eqb (own / 2 ^ 24) 0) (leb 224 (own / 2 ^ 24)) (eqb port 0) (ltb 65535 port) (ltb mtu 576) (ltb 1600 mtu) 0)
@@ -88,7 +88,7 @@ peer-rows true a b o x = refl
 peer-rows false a b o x = row3 18 a b o x
 
 pub add-peer-number : (e : Endpoint) (address : ℕ) → addedCode (addPeerOf e address .answer) ≡ T.numbered (P.addPeerRows e address)
-unfolding addPeerOf addPeerChecks findPeer configOf hasAddress P.addPeerRows
+unfolding addPeerOf addPeerChecks findPeer configOf hasAddress P.addPeerRows addedCode
 add-peer-number e address =
     rw (some-lowest (min (e .«peer_count») mostPeers) (λ i. eqb (getD (e .addresses) i 0) address))
     (pull (λ (s : AddResult). addedCode (s .answer)) (refusedAdd e) (addPeerChecks e address)
@@ -128,7 +128,7 @@ network-bad (suc (suc (suc (suc kind)))) id =
 
 pub add-binding-number : (e : Endpoint) (peer kind network tenant : ℕ)
     → addedCode (addBindingOf e peer kind network tenant .answer) ≡ T.numbered (P.addBindingRows e peer kind network tenant)
-unfolding addBindingOf addBindingChecks findBinding configOf binds P.addBindingRows
+unfolding addBindingOf addBindingChecks findBinding configOf binds P.addBindingRows addedCode
 add-binding-number e peer kind network tenant =
     rw (some-lowest (min (e .«binding_count») mostBindings) (P.isBinding e peer kind network), sym (network-bad kind network))
     (pull (λ (s : AddResult). addedCode (s .answer)) (refusedAdd e) (addBindingChecks e peer kind network tenant)
@@ -434,7 +434,7 @@ module _ (e : Endpoint) (b : ℕ) (frame : List ℕ) (k identifier : ℕ) (outpu
       by (stt q) = last-stt q (l .mtu-least)
 
   pub wrap-number : Reached e → wrapValuesOf (wrapOf e b frame k identifier output .answer) .number ≡ T.numbered (P.wrapRows e b frame k output)
-  unfolding wrapOf wrapChecks configOf P.wrapRows
+  unfolding wrapOf wrapChecks configOf P.wrapRows wrapValuesOf
   wrap-number reached =
       pull (λ (w : Wrote). wrapValuesOf (w .answer) .number) (refusedWrap output) (wrapChecks e b frame k identifier output) _
       ∙ simp choices (unless (leb (P.bindings e) b) 23 _ _ (λ p.
@@ -444,6 +444,7 @@ module _ (e : Endpoint) (b : ℕ) (frame : List ℕ) (k identifier : ℕ) (outpu
 
 -- a refusal carries the length 0 and no segment
 pub wrap-empties : (a : Wrapped) → wrapValuesOf a .number ≢ 0 → wrapValuesOf a ≡ record { number = wrapValuesOf a .number; length-is = 0; segments = 0 }
+unfolding wrapValuesOf
 wrap-empties (Y.Written p) d = absurd (d refl)
 wrap-empties (Y.Refused r) d = refl
 

@@ -102,7 +102,6 @@ reached = record {
   port = 7471;
   mtu = 576;
   calls = map add sender-adds;
-  port-typed = omega arith;
   typed = (tt, (omega arith, (omega arith, (omega arith, tt))));
   is = refl;
 }

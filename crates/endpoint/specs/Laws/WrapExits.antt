@@ -262,5 +262,5 @@ module _ (e : Endpoint) (b : ℕ) (frame : List ℕ) (k identifier : ℕ) (old :
 pub wrap-lent : (e : Endpoint) (b : ℕ) (frame : List ℕ) (k identifier : ℕ) (old : List ℕ)
     → wrapOf (lent (e .networks) (e .kinds) (e .owners) [] (e .addresses) (e .own) (e .port) (e .mtu) 0 (e .«binding_count»)) b frame k identifier old
     ≡ wrapOf e b frame k identifier old
-unfolding wrapOf wrapChecks configOf
+unfolding wrapOf wrapChecks configOf lent
 wrap-lent e b frame k identifier old = refl

@@ -1,7 +1,7 @@
 -- Laws of a receive: its steps add up, and the row put back makes the endpoint that it leaves.
 -- Assumes nothing.
 use Prim.Native.Nat.{ℕ, _<_}
-use mathlib.Core.Path.{_≡_, refl, sym, ap, subst}
+use mathlib.Core.Path.{_≡_, sym, ap, subst}
 use mathlib.Core.List.{List}
 use native.Mathlib.Omega.{arith}
 use lib.ListN.{length}
@@ -18,6 +18,7 @@ use Rattle.niulassenc.specs.declared.answer.Receipt.{Receipt}
 use Rattle.niulassenc.specs.declared.receive.PeerUpdate.{PeerUpdate}
 use Rattle.niulassenc.specs.Receive.{outcomeOf}
 use Rattle.reassembly.specs.Slots.{mostPeers}
+use Rattle.endpoint.specs.Laws.Calls.{receipt-left}
 
 -- with the answer as the code makes it
 pub outcome-out : (p : ℕ) (row : Peer) (x : Received) (m : List ℕ) (s : Step) (a : Receipt) → record { peer = p; row = row; answer = x; mem = m } ≡ s → a
@@ -40,4 +41,4 @@ outcome-below e m k r q = omega (arith, step-below e k m, ap (λ (y : PeerUpdate
 
 -- put back, the row makes the endpoint that the receive leaves
 pub put-back : (e : Endpoint) (s : Step) → withRow e (s .peer) (s .row) ≡ receiptOf e s .endpoint
-put-back e s = refl
+put-back e s = sym (receipt-left e s)

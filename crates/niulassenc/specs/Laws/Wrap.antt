@@ -1,20 +1,21 @@
 -- A frame has at most 1,532 segments: an STT frame has at most that many bytes, and a segment carries one or more of them.
 -- Assumes nothing.
 use Prim.Native.Nat.{ℕ, _+_, _-_, _*_, _≤_, _<_}
-use mathlib.Core.Path.{_≡_, sym}
+use mathlib.Core.Path.{_≡_, sym, ap}
 use mathlib.Core.List.{List}
 use native.Mathlib.Omega.{arith}
 use lib.ListN.{length}
 use lib.Dec.{ltb, eqb}
 use borrow.Author.Tests.{eqb-true, eqb-false, ltb-true, ltb-false}
 use Rattle.reassembly.specs.Laws.Base.{caseB}
-use Rattle.endpoint.specs.Answer.{wrapValuesOf}
+use Rattle.endpoint.specs.Answer.{wrapValuesOf, WrapValues}
 use Rattle.endpoint.specs.Wrap.{kindAt, segmentsOf, wrapOf}
 use Rattle.endpoint.specs.Laws.Wrap.{Says, written-says}
 use Rattle.endpoint.specs.Laws.WrapExits.{segments-vxlan, segments-nvgre, stt-room, stt-begins}
 use Rattle.endpoint.specs.declared.answer.Wrapped.{Wrapped}
 use Rattle.endpoint.specs.declared.answer.Wrapped.the-variants as Y
 use Rattle.endpoint.specs.declared.config.Endpoint.{Endpoint}
+use Rattle.endpoint.specs.Laws.Answer.{written-values, refused-values}
 
 few : (kind size mtu : ℕ) → size ≤ 1514 → segmentsOf kind size mtu ≤ 1532
 few kind size mtu h =
@@ -29,8 +30,9 @@ few kind size mtu h =
 
 module _ (e : Endpoint) (b : ℕ) (frame : List ℕ) (segment identifier : ℕ) (output : List ℕ) where
   answered : (a : Wrapped) → wrapOf e b frame segment identifier output .answer ≡ a → wrapValuesOf a .segments ≤ 1532
-  answered (Y.Refused r) q = omega arith
+  answered (Y.Refused r) q = let s : wrapValuesOf (Y.Refused r) .segments ≡ 0 = ap (λ (v : WrapValues). v .segments) (refused-values r) in omega arith
   answered (Y.Written p) q =
+      let n : wrapValuesOf (Y.Written p) .segments ≡ p .segments = ap (λ (v : WrapValues). v .segments) (written-values p) in
       let w : Says e b frame segment identifier output p = written-says e b frame segment identifier output p q in
       let l : length frame ≤ 1514 = w .good .most in
       let s : p .segments ≡ segmentsOf (kindAt e b) (length frame) (e .mtu) = w .segments-is in

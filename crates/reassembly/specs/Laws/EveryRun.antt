@@ -11,7 +11,7 @@ use lib.Dec.{eqb}
 use borrow.Author.Tests.{le-ltb, eq-eqb, ne-eqb, eqb-true, eqb-false}
 use Rattle.reassembly.specs.Base.{allBelow}
 use Rattle.reassembly.specs.Laws.Base.{caseB, either, clash, getD-table}
-use Rattle.reassembly.specs.Slots.{Slot, Peer, Note, noRow, noteOf, noNote, free, emptyRows, mostPeers, lifetime}
+use Rattle.reassembly.specs.Slots.{Slot, Peer, Note, noRow, noteOf, noNote, free, emptyRows, mostPeers}
 use Rattle.reassembly.specs.Take.{slotNo, Seg, Rejection, Outcome, Rejected, Pending, Complete, NoMemory, AlreadyReceived, rejectionCode, Choice, reject}
 use Rattle.reassembly.specs.Take.{old, fresh, chosen, noteAfter, openedSlot, furtherSlot, Effect, overlaps, frameIn, placed, takeSegment, Fits}
 use Rattle.reassembly.specs.Laws.TakeFacts.{finish-mem, take-rejects}
@@ -451,7 +451,7 @@ module _ (W : Answers) (Config : Type 0) (U : Layers W Config) (p : ℕ) (p< : p
 pub young : (v : Slot) (gs : List Seg) (t : ℕ) → Stands v gs t → v .pending ≡ true → t ≤ 3
 young v gs t w e = omega (arith, under-young gs t (sym (w .pending) ∙ e))
 
-pub given-up : (v : Slot) (gs : List Seg) (t : ℕ) → Stands v gs t → lifetime ≤ t → v .pending ≡ false
+pub given-up : (v : Slot) (gs : List Seg) (t : ℕ) → Stands v gs t → 4 ≤ t → v .pending ≡ false
 given-up v gs t w l = caseB (v .pending) (λ e. absurd (omega (arith, young v gs t w e))) (λ e. e)
 
 -- ---- of every set-up whose layers keep their promise

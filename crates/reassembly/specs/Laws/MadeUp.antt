@@ -12,7 +12,7 @@ use lib.Dec.{ltb}
 use borrow.Author.Tests.{le-ltb}
 use Rattle.reassembly.specs.Base.{allBelow}
 use Rattle.reassembly.specs.Laws.Base.{allBelow-intro, caseB, either, clash, or-true-r, and-r}
-use Rattle.reassembly.specs.Slots.{noRow, lifetime}
+use Rattle.reassembly.specs.Slots.{noRow}
 use Rattle.reassembly.specs.Take.{slotNo, Seg, Rejected, Pending, Complete, OtherLength, AlreadyReceived, NoSlot, Effect, frameIn, Fits}
 use Rattle.reassembly.specs.Laws.TakeFacts.{length-frame, not-complete, complete-slot}
 use Rattle.reassembly.specs.Laws.TakeIn.{take-whole, take-length}
@@ -65,7 +65,7 @@ makes-apart g earlier frame w i c =
 makes-length : (g : Seg) (earlier : List Seg) (frame : List ℕ) (ticks : ℕ) → MakesUp g (g ∷ earlier) frame → framePending earlier ticks ≡ true
     → lengthOf earlier ≡ g .frame-length
 unfolding framePending frameComplete allBelow
-makes-length g [] frame ticks w e = let z : false ≡ true = and-r (ltb ticks lifetime) false e in clash (cc)
+makes-length g [] frame ticks w e = let z : false ≡ true = and-r (ltb ticks 4) false e in clash (cc)
 makes-length g (x ∷ xs) frame ticks w e = w .of-frame 1 (omega arith) .size
 
 -- two frames of the same segments are the same

@@ -191,17 +191,17 @@ chosen-unfit row g n =
 abbrev pub afterwards : History → Seg → Choice → Outcome → History
 afterwards h g c o = record { taken = entered (h .taken) g c o; ticks = restarted (h .ticks) c o }
 
-pub under-young : (gs : List Seg) (t : ℕ) → framePending gs t ≡ true → t < lifetime
+pub under-young : (gs : List Seg) (t : ℕ) → framePending gs t ≡ true → t < 4
 unfolding framePending
-under-young gs t e = ltb-true t lifetime (and-l (ltb t lifetime) (not (frameComplete gs)) e)
+under-young gs t e = ltb-true t 4 (and-l (ltb t 4) (not (frameComplete gs)) e)
 
-under-is : (gs : List Seg) (t : ℕ) → t < lifetime → frameComplete gs ≡ false → framePending gs t ≡ true
+under-is : (gs : List Seg) (t : ℕ) → t < 4 → frameComplete gs ≡ false → framePending gs t ≡ true
 unfolding framePending
-under-is gs t l e = rw (lt-ltb t lifetime l, e)
+under-is gs t l e = rw (lt-ltb t 4 l, e)
 
 under-whole : (gs : List Seg) (t : ℕ) → frameComplete gs ≡ true → framePending gs t ≡ false
 unfolding framePending
-under-whole gs t e = caseB (ltb t lifetime) (λ q. rw (q, e)) (λ q. rw q)
+under-whole gs t e = caseB (ltb t 4) (λ q. rw (q, e)) (λ q. rw q)
 
 free-stands : (gs : List Seg) (t : ℕ) → framePending gs t ≡ false → Stands free gs t
 free-stands gs t e = record { pending = sym e; identifier = λ q. clash (cc); size = λ q. clash (cc); age = λ q. clash (cc) }
@@ -266,7 +266,7 @@ module _ (p : ℕ) where
       let m′ : ℕ → List Piece = ghost .put m (slotNo p s) (g .offset) (storedBytes g) in
       let pieces : m′ (slotNo p s) ≡ map pieceOf (g ∷ h .taken s) = upd-same m (slotNo p s) _ ∙ ap (λ (x : List Piece). pieceOf g ∷ x) (lg .pieces s ls) in
       let now = st .stands s ls in
-      let young : h .ticks s < lifetime = under-young (h .taken s) (h .ticks s) (sym (now .pending) ∙ q .pending) in
+      let young : h .ticks s < 4 = under-young (h .taken s) (h .ticks s) (sym (now .pending) ∙ q .pending) in
       caseB (overlaps ghost m (slotNo p s) g)
       (λ e. rw e st)
       (λ e. rw e
@@ -294,14 +294,14 @@ older-stands : (v : Slot) (gs : List Seg) (t : ℕ) → Stands v gs t → Stands
 unfolding older framePending
 older-stands v gs t w =
     caseB (v .pending)
-    (λ e. let u : (ltb t lifetime && not (frameComplete gs)) ≡ true = sym (w .pending) ∙ e in
-    let n : not (frameComplete gs) ≡ true = and-r (ltb t lifetime) (not (frameComplete gs)) u in
+    (λ e. let u : (ltb t 4 && not (frameComplete gs)) ≡ true = sym (w .pending) ∙ e in
+    let n : not (frameComplete gs) ≡ true = and-r (ltb t 4) (not (frameComplete gs)) u in
     let a : v .age ≡ t = w .age e in
     caseB (ltb (v .age + 1) lifetime)
-    (λ y. let young : t + 1 < lifetime = omega (arith, ltb-true (v .age + 1) lifetime y) in
-    rw (e, y) (record { pending = rw (lt-ltb (t + 1) lifetime young, n); identifier = λ q. w .identifier e; size = λ q. w .size e; age = λ q. omega arith }))
-    (λ y. let old : lifetime ≤ t + 1 = omega (arith, ltb-false (v .age + 1) lifetime y) in
-    rw (e, y) (free-stands gs (t + 1) (unfolded gs t (le-ltb (t + 1) lifetime old)))))
+    (λ y. let young : t + 1 < 4 = omega (arith, ltb-true (v .age + 1) lifetime y) in
+    rw (e, y) (record { pending = rw (lt-ltb (t + 1) 4 young, n); identifier = λ q. w .identifier e; size = λ q. w .size e; age = λ q. omega arith }))
+    (λ y. let old : 4 ≤ t + 1 = omega (arith, ltb-false (v .age + 1) lifetime y) in
+    rw (e, y) (free-stands gs (t + 1) (unfolded gs t (le-ltb (t + 1) 4 old)))))
     (λ e. rw e
     (record {
       pending = gone (sym (w .pending) ∙ e);
@@ -310,16 +310,16 @@ older-stands v gs t w =
       age = λ q. clash (cc);
     }))
   where
-    unfolded : (gs : List Seg) (t : ℕ) → ltb (t + 1) lifetime ≡ false → framePending gs (t + 1) ≡ false
+    unfolded : (gs : List Seg) (t : ℕ) → ltb (t + 1) 4 ≡ false → framePending gs (t + 1) ≡ false
     unfolded gs t y = rw y
 
-    gone : (ltb t lifetime && not (frameComplete gs)) ≡ false → false ≡ (ltb (t + 1) lifetime && not (frameComplete gs))
+    gone : (ltb t 4 && not (frameComplete gs)) ≡ false → false ≡ (ltb (t + 1) 4 && not (frameComplete gs))
     gone e =
         caseB (not (frameComplete gs))
-        (λ n. caseB (ltb t lifetime)
+        (λ n. caseB (ltb t 4)
         (λ y. clash (cc))
-        (λ y. let z : ltb (t + 1) lifetime ≡ false = le-ltb (t + 1) lifetime (omega (arith, ltb-false t lifetime y)) in rw z))
-        (λ n. caseB (ltb (t + 1) lifetime) (λ y. rw (y, n)) (λ y. rw y))
+        (λ y. let z : ltb (t + 1) 4 ≡ false = le-ltb (t + 1) 4 (omega (arith, ltb-false t 4 y)) in rw z))
+        (λ n. caseB (ltb (t + 1) 4) (λ y. rw (y, n)) (λ y. rw y))
 
 pub tick-stand : (row : List Slot) (h : History) → Stand row h → Stand (map older row) (record { taken = h .taken; ticks = onceMore (h .ticks) })
 tick-stand row h st =

@@ -20,9 +20,9 @@ use Rattle.wire.specs.Write.{outer, ipv4Head, packet, vxlanBody, nvgreBo
 -- ---- parts
 
 -- a part that ends past the list's end is one that ends there
-pub part-short : (s : List ℕ) (a e : ℕ) → part s a (min (length s) e) ≡ part s a e
+pub part-past-end : (s : List ℕ) (a e : ℕ) → part s a (min (length s) e) ≡ part s a e
 unfolding part
-part-short s a e =
+part-past-end s a e =
     caseB (ltb e (length s))
     (λ q. let h : min (length s) e ≡ e = omega (arith, ltb-true e (length s) q) in rw h)
     (λ q.

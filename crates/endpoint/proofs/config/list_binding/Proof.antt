@@ -8,7 +8,7 @@ use lib.ListN.{take}
 use mathlib.Core.List.{List}
 use Rattle.wire.specs.Checks.{Check, Passed}
 use Rattle.wire.specs.Laws.Checks.{deciding}
-use Rattle.endpoint.specs.Config.{configOf, findBinding, isSome, isNetwork, addBindingChecks, withBinding, bindingsOf}
+use Rattle.endpoint.specs.Config.{configOf, findBinding, isSome, isNetwork, addBindingChecks, withBinding, bindingsOf, lent}
 use Rattle.endpoint.specs.Laws.ConfigExits.{behind, list-binding-exit, isFound, binding-found, network-kind}
 use Rattle.endpoint.specs.declared.answer.ConfigRefusal.{ConfigRefusal}
 use Rattle.endpoint.specs.declared.config.Endpoint.{Endpoint}
@@ -26,7 +26,7 @@ least-requires : tie.Need-least-requires
 least-requires c κs = search needs
 
 returns : tie.Need-returns
-unfolding addBindingChecks configOf
+unfolding addBindingChecks configOf bindingsOf lent
 returns c = list-binding-exit _ _ _ _ _ _ _ _ _ _ 0 (omega (arith, deciding))
 
 is-network-requires : tie.Need-is-network-requires
@@ -36,11 +36,11 @@ is-network-requires c κs = search needs
 peer-listed : (c : tie.Else1) →
     let start = c .before .before in
     Passed (take 1 (checks start))
-unfolding addBindingChecks configOf
+unfolding addBindingChecks configOf bindingsOf lent
 peer-listed c = omega (arith, deciding)
 
 returns-2 : tie.Need-returns-2
-unfolding addBindingChecks
+unfolding addBindingChecks bindingsOf lent
 returns-2 c =
     let start = c .before .before .before .before in
     list-binding-exit _ _ _ _ _ _ _ _ _ _ 1
@@ -53,7 +53,7 @@ network-good : (c : tie.Else2) →
 network-good c = sym (ap not (c .before .is-network .ensures)) ∙ c .if2 .left
 
 returns-3 : tie.Need-returns-3
-unfolding addBindingChecks
+unfolding addBindingChecks bindingsOf lent
 returns-3 c =
     let start = c .before .before .before .before .before in
     list-binding-exit _ _ _ _ _ _ _ _ _ _ 2
@@ -63,7 +63,7 @@ returns-3 c =
 ranges : (c : tie.Else3) →
     let start = c .before .before .before .before .before in
     Passed (take 3 (checks start))
-unfolding addBindingChecks
+unfolding addBindingChecks bindingsOf lent
 ranges c = (peer-listed (c .before .before .before) .0, (network-good (c .before), (omega (arith, deciding), tt)))
 
 cast-narrow : tie.Need-cast-narrow
@@ -79,6 +79,7 @@ find-binding-requires c κs = search needs
 found : (c : tie.After-find-binding) →
     let start = c .before .before .before .before .before .before .before .before .before .before .before in
     isSome (findBinding (configOf (told start)) (start .args .peer) (start .args .kind) (start .args .network)) ≡ isFound (c .find-binding .result)
+unfolding bindingsOf lent
 found c =
     let start = c .before .before .before .before .before .before .before .before .before .before .before in
     binding-found (told start) (start .args .peer) (start .args .kind) (start .args .network) (c .before .least2 .result) (c .find-binding .result)
@@ -93,7 +94,7 @@ listed : (c : tie.After-enum-told) →
 listed c = found (c .before .before) ∙ ap isFound (c .enum-told .given .1)
 
 returns-4 : tie.Need-returns-4
-unfolding addBindingChecks
+unfolding addBindingChecks bindingsOf lent
 returns-4 c =
     let start = c .before .before .before .before .before .before .before .before .before .before .before .before .before in
     list-binding-exit _ _ _ _ _ _ _ _ _ _ 3
@@ -108,7 +109,7 @@ unlisted : (c : tie.After-enum-told2) →
 unlisted c = found (c .before .before) ∙ ap isFound (c .enum-told2 .given .1)
 
 returns-5 : tie.Need-returns-5
-unfolding addBindingChecks
+unfolding addBindingChecks bindingsOf lent
 returns-5 c =
     let start = c .before .before .before .before .before .before .before .before .before .before .before .before .before .before in
     list-binding-exit _ _ _ _ _ _ _ _ _ _ 4
@@ -146,7 +147,7 @@ add-count : tie.Need-add-count
 add-count c = search needs
 
 returns-6 : tie.Need-returns-6
-unfolding addBindingChecks withBinding
+unfolding addBindingChecks withBinding bindingsOf lent
 returns-6 c =
     let start = c .before .before .before .before .before .before .before .before .before .before .before .before .before .before in
     list-binding-exit _ _ _ _ _ _ _ _ _ _ 5

@@ -7,7 +7,7 @@ use borrow.Author.Needs.{needs}
 use lib.ListN.{take}
 use Rattle.wire.specs.Checks.{Passed}
 use Rattle.wire.specs.Laws.Checks.{deciding}
-use Rattle.endpoint.specs.Config.{configOf, findPeer, isSome, addPeerChecks, withAddress, peersOf}
+use Rattle.endpoint.specs.Config.{configOf, findPeer, isSome, addPeerChecks, withAddress, peersOf, lent}
 use Rattle.endpoint.specs.Laws.ConfigExits.{behind, list-peer-exit, isFound, peer-found}
 use Rattle.endpoint.specs.declared.config.Endpoint.{Endpoint}
 use Rattle.endpoint.proofs.config.list_peer.Statement.{statement}
@@ -18,26 +18,26 @@ abbrev told : tie.Start → Endpoint
 told c = peersOf (c .args .addresses .now) (c .args .own) (c .args .port) (c .args .count .now)
 
 returns : tie.Need-returns
-unfolding addPeerChecks
+unfolding addPeerChecks peersOf lent
 returns c = list-peer-exit _ _ _ _ _ 0 (omega (arith, deciding))
 
 returns-2 : tie.Need-returns-2
-unfolding addPeerChecks
+unfolding addPeerChecks peersOf lent
 returns-2 c = list-peer-exit _ _ _ _ _ 1 (omega (arith, deciding))
 
 returns-3 : tie.Need-returns-3
-unfolding addPeerChecks
+unfolding addPeerChecks peersOf lent
 returns-3 c = list-peer-exit _ _ _ _ _ 2 (omega (arith, deciding))
 
 returns-4 : tie.Need-returns-4
-unfolding addPeerChecks
+unfolding addPeerChecks peersOf lent
 returns-4 c = list-peer-exit _ _ _ _ _ 3 (omega (arith, deciding))
 
 -- the address is in its range, and not our own
 ranges : (c : tie.Else4) →
     let start = c .before .before .before .before in
     Passed (take 4 (addPeerChecks (told start) (start .args .address)))
-unfolding addPeerChecks
+unfolding addPeerChecks peersOf lent
 ranges c = omega (arith, deciding)
 
 least-requires : tie.Need-least-requires
@@ -50,6 +50,7 @@ find-peer-requires c κs = search needs
 found : (c : tie.After-find-peer) →
     let start = c .before .before .before .before .before .before .before .before in
     isSome (findPeer (configOf (told start)) (start .args .address)) ≡ isFound (c .find-peer .result)
+unfolding peersOf lent
 found c =
     let start = c .before .before .before .before .before .before .before .before in
     peer-found (told start) (start .args .address) (c .before .least .result) (c .find-peer .result) (c .before .least .ensures) (c .find-peer .ensures)
@@ -63,7 +64,7 @@ listed : (c : tie.After-enum-told) →
 listed c = found (c .before .before) ∙ ap isFound (c .enum-told .given .1)
 
 returns-5 : tie.Need-returns-5
-unfolding addPeerChecks
+unfolding addPeerChecks peersOf lent
 returns-5 c = list-peer-exit _ _ _ _ _ 4 (behind (addPeerChecks _ _) 4 0 (ranges (c .before .before .before .before .before .before)) (listed c))
 
 enum-told-2 : tie.Need-enum-told-2
@@ -75,7 +76,7 @@ unlisted : (c : tie.After-enum-told2) →
 unlisted c = found (c .before .before) ∙ ap isFound (c .enum-told2 .given .1)
 
 returns-6 : tie.Need-returns-6
-unfolding addPeerChecks
+unfolding addPeerChecks peersOf lent
 returns-6 c =
     list-peer-exit _ _ _ _ _ 5
     (behind (addPeerChecks _ _) 4 1 (ranges (c .before .before .before .before .before .before .before)) (unlisted (c .before), omega (arith, deciding)))
@@ -90,7 +91,7 @@ add-count : tie.Need-add-count
 add-count c = search needs
 
 returns-7 : tie.Need-returns-7
-unfolding addPeerChecks withAddress
+unfolding addPeerChecks withAddress peersOf lent
 returns-7 c =
     list-peer-exit _ _ _ _ _ 6
     (behind (addPeerChecks _ _) 4 2 (ranges (c .before .before .before .before .before .before .before)) (unlisted (c .before), (omega (arith, deciding), tt)))

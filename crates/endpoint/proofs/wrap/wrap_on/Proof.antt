@@ -18,6 +18,7 @@ least-requires : tie.Need-least-requires
 least-requires c κs = search needs
 
 returns : tie.Need-returns
+unfolding lent
 returns c =
     let a = c .before .before .before .before .args in
     let h : min (a .binding-count) mostBindings ≤ a .binding = omega (arith, c .before .least .ensures) in
@@ -27,6 +28,7 @@ element-copy-out-owner : tie.Need-element-copy-out-owner
 element-copy-out-owner c = search needs
 
 returns-2 : tie.Need-returns-2
+unfolding lent
 returns-2 c =
     let a = c .before .before .before .before .before .before .args in
     let h : a .binding < min (a .binding-count) mostBindings = omega (arith, c .before .before .before .least .ensures) in
@@ -57,6 +59,7 @@ same-length : tie.Need-same-length
 same-length c = search needs
 
 returns-3 : tie.Need-returns-3
+unfolding lent
 returns-3 c =
     let a = c .before .before .before .before .before .before .before .before .before .before .before .before .before .args in
     let e : Endpoint = lent (a .networks .now) (a .kinds .now) (a .owners .now) [] (a .addresses .now) (a .own) (a .port) (a .mtu) 0 (a .binding-count) in

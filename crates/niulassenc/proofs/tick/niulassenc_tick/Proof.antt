@@ -56,7 +56,6 @@ use Rattle.endpoint.specs.declared.answer.Tick.{Tick}
 use Rattle.endpoint.specs.declared.answer.Tick.the-variants as K
 use Rattle.endpoint.specs.declared.config.Endpoint.{Endpoint}
 use Rattle.endpoint.specs.declared.tick.TickResult.{TickResult}
-use Rattle.endpoint.specs.Answer.{tickCode}
 use Rattle.endpoint.specs.Config.{withRows, tickOf}
 use Rattle.endpoint.specs.Receive.{rowAt, withRow}
 use Rattle.endpoint.specs.Laws.Tick.{olderBefore, none-older, one-older, all-older}
@@ -74,6 +73,7 @@ use Rattle.niulassenc.proofs.tick.niulassenc_tick as f
 use Rattle.niulassenc.proofs.tick.niulassenc_tick.Statement as stated
 use Rattle.niulassenc.proofs.tick.niulassenc_tick.Code as code
 use Rattle.niulassenc.proofs.Offsets.{peersAt}
+use Rattle.endpoint.specs.Laws.Answer.{tick-code}
 
 abbrev stayed : Stays (f.ended .signature .params) (f.ended .kept)
 stayed = (stay-ref (0 ∷ []) tt (plain (λ _. T.the-row)), tt)
@@ -123,9 +123,6 @@ older-row : (h : Endpoint) (p : ℕ) (r : Peer) → length (h .peers) ≡ mostPe
 older-row h p r eight l e = one-older h (aged h p) p r (omega (arith, eight)) refl e
 
 -- the only answer
-always : (t : Tick) → _≡_ {A = ℕ} 0 (tickCode t)
-always K.Done = refl
-
 done-only : (t : Tick) → K.Done ≡ t
 done-only K.Done = refl
 
@@ -165,7 +162,7 @@ module _ {M : Type 1} (𝓤 : URA M) (H : Heap 𝓤) (A : Atoms 𝓤) (W : Given
   exits e is =
       qed W (‵ (fobs γ (T.the-row .coded .code e)) ∷ ‵ (fbor κ (Body (mem T.the-row) b o γ)) ∷ ‵ (flft κ q) ∷ []) ∵
       suffices ! _ (ends-at 𝓤 H A f.ended stayed (f.clauses 𝓤 H A at-mem run) W (((κ, tt), (q, tt), tt, x, at), tt) (vint w8 0) 0 (e, tt) (tt, tt)) $
-      says ! (always (tickOf h .answer), ap (λ (t : TickResult). t .endpoint) is) $ nothing ! $ move ! (3 ∷ 0 ∷ []) $ join ! $
+      says ! (sym (tick-code (tickOf h .answer)), ap (λ (t : TickResult). t .endpoint) is) $ nothing ! $ move ! (3 ∷ 0 ∷ []) $ join ! $
       frame ! $ feqI ! (List Val) (vptr b o ∷ []) (vptr b o ∷ []) refl $ fjoin3 ! $ nothing ! $ move ! (1 ∷ 0 ∷ []) $ fjoin ! $
       owned ! u8 (Is u8) (uint-makes 𝓤 H A W w8) 0 (vint w8 0 ∷ []) (refl, lit< tt) $ move ! (1 ∷ 0 ∷ []) $ done !
 
