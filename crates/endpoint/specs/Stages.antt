@@ -18,7 +18,7 @@ use Rattle.wire.specs.declared.carriage.Carried.{Carried}
 use Rattle.wire.specs.declared.carriage.Carried.the-variants as C
 use Rattle.wire.specs.declared.stt.SttRead.{SttRead}
 use Rattle.wire.specs.declared.stt.SttRead.the-variants as T
-use Rattle.reassembly.specs.Take.{segOf, Effect, slotNo}
+use Rattle.reassembly.specs.Take.{segOf, Effect}
 use Rattle.reassembly.specs.Store.{bytesOf, takeIn}
 use Rattle.reassembly.specs.Receive.{partOfSlice, viewOf}
 use Rattle.reassembly.specs.declared.slot.Peer.{Peer}
@@ -93,7 +93,9 @@ unfoldable pub offerOf : (peer : ℕ) → Outcome → (size : ℕ) → (memory :
 offerOf peer (O.Rejected r) size m = B.Refused (D.Segment r)
 offerOf peer O.Pending size m = B.Pending
 offerOf peer O.NoMemory size m = B.Refused D.Memory
-offerOf peer (O.Complete s) size m = offerAt (slotNo peer s * 1728) (part m (slotNo peer s * 1728) (slotNo peer s * 1728 + size))
+offerOf peer (O.Complete s) size m =
+    let at : ℕ = (mostSlots * peer + s) * 1728 in
+    offerAt at (part m at (at + size))
 
 -- a complete frame lies in the memory
 unfoldable pub Lies : (peer : ℕ) → Outcome → (size : ℕ) → List ℕ → Type 0

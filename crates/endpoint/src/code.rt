@@ -1,6 +1,5 @@
 // Document 01's number for each answer ("The numbered answers"), as specs/Answer.antt gives it.
 ghost use mathlib.Core.Path.{_≡_};
-ghost use Rattle.reassembly.specs.Take.{rejectionCode};
 ghost use Rattle.endpoint.specs.Answer.{dropCode, configCode, addedCode, startCode, tickCode, valuesOf, wrapRefusalCode};
 use crate::answer::Added;
 use crate::answer::ConfigRefusal;
@@ -9,20 +8,6 @@ use crate::answer::Received;
 use crate::answer::Start;
 use crate::answer::Tick;
 use crate::answer::WrapRefusal;
-use reassembly::take::Rejection;
-
-pub fn rejection_code(r: Rejection) -> u8
-    ensures { λ n. ⌜ n ≡ rejectionCode r ⌝ }
-{
-    match r {
-        Rejection::Empty => 14,
-        Rejection::FrameLength => 14,
-        Rejection::PastEnd => 14,
-        Rejection::OtherLength => 15,
-        Rejection::AlreadyReceived => 16,
-        Rejection::NoSlot => 17,
-    }
-}
 
 pub fn drop_code(d: Drop) -> u8
     ensures { λ n. ⌜ n ≡ dropCode d ⌝ }
@@ -33,7 +18,7 @@ pub fn drop_code(d: Drop) -> u8
         Drop::Destination => 6,
         Drop::Peer => 7,
         Drop::Binding => 12,
-        Drop::Segment(r) => rejection_code(r),
+        Drop::Segment(r) => reassembly::take::rejection_code(r),
     }
 }
 

@@ -9,6 +9,7 @@ use borrow.Author.Tests.{lt-leb, le-leb}
 use Rattle.wire.specs.Refusal.{codeOf}
 use Rattle.wire.specs.declared.refusal.Refusal.{Refusal}
 use Rattle.wire.specs.declared.refusal.Refusal.the-variants as F
+use Rattle.reassembly.specs.Take.{rejectionCode}
 use Rattle.reassembly.specs.declared.take.Rejection.{Rejection}
 use Rattle.reassembly.specs.declared.take.Rejection.the-variants as J
 use Rattle.endpoint.specs.Answer.{valuesOf, addedCode, startCode, wrapValuesOf}
@@ -101,7 +102,7 @@ past p m start length true h = rw (lt-leb (start + length) m h)
 past p m start length false h = rw (lt-leb (start + length) p h)
 
 pub worked-answers : WorkedAnswers
-unfolding codeOf startCode addedCode wrapValuesOf
+unfolding codeOf rejectionCode startCode addedCode wrapValuesOf
 worked-answers = record {
   delivered = λ tenant binding start length inMemory. refl;
   pending = refl;

@@ -7,6 +7,7 @@ pub mod Memory
 pub mod Sim
 pub mod Store
 pub mod Table
+pub mod Answers
 pub mod Ghost
 pub mod CutFacts
 pub mod MixFacts

@@ -22,10 +22,10 @@ abbrev pub nowhere : Place
 nowhere = record { inMemory = false; start = 0; len = 0 }
 
 -- the second call: the part of the packet or of the memory that a place names; a place that does not fit its slice gives the empty part
-abbrev pub partOfSlice : List ℕ → ℕ → ℕ → List ℕ
+unfoldable pub partOfSlice : List ℕ → ℕ → ℕ → List ℕ
 partOfSlice s start len = cond (leb (start + len) (length s)) (take len (drop start s)) []
 
-abbrev pub viewOf : List ℕ → List ℕ → Place → List ℕ
+unfoldable pub viewOf : List ℕ → List ℕ → Place → List ℕ
 viewOf packet m a = cond (a .inMemory) (partOfSlice m (a .start) (a .len)) (partOfSlice packet (a .start) (a .len))
 
 -- what a receive answers, as far as the theory of runs looks: what a refusal and a delivery carry is the user's
@@ -86,13 +86,13 @@ module _ (W : Answers) where
     segment : ℕ → Seg → Reading
 
   -- the answer on the complete frame of slot k, of length n: its bytes from 18 on, where they lie in the memory
-  abbrev pub frameAnswer : Verdict → ℕ → ℕ → List ℕ → Answer
+  unfoldable pub frameAnswer : Verdict → ℕ → ℕ → List ℕ → Answer
   frameAnswer (bad b) k n frame = bare (W .refused b)
   frameAnswer (good v) k n frame = record { reply = W .gives v (slotStart k + 18) (n - 18); bytes = drop 18 frame }
 
   module _ (judge : ℕ → Note → List ℕ → Verdict) (O : Ops) where
     -- the answer to peer p's segment g, of which taking had this effect
-    abbrev pub takeAnswer : ℕ → Seg → Effect O → Outcome → Answer
+    unfoldable pub takeAnswer : ℕ → Seg → Effect O → Outcome → Answer
     takeAnswer p g o (Rejected r) = bare (W .rejected r)
     takeAnswer p g o Pending = bare (W .pending)
     takeAnswer p g o (Complete s) =

@@ -22,6 +22,6 @@ module _ (test : ℕ → Bool) where
     pub least : (j : ℕ) → j < i → test j ≡ false
 
 -- what was found, or 0
-abbrev pub found : Option ℕ → ℕ
+unfoldable pub found : Option ℕ → ℕ
 found none = 0
 found (some i) = i

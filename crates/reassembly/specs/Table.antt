@@ -61,7 +61,7 @@ module _ (peer : ℕ) (row : Peer) (memory : List ℕ) (g : Seg) where
 -- ---- THE STATEMENT
 
 -- the number of what taking gave: a rejection's, 1 of a pending frame, and what is made of a complete one, by its bytes in the memory
-abbrev pub takenNumber : (List ℕ → ℕ) → (peer : ℕ) → Seg → Effect bytesOf → Outcome → ℕ
+unfoldable pub takenNumber : (List ℕ → ℕ) → (peer : ℕ) → Seg → Effect bytesOf → Outcome → ℕ
 takenNumber f peer g o (Rejected r) = rejectionCode r
 takenNumber f peer g o Pending = 1
 takenNumber f peer g o (Complete s) = f (frameIn bytesOf (o .mem) (slotNo peer s) (g .frame-length))

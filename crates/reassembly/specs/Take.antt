@@ -29,7 +29,7 @@ abbrev pub segOf : Segment → List ℕ → Seg
 segOf h bs = record { identifier = h .identifier; frame-length = h .«frame_length»; offset = h .offset; bytes = bs; mark = noMark }
 
 -- document 01's number of each rejection
-abbrev pub rejectionCode : Rejection → ℕ
+unfoldable pub rejectionCode : Rejection → ℕ
 rejectionCode Empty = 14
 rejectionCode FrameLength = 14
 rejectionCode PastEnd = 14
@@ -108,7 +108,7 @@ decisionOf (fresh s) = Open s
 -- ---- the effect
 
 -- slot s of peer p, among the 32
-abbrev pub slotNo : ℕ → ℕ → ℕ
+unfoldable pub slotNo : ℕ → ℕ → ℕ
 slotNo p s = mostSlots * p + s
 
 -- how many bytes of a segment check 16 looks at: all

@@ -4,7 +4,7 @@ ghost use mathlib.Core.Path.{_≡_};
 ghost use Prim.Native.Nat.{_+_, _<_, _≤_};
 ghost use lib.ListN.{length};
 ghost use Rattle.reassembly.specs.Slots.{mostPeers, mostSlots};
-ghost use Rattle.reassembly.specs.Take.{segOf, chosen, placed, old, fresh, Old, Fresh, decisionOf};
+ghost use Rattle.reassembly.specs.Take.{rejectionCode, segOf, chosen, placed, old, fresh, Old, Fresh, decisionOf};
 ghost use Rattle.reassembly.specs.Store.{bytesOf, takeIn, takenOf, finished};
 use crate::memory;
 use crate::number::LENGTH_LEAST;
@@ -26,6 +26,20 @@ pub enum Rejection {
     OtherLength,
     AlreadyReceived,
     NoSlot,
+}
+
+// Document 01's number of each.
+pub fn rejection_code(r: Rejection) -> u8
+    ensures { λ n. ⌜ n ≡ rejectionCode r ⌝ }
+{
+    match r {
+        Rejection::Empty => 14,
+        Rejection::FrameLength => 14,
+        Rejection::PastEnd => 14,
+        Rejection::OtherLength => 15,
+        Rejection::AlreadyReceived => 16,
+        Rejection::NoSlot => 17,
+    }
 }
 
 // Complete names the slot in its peer record; the frame lies in the memory. NoMemory: the peer's slots do not lie in the memory.

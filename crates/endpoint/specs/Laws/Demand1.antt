@@ -7,7 +7,7 @@ use mathlib.Core.Bool.{Bool, true, false}
 use mathlib.Core.List.{List, [], _∷_, _++_}
 use mathlib.Core.Option.{Option, none, some}
 use native.Mathlib.Omega.{arith}
-use borrow.Author.Tests.{ltb-false, eqb-true, eqb-false}
+use borrow.Author.Tests.{ltb-false, eqb-true, eqb-false, ne-eqb}
 use lib.ListN.{length, getD, set, drop, length-set}
 use lib.Seq.{set-getD, getD-set-same, getD-set-other, getD-append-add, getD-drop}
 use lib.Dec.{ltb, eqb}
@@ -27,14 +27,14 @@ use Rattle.reassembly.specs.Slots.{Note, free, noRow, older}
 use Rattle.reassembly.specs.Laws.Runs.{older-at, rows-older}
 use Rattle.reassembly.specs.Take.{Seg, rejectionCode, slotNo, frameIn}
 use Rattle.reassembly.specs.Laws.TakeFacts.{rejection-codes, length-frame}
-use Rattle.reassembly.specs.Store.{bytesOf, takeIn}
+use Rattle.reassembly.specs.Store.{bytesOf, takeIn, slotStart}
 use Rattle.reassembly.specs.Laws.TakeIn.{take-refused, take-no-memory, take-whole}
 use Rattle.reassembly.specs.Laws.TakeTouch.{take-completes, older-free, older-younger, older-gone}
-use Rattle.reassembly.specs.Receive.{Reading, otherSender, direct, segment, Verdict, bad, good, frameAnswer, takeAnswer}
+use Rattle.reassembly.specs.Laws.Answers.{bad-reply, good-reply, rejected-reply, pending-reply, no-memory-reply, complete-reply}
+use Rattle.reassembly.specs.Receive.{Answer, Reading, otherSender, direct, segment, Verdict, bad, good, frameAnswer, takeAnswer}
 use Rattle.reassembly.specs.declared.slot.Peer.{Peer}
 use Rattle.reassembly.specs.declared.slot.Slot.{Slot}
 use Rattle.reassembly.specs.declared.take.Rejection.{Rejection}
-use Rattle.reassembly.specs.declared.take.Rejection.the-variants as J
 use Rattle.reassembly.specs.declared.take.Outcome.{Outcome}
 use Rattle.reassembly.specs.declared.take.Outcome.the-variants as O
 use Rattle.endpoint.specs.Answer.{dropCode, configCode, valuesOf, AddedValues, tickCode, wrapRefusalCode, wrapValuesOf, startCode}
@@ -195,8 +195,10 @@ judge-bad c p note frame d l e = by (sttOf frame) refl e
     by (H.Header context) q e = inner-bad (c .networks) (c .kinds) (c .owners) (c .tenants) (c .bindings) p 3 context (drop 18 frame) d e
 
 spoken-bad : (x : Verdict answers) (i n : ℕ) (frame : List ℕ) (d : Drop) → frameAnswer answers x i n frame .reply ≡ R.Dropped d → x ≡ bad d
-spoken-bad (bad b) i n frame d e = cc
-spoken-bad (good t) i n frame d e = clash (cc (e))
+spoken-bad (bad b) i n frame d e = let z : R.Dropped b ≡ R.Dropped d = sym (bad-reply answers b i n frame) ∙ e in cc
+spoken-bad (good t) i n frame d e =
+    let z : R.Delivered t (record { start = slotStart i + 18; length = n - 18; «in_memory» = true }) ≡ R.Dropped d = sym (good-reply answers t i n frame) ∙ e in
+    clash (cc (z))
 
 -- ---- a receive: what it leaves
 
@@ -270,8 +272,10 @@ module _ (e : Endpoint) (m k : List ℕ) (d : Drop) where
       → takeAnswer answers (judgeOf (configOf e)) bytesOf p g (takeIn p (rowAt e p) m g) o .reply ≡ R.Dropped d → Refused (stepped e m (segment p g))
   taken p g h (O.Rejected r) q t = let x = take-refused p (rowAt e p) m g r q in same p _ _ (R.Dropped d) (x .0) (x .1)
   taken p g h O.NoMemory q t = let x = take-no-memory p (rowAt e p) m g q in same p _ _ (R.Dropped d) (x .0) (x .1)
-  taken p g h O.Pending q t = clash (cc (t))
-  taken p g h (O.Complete s) q t = inr (found-bad p g h s q (spoken-bad _ _ _ _ d t))
+  taken p g h O.Pending q t =
+      let z : R.Pending ≡ R.Dropped d = sym (pending-reply answers (judgeOf (configOf e)) bytesOf p g (takeIn p (rowAt e p) m g)) ∙ t in clash (cc (z))
+  taken p g h (O.Complete s) q t = inr (found-bad p g h s q (spoken-bad _ _ _ _ d
+      (sym (ap (λ (a : Answer answers). a .reply) (complete-reply answers (judgeOf (configOf e)) bytesOf p g (takeIn p (rowAt e p) m g) s)) ∙ t)))
 
   seen : (x : Reading answers) → headerOf (configOf e) k ≡ x → stepped e m x .answer ≡ R.Dropped d → Refused (stepped e m x)
   seen (otherSender a) h t = same 0 (rowAt e 0) m a refl refl
@@ -286,12 +290,10 @@ module _ (e : Endpoint) (m k : List ℕ) (d : Drop) where
       (λ b. rw b (seen (headerOf (configOf e) k) refl (rw b at t)))
 
 rejection-not : (r : Rejection) → rejectionCode r among (11 ∷ 12 ∷ 13 ∷ []) ≡ false
-rejection-not J.Empty = refl
-rejection-not J.FrameLength = refl
-rejection-not J.PastEnd = refl
-rejection-not J.OtherLength = refl
-rejection-not J.AlreadyReceived = refl
-rejection-not J.NoSlot = refl
+rejection-not r =
+    let n : ℕ = rejectionCode r in
+    let least : 14 ≤ n = rejection-codes r .0 in
+    rw (ne-eqb n 11 (λ z. omega arith), ne-eqb n 12 (λ z. omega arith), ne-eqb n 13 (λ z. omega arith))
 
 -- 11, 12 or 13 on a segment is given only where a complete frame is found bad
 module _ (e : Endpoint) (m k : List ℕ) (p : ℕ) (g : Seg) (h : headerOf (configOf e) k ≡ segment p g) where
@@ -302,15 +304,17 @@ module _ (e : Endpoint) (m k : List ℕ) (p : ℕ) (g : Seg) (h : headerOf (conf
   judged-bad : (s : ℕ) → takeIn p (rowAt e p) m g .outcome ≡ O.Complete s → (frame : List ℕ) (x : Verdict answers)
       → judgeOf (configOf e) p (takeIn p (rowAt e p) m g .note) (frameIn bytesOf (takeIn p (rowAt e p) m g .mem) (slotNo p s) (g .frame-length)) ≡ x
       → Bad (frameAnswer answers x (slotNo p s) (g .frame-length) frame .reply)
-  judged-bad s q frame (bad d) j n = found-bad e m k d p g h s q j
-  judged-bad s q frame (good t) j n = clash (cc (n))
+  judged-bad s q frame (bad d) j = rw (bad-reply answers d (slotNo p s) (g .frame-length) frame) (λ n. found-bad e m k d p g h s q j)
+  judged-bad s q frame (good t) j = rw (good-reply answers t (slotNo p s) (g .frame-length) frame) (λ n. clash (cc (n)))
 
   told-bad : (o : Outcome) → takeIn p (rowAt e p) m g .outcome ≡ o
       → Bad (takeAnswer answers (judgeOf (configOf e)) bytesOf p g (takeIn p (rowAt e p) m g) o .reply)
-  told-bad (O.Rejected r) q n = clash (cc (rejection-not r, n))
-  told-bad O.NoMemory q n = clash (cc (n))
-  told-bad O.Pending q n = clash (cc (n))
-  told-bad (O.Complete s) q n = judged-bad s q _ _ refl n
+  told-bad (O.Rejected r) q =
+      rw (rejected-reply answers (judgeOf (configOf e)) bytesOf p g (takeIn p (rowAt e p) m g) r) (λ n. clash (cc (rejection-not r, n)))
+  told-bad O.NoMemory q = rw (no-memory-reply answers (judgeOf (configOf e)) bytesOf p g (takeIn p (rowAt e p) m g)) (λ n. clash (cc (n)))
+  told-bad O.Pending q = rw (pending-reply answers (judgeOf (configOf e)) bytesOf p g (takeIn p (rowAt e p) m g)) (λ n. clash (cc (n)))
+  told-bad (O.Complete s) q =
+      rw (complete-reply answers (judgeOf (configOf e)) bytesOf p g (takeIn p (rowAt e p) m g) s) (judged-bad s q _ _ refl)
 
   step-bad : valuesOf (stepOf e m k .answer) .number among (11 ∷ 12 ∷ 13 ∷ []) ≡ true
       → FoundBad e m k (valuesOf (stepOf e m k .answer) .number) (withRow e (stepOf e m k .peer) (stepOf e m k .row)) (stepOf e m k .mem)

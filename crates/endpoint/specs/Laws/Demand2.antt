@@ -7,9 +7,9 @@ use mathlib.Core.Bool.{Bool, true, false}
 use mathlib.Core.List.{List, [], _∷_}
 use mathlib.Core.Option.{Option, none, some}
 use native.Mathlib.Omega.{arith}
-use borrow.Author.Tests.{le-ltb, le-leb}
+use borrow.Author.Tests.{le-ltb}
 use lib.ListN.{length, take, drop}
-use lib.Dec.{ltb, leb, eqb}
+use lib.Dec.{ltb, eqb}
 use Rattle.wire.specs.Bytes.{Bytes, part}
 use Rattle.wire.specs.Laws.Bytes.{part-is, bytes-part}
 use Rattle.wire.specs.Ipv4.{ipv4Of}
@@ -23,8 +23,9 @@ use Rattle.reassembly.specs.Laws.Base.{caseB}
 use Rattle.reassembly.specs.Take.{Seg, slotNo, frameIn}
 use Rattle.reassembly.specs.Store.{bytesOf, takeIn, slotStart}
 use Rattle.reassembly.specs.Laws.Store.{slot-inside}
+use Rattle.reassembly.specs.Laws.Answers.{part-fits, view-packet, bad-reply, good-reply, rejected-reply, pending-reply, no-memory-reply, complete-reply}
 use Rattle.reassembly.specs.Laws.TakeIn.{take-whole, take-length, frame-part}
-use Rattle.reassembly.specs.Receive.{viewOf, Reading, otherSender, direct, segment, Verdict, bad, good, frameAnswer, takeAnswer, Event, receive, tick}
+use Rattle.reassembly.specs.Receive.{viewOf, Answer, Reading, otherSender, direct, segment, Verdict, bad, good, frameAnswer, takeAnswer, Event, receive, tick}
 use Rattle.reassembly.specs.declared.take.Outcome.{Outcome}
 use Rattle.reassembly.specs.declared.take.Outcome.the-variants as O
 use Rattle.reassembly.specs.EveryRun.{IfAndOnlyIf}
@@ -134,10 +135,10 @@ calls-bytes w (receive k ∷ es) b h = calls-bytes (called w (receive k)) es (st
 
 lies-view : (k m : List ℕ) (place : Place) (frame : List ℕ) → Lies k place frame → viewOf k m (placeOf place) ≡ frame
 lies-view k m place frame l =
-    let fits : leb (place .start + place .length) (length k) ≡ true = le-leb (place .start + place .length) (length k) (l .within) in
     let size : place .start + place .length - place .start ≡ place .length = omega arith in
-    rw (l .in-packet, fits) (
-    ap (λ (n : ℕ). take n (drop (place .start) k)) (sym size) ∙ sym (part-is k (place .start) (place .start + place .length)) ∙ l .bytes)
+    view-packet k m (placeOf place) (l .in-packet)
+    ∙ part-fits k (place .start) (place .length) (l .within)
+    ∙ ap (λ (n : ℕ). take n (drop (place .start) k)) (sym size) ∙ sym (part-is k (place .start) (place .start + place .length)) ∙ l .bytes
 
 -- ---- a stranger's packet is never delivered
 
@@ -167,8 +168,13 @@ header-stranger c k a e = ip-stranger c k (ipv4Of k) a e
 
 spoken-good : (x : Verdict answers) (i n : ℕ) (frame : List ℕ) (t : Target) (place : Place) → frameAnswer answers x i n frame .reply ≡ R.Delivered t place
     → (x ≡ good t) × (record { start = slotStart i + 18; length = n - 18; «in_memory» = true } ≡ place)
-spoken-good (bad b) i n frame t place e = let z : _≡_ {A = ℕ} 0 1 = cc in absurd (omega arith)
-spoken-good (good u) i n frame t place e = (cc, cc)
+spoken-good (bad b) i n frame t place e =
+    let y : R.Dropped b ≡ R.Delivered t place = sym (bad-reply answers b i n frame) ∙ e in
+    let z : _≡_ {A = ℕ} 0 1 = cc in absurd (omega arith)
+spoken-good (good u) i n frame t place e =
+    let y : R.Delivered u (record { start = slotStart i + 18; length = n - 18; «in_memory» = true }) ≡ R.Delivered t place =
+    sym (good-reply answers u i n frame) ∙ e in
+    (cc, cc)
 
 module _ (e : Endpoint) (m k : List ℕ) (enough : 55296 ≤ length m) (packet : Bytes k) where
   module _ (memory : Bytes m) (t : Target) (frame : List ℕ) where
@@ -183,9 +189,15 @@ module _ (e : Endpoint) (m k : List ℕ) (enough : 55296 ≤ length m) (packet :
         → takeIn p (rowAt e p) m g .outcome ≡ o
         → (place : Place) → takeAnswer answers (judgeOf (configOf e)) bytesOf p g (takeIn p (rowAt e p) m g) o .reply ≡ R.Delivered t place
         → viewOf k (takeIn p (rowAt e p) m g .mem) (placeOf place) ≡ frame → Completes e m k t frame
-    taken-sound p g h b (O.Rejected r) q place a w = let z : _≡_ {A = ℕ} 0 1 = cc in absurd (omega arith)
-    taken-sound p g h b O.Pending q place a w = let z : _≡_ {A = ℕ} 0 1 = cc in absurd (omega arith)
-    taken-sound p g h b O.NoMemory q place a w = let z : _≡_ {A = ℕ} 0 1 = cc in absurd (omega arith)
+    taken-sound p g h b (O.Rejected r) q place a w =
+        let y : R.Dropped (D.Segment r) ≡ R.Delivered t place = sym (rejected-reply answers (judgeOf (configOf e)) bytesOf p g (takeIn p (rowAt e p) m g) r) ∙ a in
+        let z : _≡_ {A = ℕ} 0 1 = cc in absurd (omega arith)
+    taken-sound p g h b O.Pending q place a w =
+        let y : R.Pending ≡ R.Delivered t place = sym (pending-reply answers (judgeOf (configOf e)) bytesOf p g (takeIn p (rowAt e p) m g)) ∙ a in
+        let z : _≡_ {A = ℕ} 0 1 = cc in absurd (omega arith)
+    taken-sound p g h b O.NoMemory q place a w =
+        let y : R.Dropped D.Memory ≡ R.Delivered t place = sym (no-memory-reply answers (judgeOf (configOf e)) bytesOf p g (takeIn p (rowAt e p) m g)) ∙ a in
+        let z : _≡_ {A = ℕ} 0 1 = cc in absurd (omega arith)
     taken-sound p g h b (O.Complete s) q place a w =
         let after : List ℕ = takeIn p (rowAt e p) m g .mem in
         let whole = take-whole p s (rowAt e p) m g q in
@@ -193,7 +205,8 @@ module _ (e : Endpoint) (m k : List ℕ) (enough : 55296 ≤ length m) (packet :
         slot-inside after p s (g .frame-length) (omega (arith, take-length p (rowAt e p) m g)) (whole .is-peer) (whole .is-slot)
         (omega (arith, whole .fits .most)) in
         let x = spoken-good (judgeOf (configOf e) p (takeIn p (rowAt e p) m g .note) (frameIn bytesOf after (slotNo p s) (g .frame-length))) (slotNo p s)
-        (g .frame-length) (frameIn bytesOf after (slotNo p s) (g .frame-length)) t place a in
+        (g .frame-length) (frameIn bytesOf after (slotNo p s) (g .frame-length)) t place
+        (sym (ap (λ (y : Answer answers). y .reply) (complete-reply answers (judgeOf (configOf e)) bytesOf p g (takeIn p (rowAt e p) m g) s)) ∙ a) in
         let j = judge-sound (configOf e) p (takeIn p (rowAt e p) m g .note) (frameIn bytesOf after (slotNo p s) (g .frame-length)) t
         (frame-bytes after b (slotNo p s) (g .frame-length) inside) (x .0) in
         let same : drop 18 (frameIn bytesOf after (slotNo p s) (g .frame-length)) ≡ frame =
@@ -240,11 +253,17 @@ module _ (e : Endpoint) (m k : List ℕ) (enough : 55296 ≤ length m) (packet :
       let inside : slotStart (slotNo p s) + g .frame-length ≤ length after =
       slot-inside after p s (g .frame-length) (omega (arith, take-length p (rowAt e p) m g)) (whole .is-peer) (whole .is-slot)
       (omega (arith, whole .fits .most)) in
-      let j = judge-complete (configOf e) p (takeIn p (rowAt e p) m g .note) (frameIn bytesOf after (slotNo p s) (g .frame-length)) t frame (w .good-frame) in
+      let found : List ℕ = frameIn bytesOf after (slotNo p s) (g .frame-length) in
+      let j = judge-complete (configOf e) p (takeIn p (rowAt e p) m g .note) found t frame (w .good-frame) in
       let h = segment-complete (configOf e) k p g (w .carried) in
       record {
         place = record { start = slotStart (slotNo p s) + 18; length = g .frame-length - 18; «in_memory» = true };
-        answer = rw (le-ltb (length m) 55296 enough, h, w .complete, j .0);
+        answer =
+            rw (le-ltb (length m) 55296 enough, h)
+            (ap (λ (o : Outcome). takeAnswer answers (judgeOf (configOf e)) bytesOf p g (takeIn p (rowAt e p) m g) o .reply) (w .complete)
+            ∙ ap (λ (y : Answer answers). y .reply) (complete-reply answers (judgeOf (configOf e)) bytesOf p g (takeIn p (rowAt e p) m g) s)
+            ∙ ap (λ (v : Verdict answers). frameAnswer answers v (slotNo p s) (g .frame-length) found .reply) (j .0)
+            ∙ good-reply answers t (slotNo p s) (g .frame-length) found);
         views = rw (le-ltb (length m) 55296 enough, h) (slot-view k after (slotNo p s) (g .frame-length) (omega (arith, whole .fits .least)) inside ∙ j .1);
       }
 

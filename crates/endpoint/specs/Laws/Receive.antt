@@ -7,8 +7,8 @@ use mathlib.Core.List.{List, []}
 use mathlib.Core.Option.{Option, none, some}
 use native.Mathlib.Omega.{arith}
 use lib.ListN.{length, getD, take, drop}
-use borrow.Author.Tests.{lt-ltb, le-ltb, le-leb, eq-eqb, ne-eqb}
-use lib.Dec.{ltb, leb, eqb}
+use borrow.Author.Tests.{lt-ltb, le-ltb, eq-eqb, ne-eqb}
+use lib.Dec.{ltb, eqb}
 use Rattle.wire.specs.Bytes.{part}
 use Rattle.wire.specs.Laws.Bytes.{part-is, part-length}
 use Rattle.wire.specs.Laws.Ipv4.{ipv4-bounds}
@@ -30,10 +30,12 @@ use Rattle.wire.specs.declared.stt.SttRead.the-variants as T
 use Rattle.wire.specs.declared.frame.FrameRead.the-variants as F
 use Rattle.reassembly.specs.Slots.{Note, noRow, mostPeers, mostSlots}
 use Rattle.reassembly.specs.Laws.TakeFacts.{length-frame}
+use Rattle.reassembly.specs.Laws.Answers.{part-fits, view-packet, view-memory, slot-no, bad-reply, good-reply, rejected-reply, pending-reply, no-memory-reply}
+use Rattle.reassembly.specs.Laws.Answers.{complete-reply}
 use Rattle.reassembly.specs.Laws.Store.{handed, slot-inside}
-use Rattle.reassembly.specs.Take.{Seg, segOf, frameIn, slotNo}
+use Rattle.reassembly.specs.Take.{Seg, segOf, frameIn}
 use Rattle.reassembly.specs.Store.{bytesOf, takeIn, slotStart, takenOf}
-use Rattle.reassembly.specs.Receive.{Reading as Made, otherSender, direct, segment, Verdict, bad, good, frameAnswer, takeAnswer, partOfSlice, viewOf}
+use Rattle.reassembly.specs.Receive.{Answer, Reading as Made, otherSender, direct, segment, Verdict, bad, good, frameAnswer, takeAnswer, partOfSlice, viewOf}
 use Rattle.reassembly.specs.Laws.Base.{caseB}
 use Rattle.reassembly.specs.SetUp.{Kept, peerOf}
 use Rattle.reassembly.specs.declared.take.Taken.{Taken}
@@ -159,8 +161,8 @@ module _ (peer : ℕ) (o : Outcome) (size : ℕ) (m : List ℕ) where
   unfolding offerOf
   settled-memory e = rw e
 
-  pub settled-complete : (s : ℕ) → o ≡ O.Complete s → (frame : List ℕ) → frame ≡ part m (slotNo peer s * 1728) (slotNo peer s * 1728 + size)
-      → offerAt (slotNo peer s * 1728) frame ≡ offerOf peer o size m
+  pub settled-complete : (s : ℕ) → o ≡ O.Complete s → (frame : List ℕ) → frame ≡ part m ((mostSlots * peer + s) * 1728) ((mostSlots * peer + s) * 1728 + size)
+      → offerAt ((mostSlots * peer + s) * 1728) frame ≡ offerOf peer o size m
   unfolding offerOf
   settled-complete s e frame f = rw (e, f)
 
@@ -240,14 +242,14 @@ module _ (networks kinds owners tenants : List ℕ) (n peer : ℕ) (o : Offer) (
 
 part-view : (k : List ℕ) (at end : ℕ) → at ≤ end → end ≤ length k → partOfSlice k at (end - at) ≡ part k at end
 part-view k at end l b =
-    let fits : leb (at + (end - at)) (length k) ≡ true = le-leb (at + (end - at)) (length k) (omega arith) in
-    rw fits (sym (part-is k at end))
+    part-fits k at (end - at) (omega arith) ∙ sym (part-is k at end)
 
 pub slot-view : (k m : List ℕ) (i n : ℕ) → 18 ≤ n → slotStart i + n ≤ length m
     → viewOf k m (record { inMemory = true; start = slotStart i + 18; len = n - 18 }) ≡ drop 18 (frameIn bytesOf m i n)
 slot-view k m i n l f =
-    let fits : leb (slotStart i + 18 + (n - 18)) (length m) ≡ true = le-leb (slotStart i + 18 + (n - 18)) (length m) (omega arith) in
-    rw fits (sym (handed m i n l f))
+    view-memory k m (record { inMemory = true; start = slotStart i + 18; len = n - 18 }) refl
+    ∙ part-fits m (slotStart i + 18) (n - 18) (omega arith)
+    ∙ sym (handed m i n l f)
 
 -- ---- a frame delivered, as the theory of runs has it
 
@@ -257,13 +259,14 @@ tunnel-out : (networks kinds owners tenants : List ℕ) (n peer kind network at 
     (record { network = network; place = record { start = at; length = end - at; «in_memory» = false }; kind = kind })) k m
     ≡ tunnelFrom networks kinds owners tenants n peer kind network at (part k at end)
 unfolding deliverOf tunnelFrom
-tunnel-out networks kinds owners tenants n peer kind network at end k m l b = rw (part-view k at end l b, part-length k at end b)
+tunnel-out networks kinds owners tenants n peer kind network at end k m l b =
+    rw (view-packet k m (record { inMemory = false; start = at; len = end - at }) refl, part-view k at end l b, part-length k at end b)
 
 -- STT: it lies in slot i
 spoken-out : (x : Verdict answers) (i n : ℕ) (frame : List ℕ) → answerAt x (record { start = slotStart i + 18; length = n - 18; «in_memory» = true })
     ≡ frameAnswer answers x i n frame .reply
-spoken-out (bad d) i n frame = refl
-spoken-out (good t) i n frame = refl
+spoken-out (bad d) i n frame = sym (bad-reply answers d i n frame)
+spoken-out (good t) i n frame = sym (good-reply answers t i n frame)
 
 module _ (c : Config) (p : ℕ) (k after : List ℕ) (i n : ℕ) (long : 18 ≤ n) (inside : slotStart i + n ≤ length after) where
   abbrev whole : List ℕ
@@ -273,7 +276,7 @@ module _ (c : Config) (p : ℕ) (k after : List ℕ) (i n : ℕ) (long : 18 ≤ 
       ≡ frameAnswer answers (byStt x (λ context. innerFrom (c .networks) (c .kinds) (c .owners) (c .tenants) (c .bindings) p 3 context (drop 18 whole))) i n
       whole .reply
   unfolding deliverOf
-  header-out (T.Refused r) = refl
+  header-out (T.Refused r) = sym (bad-reply answers (D.Format r) i n whole)
   header-out (T.Header context) =
       rw (slot-view k after i n long inside) (spoken-out (innerFrom (c .networks) (c .kinds) (c .owners) (c .tenants) (c .bindings) p 3 context
       (drop 18 whole)) i n whole)
@@ -300,16 +303,20 @@ module _ (c : Config) (p : ℕ) (row : Peer) (k m : List ℕ) (g : Seg) where
       (takeIn p row m g .mem)
       ≡ takeAnswer answers (judgeOf c) bytesOf p g (takeIn p row m g) o .reply
   unfolding deliverOf offerOf
-  told-out (O.Rejected r) e = refl
-  told-out O.Pending e = refl
-  told-out O.NoMemory e = refl
+  told-out (O.Rejected r) e = sym (rejected-reply answers (judgeOf c) bytesOf p g (takeIn p row m g) r)
+  told-out O.Pending e = sym (pending-reply answers (judgeOf c) bytesOf p g (takeIn p row m g))
+  told-out O.NoMemory e = sym (no-memory-reply answers (judgeOf c) bytesOf p g (takeIn p row m g))
   told-out (O.Complete s) e =
       let w = take-whole p s row m g e in
       let n : ℕ = g .frame-length in
       let after : List ℕ = takeIn p row m g .mem in
-      let inside : slotStart (slotNo p s) + n ≤ length after =
-      slot-inside after p s n (omega (arith, w .memory, take-length p row m g)) (w .is-peer) (w .is-slot) (omega (arith, w .fits .most)) in
-      judged-out c p k after (slotNo p s) n (omega (arith, w .fits .least)) inside (takeIn p row m g .note)
+      let note : Note = takeIn p row m g .note in
+      let inside : slotStart (mostSlots * p + s) + n ≤ length after =
+      rw (slot-no p s) at
+      (slot-inside after p s n (omega (arith, w .memory, take-length p row m g)) (w .is-peer) (w .is-slot) (omega (arith, w .fits .most))) in
+      judged-out c p k after (mostSlots * p + s) n (omega (arith, w .fits .least)) inside note
+      ∙ ap (λ (i : ℕ). frameAnswer answers (judgeOf c p note (frameIn bytesOf after i n)) i n (frameIn bytesOf after i n) .reply) (sym (slot-no p s))
+      ∙ sym (ap (λ (a : Answer answers). a .reply) (complete-reply answers (judgeOf c) bytesOf p g (takeIn p row m g) s))
 
 -- ---- what the stages make of a packet, and what the theory of runs does
 

@@ -36,7 +36,7 @@ use Rattle.wire.specs.declared.carriage.Carried.the-variants as C
 use Rattle.reassembly.specs.Laws.Base.{caseB, caseO}
 use Rattle.reassembly.specs.Base.{someBelow}
 use Rattle.reassembly.specs.Search.{lowest, found}
-use Rattle.reassembly.specs.Laws.Search.{lowest-some, found-some, found-none}
+use Rattle.reassembly.specs.Laws.Search.{lowest-some, found-some, found-none, found-is}
 use Rattle.reassembly.specs.Slots.{Note, noNote, mostPeers}
 use Rattle.reassembly.specs.Take.{Seg, segOf, Effect, slotNo, frameIn}
 use Rattle.reassembly.specs.declared.take.Outcome.{Outcome}
@@ -44,7 +44,9 @@ use Rattle.reassembly.specs.declared.take.Outcome.the-variants as O
 use Rattle.reassembly.specs.Store.{bytesOf, takeIn}
 use Rattle.reassembly.specs.Table.{segmentRows, completeFrame, takenNumber}
 use Rattle.reassembly.specs.Laws.Table.{reassembly-table, under-segment}
-use Rattle.reassembly.specs.Receive.{nowhere, Reading, segment, frameAnswer, takeAnswer, Verdict, bad, good}
+use Rattle.reassembly.specs.Laws.Answers.{bad-reply, good-reply, rejected-reply, pending-reply, complete-reply, no-memory-reply}
+use Rattle.reassembly.specs.Laws.Answers.{rejected-number, pending-number, complete-number, no-memory-number}
+use Rattle.reassembly.specs.Receive.{nowhere, Answer, Reading, segment, frameAnswer, takeAnswer, Verdict, bad, good}
 use Rattle.endpoint.specs.Answer.{dropCode, addedCode, startCode, valuesOf, wrapValuesOf}
 use Rattle.endpoint.specs.Config.{isSome, configOf, hasAddress, findPeer, binds, findBinding, fresh, startChecks, refusedStart, startOf, refusedAdd}
 use Rattle.endpoint.specs.Config.{addPeerChecks, withAddress, addPeerOf, isNetwork, addBindingChecks, withBinding, addBindingOf, mostBindings}
@@ -190,8 +192,8 @@ seenNumber e m x = valuesOf (stepped e m x .answer) .number
 
 spoken-number : (v : Verdict answers) (i n : ℕ) (frame : List ℕ) → valuesOf (frameAnswer answers v i n frame .reply) .number ≡ verdictNumber v
 unfolding verdictNumber
-spoken-number (bad d) i n frame = refl
-spoken-number (good t) i n frame = refl
+spoken-number (bad d) i n frame = ap (λ (a : Received). valuesOf a .number) (bad-reply answers d i n frame)
+spoken-number (good t) i n frame = ap (λ (a : Received). valuesOf a .number) (good-reply answers t i n frame)
 
 module _ (e : Endpoint) (m : List ℕ) (p : ℕ) (g : Seg) where
   -- what is made of a complete frame; its note says nothing in the base
@@ -201,10 +203,16 @@ module _ (e : Endpoint) (m : List ℕ) (p : ℕ) (g : Seg) where
   told-number : (o : Effect bytesOf) (x : Outcome) → valuesOf (takeAnswer answers (judgeOf (configOf e)) bytesOf p g o x .reply) .number
       ≡ takenNumber judged p g o x
   unfolding judged judgeOf
-  told-number o (O.Rejected r) = refl
-  told-number o O.Pending = refl
-  told-number o (O.Complete s) = spoken-number (judgeOf (configOf e) p (o .note) (frameIn bytesOf (o .mem) (slotNo p s) (g .frame-length))) _ _ _
-  told-number o O.NoMemory = refl
+  told-number o (O.Rejected r) =
+      ap (λ (a : Received). valuesOf a .number) (rejected-reply answers (judgeOf (configOf e)) bytesOf p g o r) ∙ sym (rejected-number judged p g o r)
+  told-number o O.Pending =
+      ap (λ (a : Received). valuesOf a .number) (pending-reply answers (judgeOf (configOf e)) bytesOf p g o) ∙ sym (pending-number judged p g o)
+  told-number o (O.Complete s) =
+      ap (λ (a : Answer answers). valuesOf (a .reply) .number) (complete-reply answers (judgeOf (configOf e)) bytesOf p g o s)
+      ∙ spoken-number (judgeOf (configOf e) p (o .note) (frameIn bytesOf (o .mem) (slotNo p s) (g .frame-length))) _ _ _
+      ∙ sym (complete-number judged p g o s)
+  told-number o O.NoMemory =
+      ap (λ (a : Received). valuesOf a .number) (no-memory-reply answers (judgeOf (configOf e)) bytesOf p g o) ∙ sym (no-memory-number judged p g o)
 
   segment-number : p < mostPeers → 55296 ≤ length m
       → seenNumber e m (segment p g) ≡ T.numbered (segmentRows p (rowAt e p) m g andThen judgeRows e p (completeFrame p (rowAt e p) m g))
@@ -327,7 +335,7 @@ module _ (e : Endpoint) (m k : List ℕ) where
     peer-number =
         rw (some-lowest (P.peers e) sends)
         (caseO (lowest sends (P.peers e)) (λ q. rw q) (λ p q.
-        let r : lowest sends (P.peers e) ≡ some peer = q ∙ ap some (sym (ap found q)) in
+        let r : lowest sends (P.peers e) ≡ some peer = found-is (lowest sends (P.peers e)) p q in
         let small : peer < mostPeers = omega (arith, lowest-some sends (P.peers e) peer r .below) in
         ap (λ (o : Option ℕ). seenNumber e m (byPeer (configOf e) header k o)) r
         ∙ payload-number bytes small enough

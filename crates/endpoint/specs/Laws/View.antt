@@ -13,6 +13,7 @@ use lib.Seq.{getD-take, getD-drop}
 use denote.Ref.{RefT}
 use Rattle.reassembly.specs.Laws.Base.{caseB}
 use Rattle.reassembly.specs.Receive.{partOfSlice}
+use Rattle.reassembly.specs.Laws.Answers.{part-fits, part-past, view-packet, view-memory}
 use Rattle.endpoint.specs.Answer.{placeOf}
 use Rattle.endpoint.specs.View.{partStart, Viewed, cutWithin, cutOf, Shows, ViewRule}
 use Rattle.endpoint.specs.declared.answer.Place as E
@@ -23,7 +24,7 @@ fits-shows : (packet s r : RefT (List ℕ)) (start len : ℕ) → start + len �
     → r .ptr ≡ partStart packet s start len → Shows s start len r
 fits-shows packet s r start len l bytes begins =
     let fits : leb (start + len) (length (s .now)) ≡ true = le-leb (start + len) (length (s .now)) l in
-    let is : r .now ≡ take len (drop start (s .now)) = rw fits at bytes in
+    let is : r .now ≡ take len (drop start (s .now)) = bytes ∙ part-fits (s .now) start len l in
     record {
       size = ap (λ (x : List ℕ). length x) is ∙ omega (arith, length-take len (drop start (s .now)), length-drop start (s .now));
       bytes = λ i h. ap (λ (x : List ℕ). getD x i 0) is ∙ getD-take len (drop start (s .now)) i 0 h ∙ getD-drop start (s .now) i 0;
@@ -35,7 +36,7 @@ past-shows : (packet s r : RefT (List ℕ)) (start len : ℕ) → length (s .now
 past-shows packet s r start len l bytes begins =
     let past : leb (start + len) (length (s .now)) ≡ false = lt-leb (start + len) (length (s .now)) l in
     record {
-      size = ap (λ (x : List ℕ). length x) (rw past at bytes);
+      size = ap (λ (x : List ℕ). length x) (bytes ∙ part-past (s .now) start len l);
       bytes = λ i h. absurd (omega arith);
       begins = (rw past at begins) ∙ ap (λ (n : ℕ). (packet .ptr .0, n)) (sym (add-zero (packet .ptr .1)));
     }
@@ -44,16 +45,16 @@ past-shows packet s r start len l bytes begins =
 
 module _ (packet memory : RefT (List ℕ)) (p : E.Place) (r : RefT (List ℕ)) (v : Viewed packet memory (placeOf p) r) where
   in-packet : p .«in_memory» ≡ false → p .start + p .length ≤ length (packet .now) → Shows packet (p .start) (p .length) r
-  in-packet e l = fits-shows packet packet r (p .start) (p .length) l (rw e at (v .bytes)) (rw e at (v .begins))
+  in-packet e l = fits-shows packet packet r (p .start) (p .length) l (v .bytes ∙ view-packet (packet .now) (memory .now) (placeOf p) e) (rw e at (v .begins))
 
   in-memory : p .«in_memory» ≡ true → p .start + p .length ≤ length (memory .now) → Shows memory (p .start) (p .length) r
-  in-memory e l = fits-shows packet memory r (p .start) (p .length) l (rw e at (v .bytes)) (rw e at (v .begins))
+  in-memory e l = fits-shows packet memory r (p .start) (p .length) l (v .bytes ∙ view-memory (packet .now) (memory .now) (placeOf p) e) (rw e at (v .begins))
 
   past-packet : p .«in_memory» ≡ false → length (packet .now) < p .start + p .length → Shows packet 0 0 r
-  past-packet e l = past-shows packet packet r (p .start) (p .length) l (rw e at (v .bytes)) (rw e at (v .begins))
+  past-packet e l = past-shows packet packet r (p .start) (p .length) l (v .bytes ∙ view-packet (packet .now) (memory .now) (placeOf p) e) (rw e at (v .begins))
 
   past-memory : p .«in_memory» ≡ true → length (memory .now) < p .start + p .length → Shows packet 0 0 r
-  past-memory e l = past-shows packet memory r (p .start) (p .length) l (rw e at (v .bytes)) (rw e at (v .begins))
+  past-memory e l = past-shows packet memory r (p .start) (p .length) l (v .bytes ∙ view-memory (packet .now) (memory .now) (placeOf p) e) (rw e at (v .begins))
 
   abbrev IsCut : E.Place → Type 0
   IsCut c = Shows (cond (c .«in_memory») memory packet) (c .start) (c .length) r × (c .start + c .length ≤ length (cond (c .«in_memory») memory packet .now))

@@ -15,7 +15,7 @@ use Rattle.reassembly.specs.Slots.{Peer, Note, noRow, emptyRows, mostPee
 use Rattle.reassembly.specs.Take.{slotNo, Seg}
 use Rattle.reassembly.specs.Store.{slotStart, bytesOf}
 use Rattle.reassembly.specs.Laws.Store.{take-in, bytes-laws}
-use Rattle.reassembly.specs.Receive.{Place, viewOf, Answers, Answer, Verdict, Reading, otherSender, direct, segment, Event, receive, tick}
+use Rattle.reassembly.specs.Receive.{Place, viewOf, Answers, Answer, Verdict, Reading, otherSender, direct, segment, Event, receive, tick, partOfSlice}
 use Rattle.reassembly.specs.Laws.Runs.{fill, State, react, after, run, mine, Listed, own, strike-ext, answers, answer1, Sim, event-sim, run-sim}
 use Rattle.reassembly.specs.SetUp.{Layers, isPeer, peerOf, Kept, Promised, Endpoint, World, added, setUp, Replied, receiveBy, receives, next, runs}
 use Rattle.reassembly.specs.SetUp.{answerOf, from, answersAt, answersOf}
@@ -147,6 +147,7 @@ module _ (W : Answers) (Config : Type 0) (U : Layers W Config) where
 
     back : (s : State bytesOf) (g : State ghost) (k : List ℕ) (x : Reading W) → Kept W x → Good s g
         → backOf k (receiveBy W Config U (at s) x) ≡ fill W k (react W judge bytesOf s x .answer)
+    unfolding partOfSlice viewOf
     back s g k (otherSender a) o h = rw o
     back s g k (direct q a) o h = rw (o .1)
     back s g k (segment q x) o h =

@@ -332,6 +332,7 @@ module _ (W : Answers) (header : List ℕ → Reading W) (judge : ℕ → Note �
 
     take-old : (row : List Slot) (m : ℕ → List Piece) → Seats p frames past (now ∷ fut) row m → 0 < segmentsOf f past
         → Step (placed ghost p row m (states fr j) (chosen row (states fr j)))
+    unfolding slotNo
     take-old row m h b =
         let o : Seat p frames past row m f = h .seat f lf b (rw (eq-eqb f f refl) (omega arith)) in
         let s : ℕ = o .at in
@@ -392,6 +393,7 @@ module _ (W : Answers) (header : List ℕ → Reading W) (judge : ℕ → Note �
           absurd (omega (arith, mix .four (reverse past) now fut (split-here past now fut is)))
 
       take-fresh : Step (placed ghost p row m (states fr j) (chosen row (states fr j)))
+      unfolding slotNo
       take-fresh =
           caseO (first isFree row)
           (λ n. absurd (not-full n))

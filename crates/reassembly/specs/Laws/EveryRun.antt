@@ -59,6 +59,7 @@ restarted-taken C c false s = refl
 module _ (p : ℕ) (row : Peer) (m : List ℕ) (g : Seg) where
   mem-old : (s : ℕ) (b : Bool) → chosen (row .slots) g ≡ old s → takeSegment bytesOf p row m g .outcome ≡ cond b (Complete s) Pending
       → takeSegment bytesOf p row m g .mem ≡ putAt m (slotNo p s) (g .offset) (g .bytes)
+  unfolding rejectionCode
   mem-old s b e o =
       let t : takeSegment bytesOf p row m g ≡ placed bytesOf p (row .slots) m g (old s) = take-by bytesOf p row m g (old s) e in
       caseB (overlaps bytesOf m (slotNo p s) g)
@@ -76,8 +77,8 @@ module _ (p : ℕ) (row : Peer) (m : List ℕ) (g : Seg) where
 
 -- byte i of the frame in a slot, where it lies
 pub frame-byte : (m : List ℕ) (p s n i : ℕ) → i < n → getD (frameIn bytesOf m (slotNo p s) n) i 0 ≡ getD m (frameAt p s + i) 0
-unfolding frameIn byteAt slotStart
-frame-byte m p s n i l = getD-table n (λ i. getD m (slotNo p s * 1728 + i) 0) 0 i l
+unfolding frameIn byteAt slotStart slotNo
+frame-byte m p s n i l = getD-table n (λ i. getD m ((slotNo p s) * 1728 + i) 0) 0 i l
 
 module _ (W : Answers) (Config : Type 0) (U : Layers W Config) where
   pub runs-snoc : (es : List Event) (w : World Config) (e : Event) → runs W Config U w (es ++ (e ∷ [])) ≡ next W Config U (runs W Config U w es) e
@@ -295,12 +296,15 @@ module _ (W : Answers) (Config : Type 0) (U : Layers W Config) (p : ℕ) (p< : p
 
       -- what each case tells
       o-15 : Fifteen before x → codeOf outcome ≡ 15
+      unfolding rejectionCode
       o-15 w = ap codeOf (same ∙ told-15 p (rowIn s) (g .mem) before lg st x f w)
 
       o-16 : Sixteen before x → codeOf outcome ≡ 16
+      unfolding rejectionCode
       o-16 w = ap codeOf (same ∙ told-16 p (rowIn s) (g .mem) before lg st x f w)
 
       o-17 : Seventeen before x → codeOf outcome ≡ 17
+      unfolding rejectionCode
       o-17 w = ap codeOf (same ∙ told-17 p (rowIn s) (g .mem) before lg st x f w)
 
       o-further : ((t : ℕ) × Further before x t) → codeOf outcome ≤ 1
@@ -331,6 +335,7 @@ module _ (W : Answers) (Config : Type 0) (U : Layers W Config) (p : ℕ) (p< : p
           (λ y. either y (λ w. absurd (omega (arith, o-further w))) (λ w. absurd (omega (arith, o-opens w))))))
 
       ruled-at : Ruled p x before behind outcome (s .mem) (receives W Config U (at s) k .world .mem)
+      unfolding rejectionCode
       ruled-at =
           record {
             fifteen = record { only = λ q. only-15 (ap codeOf q); all = λ w. same ∙ told-15 p (rowIn s) (g .mem) before lg st x f w };

@@ -14,11 +14,12 @@ use Rattle.reassembly.specs.Laws.TakeFacts.{take-complete}
 use Rattle.reassembly.specs.Laws.Sim.{RowOk, take-apart}
 use Rattle.reassembly.specs.Store.{slotStart, bytesOf}
 use Rattle.reassembly.specs.Laws.Store.{bytes-laws, handed, slot-inside}
-use Rattle.reassembly.specs.Receive.{Place, nowhere, viewOf, Answers, Answer, bare, Verdict, bad, good, frameAnswer, takeAnswer}
+use Rattle.reassembly.specs.Receive.{Place, nowhere, viewOf, Answers, Answer, bare, Verdict, bad, good, frameAnswer, takeAnswer, partOfSlice}
 use Rattle.reassembly.specs.Laws.Runs.{fill}
 
 -- the empty place gives nothing
 pub nowhere-back : (packet m : List ℕ) (a : Place) → a ≡ nowhere → viewOf packet m a ≡ []
+unfolding partOfSlice viewOf
 nowhere-back packet m a e = rw e (caseB (leb 0 (length packet)) (λ q. rw q) (λ q. rw q))
 
 module _ (W : Answers) (judge : ℕ → Note → List ℕ → Verdict W) where
@@ -31,12 +32,14 @@ module _ (W : Answers) (judge : ℕ → Note → List ℕ → Verdict W) where
 
   spoken-back : (v : Verdict W) (packet m : List ℕ) (k n : ℕ) → 18 ≤ n → slotStart k + n ≤ length m
       → Backs packet m (frameAnswer W v k n (frameIn bytesOf m k n))
+  unfolding frameAnswer partOfSlice viewOf
   spoken-back (bad b) packet m k n l f = bare-back packet m (W .refused b) (W .refused-place b)
   spoken-back (good v) packet m k n l f =
       record { is = rw (W .gives-place v (slotStart k + 18) (n - 18), le-leb (slotStart k + 18 + (n - 18)) (length m) (omega arith)) (sym (handed m k n l f)) }
 
   told-back : (p : ℕ) (packet : List ℕ) (g : Seg) (o : Effect bytesOf) (x : Outcome) → p < mostPeers → bytesOf .Ok (o .mem)
       → ((s : ℕ) → x ≡ Complete s → (s < mostSlots) × Fits g) → Backs packet (o .mem) (takeAnswer W judge bytesOf p g o x)
+  unfolding takeAnswer
   told-back p packet g o (Rejected r) lp ok f = bare-back packet (o .mem) (W .rejected r) (W .rejected-place r)
   told-back p packet g o Pending lp ok f = bare-back packet (o .mem) (W .pending) (W .pending-place)
   told-back p packet g o (Complete s) lp ok f =
@@ -54,6 +57,7 @@ module _ (W : Answers) (judge : ℕ → Note → List ℕ → Verdict W) where
 
   -- so what a run's answer has of the packet changes nothing of it
   pub backs-fill : (packet m : List ℕ) (a : Answer W) → Backs packet m a → fill W packet a ≡ a
+  unfolding viewOf
   backs-fill packet m a b = pick (W .place (a .reply) .inMemory) a _ _ (b .is)
     where
       pick : (b : Bool) (a : Answer W) (x y : List ℕ) → cond b x y ≡ a .bytes → cond b a (record { reply = a .reply; bytes = y }) ≡ a

@@ -173,6 +173,7 @@ module _ (p : ℕ) where
 
   placed-logs : (row : List Slot) (m : ℕ → List Piece) (L : Log) (g : Seg) (c : Choice) → Tells row g c → Logs p row m L
       → Logged g (placed ghost p row m g c) (entered L g c (placed ghost p row m g c .outcome))
+  unfolding slotNo
   placed-logs row m L g (reject r) q h = record { logs = h; pieced = λ t e. not-complete (Rejected r) t refl e }
   placed-logs row m L g (old s) q h =
       let ls : s < mostSlots = q .is-slot in

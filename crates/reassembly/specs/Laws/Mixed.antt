@@ -13,7 +13,7 @@ use Rattle.reassembly.specs.Slots.{Note, noRow, free, emptyRow, emptyRow
 use Rattle.reassembly.specs.Take.{slotNo, Ops, Effect, takeSegment}
 use Rattle.reassembly.specs.Store.{slotStart}
 use Rattle.reassembly.specs.Laws.Memory.{Laws}
-use Rattle.reassembly.specs.Receive.{Answers, Answer, Verdict, takeAnswer, Reading, otherSender, direct, segment, receive, tick}
+use Rattle.reassembly.specs.Receive.{Answers, Answer, Verdict, takeAnswer, Reading, otherSender, direct, segment, receive, tick, frameAnswer}
 use Rattle.reassembly.specs.Laws.Runs.{State, react, run, mine, Listed, own, run-sim, mine-sim, rows-older}
 use Rattle.reassembly.specs.SetUp.{keeps, strike}
 use Rattle.reassembly.specs.Laws.Ghost.{ghost, ghost-laws}
@@ -84,6 +84,7 @@ module _ (W : Answers) (header : List ℕ → Reading W) (judge : ℕ → Note �
       → Right W p (frameOf frames f) (cuts f lf′ .verdict) (segmentsOf f after′)
       (react W judge ghost (run W judge ghost header e (strike (own W header p) (map (event frames) before)))
       (header (partOf (frameOf frames f) j .packet)) .answer)
+  unfolding frameAnswer slotNo takeAnswer
   ghost-right [] past after′ f j lf′ e h =
       let s = step past after′ f j e h in
       let o : Effect ghost = takeSegment ghost p (getD (e .peers) p noRow) (e .mem) (states (frameOf frames f) j) in

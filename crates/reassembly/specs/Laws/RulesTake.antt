@@ -170,7 +170,7 @@ module _ (row : List Slot) (h : History) (st : Stand row h) where
 
 -- 14
 pub chosen-unfit : (row : List Slot) (g : Seg) → (Fits g → ⊥) → (r : Rejection) × ((chosen row g ≡ reject r) × (rejectionCode r ≡ 14))
-unfolding chosen
+unfolding chosen rejectionCode
 chosen-unfit row g n =
     caseB (eqb (length (g .bytes)) 0)
     (λ a. (Empty, (rw a, refl)))

@@ -41,7 +41,7 @@ bit-is m b i = refl
 module _ (p s : ℕ) (p< : p < mostPeers) (s< : s < mostSlots) (g : Seg) (f : Fits g) where
   -- a further segment of a frame pending
   pub touches-further : (m : List ℕ) → 55296 ≤ length m → Touches p s false g m (putAt m (slotNo p s) (g .offset) (g .bytes))
-  unfolding putAt slotStart mapStart
+  unfolding putAt slotStart mapStart slotNo
   touches-further m o =
       let k : ℕ = slotNo p s in
       let z : g .frame-length ≤ 1532 = f .most in
@@ -71,7 +71,7 @@ module _ (p s : ℕ) (p< : p < mostPeers) (s< : s < mostSlots) (g : Seg) (f : Fi
 
   -- the first segment of a new frame
   pub touches-opens : (m : List ℕ) → 55296 ≤ length m → Touches p s true g m (putAt (clearAt m (slotNo p s)) (slotNo p s) (g .offset) (g .bytes))
-  unfolding clearAt slotStart mapStart
+  unfolding clearAt slotStart mapStart slotNo
   touches-opens m o =
       let z : g .frame-length ≤ 1532 = f .most in
       let i₀ : g .offset + length (g .bytes) ≤ g .frame-length = f .inside in

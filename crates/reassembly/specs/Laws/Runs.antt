@@ -153,6 +153,7 @@ module _ (W : Answers) (judge : ℕ → Note → List ℕ → Verdict W) (A B : 
 
   told-same : (x : Effect A) (y : Effect B) (g : Seg) (o : Outcome) → x .outcome ≡ o → Alike A B p (g .frame-length) x y
       → takeAnswer W judge A p g x o ≡ takeAnswer W judge B p g y o
+  unfolding takeAnswer
   told-same x y g (Rejected r) q l = refl
   told-same x y g Pending q l = refl
   told-same x y g (Complete s) q l = rw (l .note, l .frame s q)
@@ -175,6 +176,7 @@ module _ (W : Answers) (judge : ℕ → Note → List ℕ → Verdict W) (A B : 
 
   -- another sender's packet: what the first one sees of it does not matter to the peer
   other-sim : (e : State A) (g : State B) (x : Reading W) → Listed W x → mine W p x ≡ false → Sim A B p e g → Sim A B p (react W judge A e x .state) g
+  unfolding slotNo
   other-sim e g (otherSender a) li m h = h
   other-sim e g (direct q a) li m h = h
   other-sim e g (segment q x) li m h =

@@ -1,16 +1,16 @@
 -- Laws of a search: what it finds is the lowest number that passes.
 -- Assumes nothing.
-use mathlib.Core.Path.{_≡_, refl, ap, _∙_}
+use mathlib.Core.Path.{_≡_, refl, sym, ap, _∙_}
 use mathlib.Core.Bool.{Bool, true, false}
 use mathlib.Core.Logic.{_≢_}
-use mathlib.Core.Option.{none, some}
+use mathlib.Core.Option.{Option, none, some}
 use Prim.Native.Nat.{ℕ, zero, suc, _+_, _<_, _≤_}
 use native.Mathlib.Omega.{arith}
 use lib.Dec.{eqb}
 use borrow.Author.Tests.{eqb-true, eqb-false}
 use Rattle.reassembly.specs.Laws.Base.{caseB, clash, someBelow-some, someBelow-none}
 use Rattle.reassembly.specs.Base.{someBelow}
-use Rattle.reassembly.specs.Search.{from, lowest, Lowest}
+use Rattle.reassembly.specs.Search.{from, lowest, Lowest, found}
 
 module _ (test : ℕ → Bool) where
   -- r is the lowest that passes among the k numbers from i on
@@ -96,3 +96,8 @@ module _ (test : ℕ → Bool) where
 
   pub found-none : (n : ℕ) → lowest test n ≡ none → someBelow n test ≡ false
   found-none n e = someBelow-none n test (lowest-none n e)
+
+-- what was found, where something was
+pub found-is : (o : Option ℕ) (i : ℕ) → o ≡ some i → o ≡ some (found o)
+unfolding found
+found-is o i q = q ∙ ap some (sym (ap found q))

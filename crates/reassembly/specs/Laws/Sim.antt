@@ -84,6 +84,7 @@ module _ (A B : Ops) (LA : Laws A) (LB : Laws B) (p : ℕ) (p< : p < mostPeers) 
   -- a put keeps the agreement at its own slot
   put-agree : (s n at : ℕ) (bs : List ℕ) (a : A .S) (b : B .S) → s < mostSlots → n ≤ 1532 → at + length bs ≤ n → A .Ok a → B .Ok b
       → Agree A B (slotNo p s) n a b → Agree A B (slotNo p s) n (A .put a (slotNo p s) at bs) (B .put b (slotNo p s) at bs)
+  unfolding slotNo
   put-agree s n at bs a b l nl f oa ob h =
       let k : ℕ = slotNo p s in
       let hA : (i : ℕ) → i < n
@@ -138,6 +139,7 @@ module _ (A B : Ops) (LA : Laws A) (LB : Laws B) (p : ℕ) (p< : p < mostPeers) 
       → ((j i : ℕ) → j ≢ slotNo p s → i < 1532 → B .received b′ j i ≡ B .received b j i)
       → ((j i : ℕ) → j ≢ slotNo p s → i < 1532 → B .byte b′ j i ≡ B .byte b j i)
       → Same A B p (set row s v) a′ b′
+  unfolding slotNo
   slot-same s row v a a′ b b′ l h vl oa ob ag ha ba hb bb =
       record {
         row-ok = row-set row s v l (h .row-ok) (λ e. vl);
@@ -159,6 +161,7 @@ module _ (A B : Ops) (LA : Laws A) (LB : Laws B) (p : ℕ) (p< : p < mostPeers) 
 
   placed-alike : (row : List Slot) (a : A .S) (b : B .S) (g : Seg) (c : Choice) → Tells row g c
       → Same A B p row a b → Alike A B p (g .frame-length) (placed A p row a g c) (placed B p row b g c)
+  unfolding slotNo
   placed-alike row a b g (reject r) q h = rejects-alike (g .frame-length) row a b (Rejected r) refl h
   placed-alike row a b g (old s) q h =
       let l : s < mostSlots = q .is-slot in
@@ -225,6 +228,7 @@ module _ (A : Ops) (LA : Laws A) (q : ℕ) (q< : q < mostPeers) where
 
   placed-apart : (row : List Slot) (a : A .S) (g : Seg) (c : Choice) → Tells row g c → RowOk row → A .Ok a
       → Apart a (placed A q row a g c .mem) × RowOk (placed A q row a g c .row .slots)
+  unfolding slotNo
   placed-apart row a g (reject n) e r o = (record { ok = o; received = λ j i n k. refl; byte = λ j i n k. refl }, r)
   placed-apart row a g (old s) e r o =
       let l : s < mostSlots = e .is-slot in

@@ -200,7 +200,7 @@ handed m k n l f =
 
 -- the slots of eight peers lie in a memory that is large enough
 pub slot-inside : (m : List ℕ) (p s n : ℕ) → 55296 ≤ length m → p < mostPeers → s < mostSlots → n ≤ 1728 → slotStart (slotNo p s) + n ≤ length m
-unfolding slotStart
+unfolding slotStart slotNo
 slot-inside m p s n o lp ls ln = omega arith
 
 -- ---- a part that is lent and comes back changed

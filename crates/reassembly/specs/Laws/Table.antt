@@ -15,11 +15,12 @@ use Rattle.wire.specs.Table.{_otherwise_}
 use Rattle.wire.specs.Laws.Table.{under, row4}
 use Rattle.reassembly.specs.Laws.Base.{caseB, caseO, clash, or-false-l, or-false-r, allBelow-ext, allBelow-at, allBelow-intro, table-ext, length-table}
 use Rattle.reassembly.specs.Base.{someBelow, allBelow, within}
-use Rattle.reassembly.specs.Search.{from, lowest, found}
-use Rattle.reassembly.specs.Laws.Search.{lowest-some, found-some, found-none}
+use Rattle.reassembly.specs.Search.{from, lowest}
+use Rattle.reassembly.specs.Laws.Search.{lowest-some, found-some, found-none, found-is}
 use Rattle.reassembly.specs.Slots.{Slot, Peer, Note, noNote, noteOf, free, first, bears, isFree, mostPeers, mostSlots}
 use Rattle.reassembly.specs.Laws.Slots.{first-some, first-none}
 use Rattle.reassembly.specs.Take.{Seg, Effect, Choice, reject, old, chosen, chooseNew, choose, slotNo, furtherSlot, openedSlot, noteAfter, overlaps}
+use Rattle.reassembly.specs.Take.{rejectionCode}
 use Rattle.reassembly.specs.Take.{frameIn, finish, placed, takeSegment}
 use Rattle.reassembly.specs.Take as K
 use Rattle.reassembly.specs.Store.{isOn, bitAt, slotStart, mapStart, clearAt, putAt, receivedAt, byteAt, bytesOf, takeIn}
@@ -103,7 +104,7 @@ module _ (f : List ℕ → ℕ) (p : ℕ) (row : Peer) (m : List ℕ) (g : Seg) 
       → K.complete bytesOf after (slotNo p s) frameLength ≡ complete
       → (complete ≡ true → frameIn bytesOf after (slotNo p s) frameLength ≡ completeFrame p row m g)
       → effectNumber (finish bytesOf p s row' after g note) ≡ last
-  unfolding effectNumber
+  unfolding effectNumber takenNumber
   finish-number s row' after note r h =
       caseB (K.complete bytesOf after (slotNo p s) frameLength)
       (λ c. let w : complete ≡ true = sym r ∙ c in rw (c, w) (ap f (h w)))
@@ -116,14 +117,14 @@ module _ (f : List ℕ → ℕ) (p : ℕ) (row : Peer) (m : List ℕ) (g : Seg) 
 
     module _ (way : pending ≡ true) (slot : at < mostSlots) where
       old-complete : K.complete bytesOf stored (slotNo p at) frameLength ≡ complete
-      unfolding K.complete receivedAt bitAt isOn mapStart within
+      unfolding K.complete receivedAt bitAt isOn mapStart within slotNo
       old-complete =
           allBelow-ext frameLength _ _ (λ i (l : i < frameLength).
           bytes-laws .received-put m (slotNo p at) (g .offset) (g .bytes) enough (omega arith) (omega arith) i (omega arith)
           ∙ ap (λ (b : Bool). carried i || b && received i) (sym way))
 
       old-frame : frameIn bytesOf stored (slotNo p at) frameLength ≡ completeFrame p row m g
-      unfolding frameIn byteAt slotStart within completeFrame
+      unfolding frameIn byteAt slotStart within completeFrame slotNo
       old-frame =
           table-ext frameLength _ _ (λ i (l : i < frameLength).
           bytes-laws .byte-put m (slotNo p at) (g .offset) (g .bytes) enough (omega arith) (omega arith) i (omega arith))
@@ -134,7 +135,7 @@ module _ (f : List ℕ → ℕ) (p : ℕ) (row : Peer) (m : List ℕ) (g : Seg) 
       opened = putAt (clearAt m (slotNo p s)) (slotNo p s) (g .offset) (g .bytes)
 
       new-complete : K.complete bytesOf opened (slotNo p s) frameLength ≡ complete
-      unfolding K.complete within
+      unfolding K.complete within slotNo
       new-complete =
           let κ : ℕ = slotNo p s in
           allBelow-ext frameLength _ _ (λ i (l : i < frameLength).
@@ -144,7 +145,7 @@ module _ (f : List ℕ → ℕ) (p : ℕ) (row : Peer) (m : List ℕ) (g : Seg) 
           ∙ ap (λ (b : Bool). carried i || b && received i) (sym way))
 
       new-frame : complete ≡ true → frameIn bytesOf opened (slotNo p s) frameLength ≡ completeFrame p row m g
-      unfolding frameIn within completeFrame
+      unfolding frameIn within completeFrame slotNo
       new-frame w =
           let κ : ℕ = slotNo p s in
           table-ext frameLength _ _ (λ i (l : i < frameLength).
@@ -171,7 +172,7 @@ module _ (f : List ℕ → ℕ) (p : ℕ) (row : Peer) (m : List ℕ) (g : Seg) 
         (λ h. h)
 
     new-number : pending ≡ false → placedNumber (chooseNew (first isFree slots)) ≡ pick full 17 last
-    unfolding placedNumber effectNumber
+    unfolding placedNumber effectNumber rejectionCode takenNumber
     new-number way =
         caseO (first isFree slots)
         (λ r. ap (λ (o : Option ℕ). placedNumber (chooseNew o)) r ∙ sym (ap (λ (b : Bool). pick b 17 last) (is-full r)))
@@ -182,12 +183,12 @@ module _ (f : List ℕ → ℕ) (p : ℕ) (row : Peer) (m : List ℕ) (g : Seg) 
         ∙ sym (ap (λ (b : Bool). pick b 17 last) (not-full s r)))
 
     same-overlap : overlaps bytesOf m (slotNo p at) g ≡ overlap
-    unfolding overlaps receivedAt bitAt isOn mapStart
+    unfolding overlaps receivedAt bitAt isOn mapStart slotNo
     same-overlap = refl
 
     old-number : pending ≡ true → at < mostSlots
         → placedNumber (choose slots g (some at)) ≡ pick (not (eqb (getD slots at free .«frame_length») frameLength)) 15 (pick overlap 16 last)
-    unfolding placedNumber effectNumber
+    unfolding placedNumber effectNumber slotNo takenNumber rejectionCode
     old-number way slot = by-length (eqb (getD slots at free .«frame_length») frameLength)
       where
         by-overlap : (b : Bool) → overlaps bytesOf m (slotNo p at) g ≡ b → placedNumber (old at) ≡ pick b 16 last
@@ -213,7 +214,7 @@ module _ (f : List ℕ → ℕ) (p : ℕ) (row : Peer) (m : List ℕ) (g : Seg) 
         (λ q. let way : pending ≡ false = found-none (T.pendingIn p row m g) mostSlots q in
         ap (λ (o : Option ℕ). placedNumber (choose slots g o)) (same ∙ q) ∙ new-number way ∙ sym (new-row pending _ _ full last way))
         (λ s q.
-        let r : lowest (T.pendingIn p row m g) mostSlots ≡ some at = q ∙ ap some (sym (ap found q)) in
+        let r : lowest (T.pendingIn p row m g) mostSlots ≡ some at = found-is (lowest (T.pendingIn p row m g) mostSlots) s q in
         let way : pending ≡ true = found-some (T.pendingIn p row m g) mostSlots s q in
         ap (λ (o : Option ℕ). placedNumber (choose slots g o)) (same ∙ r)
         ∙ old-number way (lowest-some (T.pendingIn p row m g) mostSlots at r .below)
@@ -221,7 +222,7 @@ module _ (f : List ℕ → ℕ) (p : ℕ) (row : Peer) (m : List ℕ) (g : Seg) 
 
   segment-number : p < mostPeers → 55296 ≤ length m → effectNumber (takeSegment bytesOf p row m g) ≡ (segmentRows p row m g otherwise f
       (completeFrame p row m g))
-  unfolding effectNumber placedNumber takeSegment segmentRows
+  unfolding effectNumber placedNumber takeSegment segmentRows rejectionCode takenNumber
   segment-number small enough =
       simp choices
       (chosen-is (λ (c : Choice). effectNumber (placed bytesOf p slots m g c)) slots g

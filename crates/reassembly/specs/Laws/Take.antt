@@ -107,31 +107,31 @@ module _ (row : List Slot) (g : Seg) where
 -- the part of the effect that the row's code gives
 finish-taken : (p s : ℕ) (row : List Slot) (m : List ℕ) (g : Seg) (note : Note)
     → takenOf (finish bytesOf p s row m g note) ≡ finished p s (record { slots = row }) m (g .frame-length)
-unfolding takenOf finished
+unfolding takenOf finished slotNo
 finish-taken p s row m g note = caseB (complete bytesOf m (slotNo p s) (g .frame-length)) (λ e. rw e) (λ e. rw e)
 
 module _ (p s : ℕ) (row : Peer) (m : List ℕ) where
   pub finish-complete : (n : ℕ) (x : Slot) (b : Bool) → b ≡ allBelow n (λ i. receivedAt m (slotNo p s) i) → b ≡ true → x ≡ free
       → _≡_ {A = Taken} (record { row = record { slots = set (row .slots) s x }; outcome = Complete s }) (finished p s row m n)
-  unfolding finished complete
+  unfolding finished complete slotNo
   finish-complete n x b e t f = rw (← e, t, f)
 
   pub finish-pending : (n : ℕ) (b : Bool) → b ≡ allBelow n (λ i. receivedAt m (slotNo p s) i) → b ≡ false
       → _≡_ {A = Taken} (record { row = row; outcome = Pending }) (finished p s row m n)
-  unfolding finished complete
+  unfolding finished complete slotNo
   finish-pending n b e t = rw (← e, t)
 
   pub further-refused : (g : Seg) (b : Bool) → b ≡ someBelow (length (g .bytes)) (λ i. receivedAt m (slotNo p s) (g .offset + i)) → b ≡ true
       → (_≡_ {A = Taken} (record { row = row; outcome = Rejected AlreadyReceived }) (takenOf (placed bytesOf p (row .slots) m g (old s))))
       × (m ≡ placed bytesOf p (row .slots) m g (old s) .mem)
-  unfolding takenOf overlaps
+  unfolding takenOf overlaps slotNo
   further-refused g b e t = (rw (← e, t), rw (← e, t))
 
   pub further-stored : (g : Seg) (b : Bool) (m₁ : List ℕ) (r : Taken) → Old (row .slots) g s
       → b ≡ someBelow (length (g .bytes)) (λ i. receivedAt m (slotNo p s) (g .offset + i)) → b ≡ false
       → m₁ ≡ putAt m (slotNo p s) (g .offset) (g .bytes) → r ≡ finished p s row m₁ (g .frame-length)
       → (r ≡ takenOf (placed bytesOf p (row .slots) m g (old s))) × (m₁ ≡ placed bytesOf p (row .slots) m g (old s) .mem)
-  unfolding overlaps
+  unfolding overlaps slotNo
   further-stored g b m₁ r w e t em er =
       let none-yet : overlaps bytesOf m (slotNo p s) g ≡ false = sym e ∙ t in
       let kept : set (row .slots) s (furtherSlot (getD (row .slots) s free) g) ≡ row .slots = further-row (row .slots) s g (w .pending) in (
@@ -143,6 +143,7 @@ module _ (p s : ℕ) (row : Peer) (m : List ℕ) where
       → m₁ ≡ clearAt m (slotNo p s) → m₂ ≡ putAt m₁ (slotNo p s) (g .offset) (g .bytes)
       → r ≡ finished p s (record { slots = set (row .slots) s (openedSlot g) }) m₂ (g .frame-length)
       → (r ≡ takenOf (placed bytesOf p (row .slots) m g (fresh s))) × (m₂ ≡ placed bytesOf p (row .slots) m g (fresh s) .mem)
+  unfolding slotNo
   open-stored g m₁ m₂ r e₁ e₂ er =
       let at : putAt (clearAt m (slotNo p s)) (slotNo p s) (g .offset) (g .bytes) ≡ m₂ = ap (λ (t : List ℕ). putAt t (slotNo p s) (g .offset) (g .bytes))
       (sym e₁)

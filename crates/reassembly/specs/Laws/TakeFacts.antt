@@ -184,6 +184,7 @@ module _ (O : Ops) where
 
 -- a rejection's number is one of 14 to 17
 pub rejection-codes : (r : Rejection) → (14 ≤ rejectionCode r) × (rejectionCode r ≤ 17)
+unfolding rejectionCode
 rejection-codes Empty = (omega arith, omega arith)
 rejection-codes FrameLength = (omega arith, omega arith)
 rejection-codes PastEnd = (omega arith, omega arith)

@@ -29,6 +29,7 @@ unfolding clearAt
 length-clear m k = length-sets m (mapStart k) (replicate 192 0)
 
 placed-length : (p : ℕ) (row : List Slot) (m : List ℕ) (g : Seg) (c : Choice) → length (placed bytesOf p row m g c .mem) ≡ length m
+unfolding slotNo
 placed-length p row m g (reject r) = refl
 placed-length p row m g (old s) =
     caseB (overlaps bytesOf m (slotNo p s) g)

@@ -13,9 +13,11 @@ use Rattle.reassembly.specs.Laws.Base.{caseB, below-two}
 use Rattle.reassembly.specs.Base.{someBelow, allBelow, table, within}
 use Rattle.reassembly.specs.Slots.{Note, noMark, older, olderRow, first, bears, isFree, mostPeers}
 use Rattle.reassembly.specs.Take.{Seg, Rejection, Empty, FrameLength, PastEnd, OtherLength, AlreadyReceived, NoSlot, rejectionCode, chosen, complete}
+use Rattle.reassembly.specs.Take.{slotNo}
 use Rattle.reassembly.specs.Take.{overlaps, frameIn, takeSegment}
 use Rattle.reassembly.specs.Store.{isOn, bitAt, setBit, setBits, slotStart, mapStart, clearAt, putAt, receivedAt, byteAt, bytesOf}
 use Rattle.reassembly.specs.Receive.{Place, nowhere, Answers, Answer, Verdict, good, bad, Reading, otherSender, segment, Event, receive, tick}
+use Rattle.reassembly.specs.Receive.{frameAnswer, takeAnswer}
 use Rattle.reassembly.specs.Laws.Runs.{answers}
 use Rattle.reassembly.specs.Laws.NonInterference.{start, ghostStart}
 use Rattle.reassembly.specs.Laws.Ghost.{ghost}
@@ -35,6 +37,7 @@ abbrev empty : ℕ → Toy
 empty n = record { code = n; tenant = 0; place = nowhere }
 
 rejected-not : (r : Rejection) → eqb (rejectionCode r) 0 ≡ false
+unfolding rejectionCode
 rejected-not Empty = refl
 rejected-not FrameLength = refl
 rejected-not PastEnd = refl
@@ -91,17 +94,17 @@ abbrev codes : List Event → List ℕ
 codes es = map (λ (a : Answer toyAnswers). a .reply .code) (answers toyAnswers toy 2 toyJudge ghost ghostStart es)
 
 case9 : codes (seg 1 40 0 8 ∷ seg 2 40 0 8 ∷ seg 3 40 0 8 ∷ seg 4 40 0 8 ∷ seg 5 32 0 32 ∷ seg 3 40 8 32 ∷ seg 5 32 0 32 ∷ []) ≡ 1 ∷ 1 ∷ 1 ∷ 1 ∷ 17 ∷ 0 ∷ 0 ∷ []
-unfolding takeSegment chosen first bears isFree complete overlaps frameIn allBelow someBelow table within
+unfolding takeSegment chosen first bears isFree complete overlaps frameIn allBelow someBelow table within frameAnswer rejectionCode slotNo takeAnswer
 case9 = refl
 
 case10 : codes (seg 1 40 0 8 ∷ tick ∷ tick ∷ tick ∷ seg 1 40 8 32 ∷ seg 1 40 0 8 ∷ tick ∷ tick ∷ tick ∷ tick ∷ seg 1 40 8 32 ∷ []) ≡ 1 ∷ 0 ∷ 1 ∷ 1 ∷ []
-unfolding takeSegment chosen first bears isFree complete overlaps frameIn allBelow someBelow table within older olderRow
+unfolding takeSegment chosen first bears isFree complete overlaps frameIn allBelow someBelow table within older olderRow frameAnswer slotNo takeAnswer
 case10 = refl
 
 -- another length, a byte already received, past the end, too short, empty; then a bad frame, whose slot is free again
 rejections : codes (seg 1 40 0 8 ∷ seg 1 41 8 8 ∷ seg 1 40 7 8 ∷ seg 1 40 8 33 ∷ seg 1 31 0 8 ∷ seg 1 40 8 0 ∷ seg 9 32 0 32 ∷ seg 9 33 0 8 ∷ []) ≡ 1 ∷ 15 ∷ 16
     ∷ 14 ∷ 14 ∷ 14 ∷ 13 ∷ 1 ∷ []
-unfolding takeSegment chosen first bears isFree complete overlaps frameIn allBelow someBelow table within
+unfolding takeSegment chosen first bears isFree complete overlaps frameIn allBelow someBelow table within frameAnswer rejectionCode slotNo takeAnswer
 rejections = refl
 
 -- over bytes, in the memory of peer 0's first slot only, full of ones at first
@@ -110,7 +113,7 @@ seg0 id size at n = receive (0 ∷ id ∷ size ∷ at ∷ replicate n (id + at))
 
 bytes10 : map (λ (a : Answer toyAnswers). a .reply .code) (answers toyAnswers toy 0 toyJudge bytesOf (start bytesOf (replicate 1728 255))
     (seg0 1 32 0 8 ∷ tick ∷ seg0 1 32 8 24 ∷ seg0 1 32 0 8 ∷ [])) ≡ 1 ∷ 0 ∷ 1 ∷ []
-unfolding takeSegment chosen first bears isFree complete overlaps frameIn allBelow someBelow table isOn bitAt setBit setBits slotStart mapStart clearAt putAt
+unfolding takeSegment chosen first bears isFree complete overlaps frameIn allBelow someBelow table isOn bitAt setBit setBits slotStart mapStart clearAt putAt frameAnswer slotNo takeAnswer
     receivedAt byteAt older olderRow
 bytes10 = refl
 

@@ -46,7 +46,7 @@ returns-5 : tie.Need-returns-5
 returns-5 c = search needs
 
 returns-6 : tie.Need-returns-6
-returns-6 c = search needs
+returns-6 c = c .rejection-code .ensures ∙ sym (ap dropCode (c .before .before .d2 .given .1))
 
 pub drop-code-spec : {M : Type 1} → statement M
 drop-code-spec =

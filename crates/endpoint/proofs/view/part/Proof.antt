@@ -7,6 +7,7 @@ use native.Mathlib.Omega.{arith}
 use borrow.Author.Tests.{lt-leb, le-leb}
 use lib.ListN.{length}
 use borrow.Author.Needs.{needs}
+use Rattle.reassembly.specs.Laws.Answers.{part-fits, part-past}
 use Rattle.endpoint.proofs.view.part.Statement.{statement}
 use Rattle.endpoint.proofs.view.part.Tie as tie
 
@@ -17,7 +18,7 @@ returns : tie.Need-returns
 returns c =
     let a = c .before .before .args in
     let past : length (a .s .now) < a .start + a .length = omega arith in
-    record { bytes = simp (lt-leb _ _ past); begins = simp (lt-leb _ _ past) }
+    record { bytes = simp (part-past (a .s .now) (a .start) (a .length) past); begins = simp (lt-leb _ _ past) }
 
 sub-if2 : tie.Need-sub-if2
 sub-if2 c = search needs
@@ -29,7 +30,7 @@ returns-2 : tie.Need-returns-2
 returns-2 c =
     let a = c .before .before .before .args in
     let past : length (a .s .now) < a .start + a .length = omega arith in
-    record { bytes = simp (lt-leb _ _ past); begins = simp (lt-leb _ _ past) }
+    record { bytes = simp (part-past (a .s .now) (a .start) (a .length) past); begins = simp (lt-leb _ _ past) }
 
 add-result : tie.Need-add-result
 add-result c = search needs
@@ -48,7 +49,7 @@ returns-3 c =
     let a = c .before .before .before .args in
     let fits : a .start + a .length ≤ length (a .s .now) = omega arith in
     let n : a .start + a .length - a .start ≡ a .length = omega arith in
-    record { bytes = simp (le-leb _ _ fits, n); begins = simp (le-leb _ _ fits) (ap (λ (o : ℕ). (a .s .ptr .0, o)) (add-comm (a .start) (a .s .ptr .1))) }
+    record { bytes = simp (part-fits (a .s .now) (a .start) (a .length) fits, n); begins = simp (le-leb _ _ fits) (ap (λ (o : ℕ). (a .s .ptr .0, o)) (add-comm (a .start) (a .s .ptr .1))) }
 
 pub part-spec : {M : Type 1} → statement M
 part-spec =

@@ -1,5 +1,6 @@
 -- `reassembly::take::finish` meets its contract.
 -- Assumes nothing.
+use Rattle.reassembly.specs.Take.{slotNo}
 use Rattle.reassembly.specs.Laws.Take.{finish-complete, finish-pending}
 use borrow.Author.Needs.{needs}
 use Rattle.reassembly.proofs.take.finish.Statement.{statement}
@@ -24,12 +25,14 @@ element-set-from-next : tie.Need-element-set-from-next
 element-set-from-next c = search needs
 
 returns : tie.Need-returns
+unfolding slotNo
 returns c =
     let a = c .before .before .before .before .args in
     finish-complete (a .peer) (a .s) (a .row) (a .memory .now) (a .size) (c .free-slot .result) (c .before .before .all-received .result)
     (c .before .before .all-received .ensures) (c .before .if1 .taken) (c .free-slot .ensures)
 
 returns-2 : tie.Need-returns-2
+unfolding slotNo
 returns-2 c =
     let a = c .before .before .before .args in
     finish-pending (a .peer) (a .s) (a .row) (a .memory .now) (a .size) (c .before .all-received .result) (c .before .all-received .ensures) (c .if1 .left)

@@ -1,5 +1,6 @@
 -- `reassembly::take::further` meets its contract.
 -- Assumes nothing.
+use Rattle.reassembly.specs.Take.{slotNo}
 use Rattle.reassembly.specs.Take.{segOf}
 use Rattle.reassembly.specs.Laws.Take.{further-refused, further-stored}
 use borrow.Author.Needs.{needs}
@@ -22,6 +23,7 @@ same-length : tie.Need-same-length
 same-length c = search needs
 
 returns : tie.Need-returns
+unfolding slotNo
 returns c =
     let a = c .before .before .before .before .before .before .args in
     further-refused (a .peer) (a .s) (a .row) (a .memory .now) (segOf (a .segment) (a .bytes .now)) (c .before .some-received .result)
@@ -37,6 +39,7 @@ same-length-2 : tie.Need-same-length-2
 same-length-2 c = search needs
 
 returns-2 : tie.Need-returns-2
+unfolding slotNo
 returns-2 c =
     let start = c .before .before .before .before .before .before .before .before .before .before .before .before in
     let a = start .args in

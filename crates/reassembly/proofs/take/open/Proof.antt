@@ -1,5 +1,6 @@
 -- `reassembly::take::open` meets its contract.
 -- Assumes nothing.
+use Rattle.reassembly.specs.Take.{slotNo}
 use Rattle.reassembly.specs.Take.{segOf}
 use Rattle.reassembly.specs.Laws.Take.{open-stored}
 use borrow.Author.Needs.{needs}
@@ -34,6 +35,7 @@ same-length : tie.Need-same-length
 same-length c = search needs
 
 returns : tie.Need-returns
+unfolding slotNo
 returns c =
     let a = c .before .before .before .before .before .before .before .before .before .before .before .before .before .args in
     let cleared = c .before .before .before .before .before .before .before .before .clear in
