@@ -1,20 +1,56 @@
 // Writes what the readers of `wire` make of some packets, a line for each.
 use program::print::address;
+use program::print::answer;
 use program::print::decimal;
 use program::print::text;
 use wire::carriage::Carried;
+use wire::carriage::Tunnel;
 use wire::frame::FrameRead;
 use wire::ipv4::Ipv4Read;
 use wire::refusal::Refusal;
+use wire::segment::Segment;
 ghost use Prim.Native.Nat.{_+_, _<_};
 ghost use lib.ListN.{length};
 
+// The port on which STT is expected.
+const STT_PORT: u16 = 7471;
+
+// A refusal's number and its text.
 fn refused(r: Refusal) {
-    text(b"refused, answer ");
-    decimal(wire::refusal::code(r) as u64);
+    let code = wire::refusal::code(r);
+    text(b"refused with ");
+    decimal(code as u64);
+    text(b", ");
+    answer(code);
     text(b"\n");
 }
 
+// The addresses of an outer packet.
+fn endpoints(source: u32, destination: u32) {
+    address(source);
+    text(b" to ");
+    address(destination);
+    text(b", ");
+}
+
+fn segment(g: Segment) {
+    text(b"STT segment of frame ");
+    decimal(g.identifier as u64);
+    text(b", bytes from ");
+    decimal(g.offset as u64);
+    text(b" of ");
+    decimal(g.frame_length as u64);
+    text(b"\n");
+}
+
+fn tunnel(t: Tunnel) {
+    text(b"kind ");
+    decimal(t.kind as u64);
+    text(b", network ");
+    decimal(t.network as u64);
+}
+
+// The frame that a packet has from `at` on, and whether it keeps the inner frame's rule.
 fn inner(at: usize, frame: &[u8]) {
     text(b", frame of ");
     decimal(frame.len() as u64);
@@ -30,32 +66,24 @@ fn inner(at: usize, frame: &[u8]) {
     }
 }
 
+// What the IPv4 header's protocol carries. The payload `s` begins at `at` of the packet, so the sum of both, which a frame's place is taken from, is no
+// longer than a slice can be.
 fn payload(protocol: u8, source: u32, destination: u32, at: usize, s: &[u8])
     requires { ⌜ at + length (now s) < 18446744073709551616 ⌝ }
 {
-    let carried = wire::carriage::read(protocol, source, destination, 7471, s);
+    let carried = wire::carriage::read(protocol, source, destination, STT_PORT, s);
     match carried {
         Carried::Refused(r) => refused(r),
-        Carried::Segment(g) => {
-            text(b"STT segment of frame ");
-            decimal(g.identifier as u64);
-            text(b", bytes from ");
-            decimal(g.offset as u64);
-            text(b" of ");
-            decimal(g.frame_length as u64);
-            text(b"\n");
-        }
+        Carried::Segment(g) => segment(g),
         Carried::Tunnel(t) => {
-            text(b"kind ");
-            decimal(t.kind as u64);
-            text(b", network ");
-            decimal(t.network as u64);
+            tunnel(t);
             let start = t.start;
             inner(at + start, &s[start..]);
         }
     }
 }
 
+// Reads a packet from the outside in.
 fn show(name: &[u8], packet: &[u8]) {
     text(name);
     text(b": ");
@@ -63,10 +91,7 @@ fn show(name: &[u8], packet: &[u8]) {
     match read {
         Ipv4Read::Refused(r) => refused(r),
         Ipv4Read::Packet(h) => {
-            address(h.source);
-            text(b" to ");
-            address(h.destination);
-            text(b", ");
+            endpoints(h.source, h.destination);
             let start = h.start;
             let end = h.end;
             payload(

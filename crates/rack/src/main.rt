@@ -1,31 +1,46 @@
 // A demonstration: one endpoint with two peers, a network of each kind, and what becomes of seven packets. The boards behind the tenants are clones: all
 // three frames have the same addresses, and each goes to its own tenant.
-mod say;
+mod report;
 
 use endpoint::config;
 use endpoint::config::Endpoint;
+use endpoint::number::NVGRE;
+use endpoint::number::STT;
+use endpoint::number::VXLAN;
 use program::print;
 use program::print::decimal;
 use program::print::text;
+use reassembly::number::MEMORY_BYTES;
 
-// Lists a peer.
+// Our address and the peers': 10.0.0.1, 10.0.0.2 and 10.0.0.3.
+const OWN: u32 = 0x0a000001;
+
+const PEER_0: u32 = 0x0a000002;
+
+const PEER_1: u32 = 0x0a000003;
+
+const STT_PORT: u32 = 7471;
+
+const MTU: u32 = 1500;
+
+// Lists a peer and reports its number.
 fn with_peer(e: Endpoint, address: u32) -> Endpoint {
     let made = config::add_peer(e, address);
     let answer = made.answer;
     text(b"peer ");
-    say::added(answer);
+    report::added(answer);
     print::address(address);
     text(b"\n");
     made.endpoint
 }
 
-// Binds a network of a peer to a tenant.
+// Binds a network of a peer to a tenant and reports the binding's number.
 fn with_binding(e: Endpoint, peer: u32, kind: u32, network: u64, tenant: u32) -> Endpoint {
     let made = config::add_binding(e, peer, kind, network, tenant);
     let answer = made.answer;
     text(b"binding ");
-    say::added(answer);
-    say::kind(kind);
+    report::added(answer);
+    report::kind(kind);
     text(b" network ");
     decimal(network);
     text(b" of peer ");
@@ -36,28 +51,28 @@ fn with_binding(e: Endpoint, peer: u32, kind: u32, network: u64, tenant: u32) ->
     made.endpoint
 }
 
-// We are 10.0.0.1. STT is expected on port 7471.
+// Two peers. Peer 0 has a VXLAN and an STT network, peer 1 an NVGRE network, and each of the three is one tenant's.
 fn set_up() -> Endpoint {
-    let started = config::start(167772161, 7471, 1500);
+    let started = config::start(OWN, STT_PORT, MTU);
     let fresh = started.endpoint;
-    let one = with_peer(fresh, 167772162);
-    let two = with_peer(one, 167772163);
-    let vxlan = with_binding(two, 0, 1, 22, 7);
-    let nvgre = with_binding(vxlan, 1, 2, 4096, 8);
-    with_binding(nvgre, 0, 3, 7, 9)
+    let one = with_peer(fresh, PEER_0);
+    let two = with_peer(one, PEER_1);
+    let vxlan = with_binding(two, 0, VXLAN, 22, 7);
+    let nvgre = with_binding(vxlan, 1, NVGRE, 4096, 8);
+    with_binding(nvgre, 0, STT, 7, 9)
 }
 
-// Receives a packet and says what became of it.
+// Receives a packet and reports what became of it.
 fn show(e: Endpoint, name: &[u8], packet: &[u8], memory: &mut [u8]) -> Endpoint {
     let receipt = endpoint::receive::receive(e, packet, memory);
     let answer = receipt.answer;
     text(name);
     text(b": ");
-    say::received(answer, packet, memory);
+    report::received(answer, packet, memory);
     receipt.endpoint
 }
 
-// Two frames in a packet each.
+// Two frames, each whole in one packet.
 fn whole_frames(e: Endpoint, memory: &mut [u8]) -> Endpoint {
     let first = show(
         e,
@@ -131,8 +146,12 @@ fn dropped(e: Endpoint, memory: &mut [u8]) -> Endpoint {
 }
 
 fn main() {
-    let mut memory = [0u8; 55296];
-    text(b"endpoint 10.0.0.1, STT on port 7471\n");
+    let mut memory = [0u8; MEMORY_BYTES];
+    text(b"endpoint ");
+    print::address(OWN);
+    text(b", STT on port ");
+    decimal(STT_PORT as u64);
+    text(b"\n");
     let ready = set_up();
     let first = whole_frames(ready, &mut memory);
     let second = in_segments(first, &mut memory);

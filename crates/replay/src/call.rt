@@ -2,10 +2,18 @@
 use crate::line;
 use crate::number;
 use crate::record;
+use crate::record::PAYLOAD_MOST;
 use endpoint::answer::Place;
 use endpoint::config;
 use endpoint::config::Endpoint;
+use program::number::fill;
 use program::print::text;
+
+// What every byte of an output is before a wrap.
+const UNWRITTEN: u8 = 0xAA;
+
+// The bytes in front of the frame in a wrap's payload: binding, segment, identifier and the output's length.
+const WRAP_NUMBERS: usize = 12;
 
 // The endpoint, how many bytes of the memory are lent, and the last packet's length. `done`: nothing more is to be read.
 pub(crate) struct State {
@@ -55,7 +63,7 @@ fn start(state: State, f: &[u8]) -> State {
     with(state, e)
 }
 
-fn peer(state: State, f: &[u8]) -> State {
+fn add_peer(state: State, f: &[u8]) -> State {
     let address = number::low32(number::at(f, 0, 4));
     let made = config::add_peer(state.endpoint, address);
     let answer = made.answer;
@@ -64,7 +72,7 @@ fn peer(state: State, f: &[u8]) -> State {
     with(state, e)
 }
 
-fn binding(state: State, f: &[u8]) -> State {
+fn add_binding(state: State, f: &[u8]) -> State {
     let owner = number::low32(number::at(f, 0, 2));
     let kind = number::low32(number::at(f, 2, 3));
     let network = number::at(f, 3, 11);
@@ -77,7 +85,7 @@ fn binding(state: State, f: &[u8]) -> State {
 }
 
 fn lend_all(memory: &mut [u8], seed: u64) {
-    number::fill(memory, seed);
+    fill(memory, seed);
     line::lent(memory);
 }
 
@@ -150,19 +158,19 @@ pub(crate) fn receive(state: State, length: usize, packet: &mut [u8], memory: &m
     next
 }
 
-// The frame stands behind 12 bytes of numbers.
+// The frame stands behind the numbers.
 fn wrap_in(state: State, length: usize, f: &[u8], output: &mut [u8]) -> State {
-    if length < 12 {
+    if length < WRAP_NUMBERS {
         return broken(state);
     }
     if f.len() < length {
         return broken(state);
     }
-    number::fill_same(output, 170);
+    number::fill_same(output, UNWRITTEN);
     let binding = number::low32(number::at(f, 0, 2));
     let segment = number::low32(number::at(f, 2, 6));
     let identifier = number::low32(number::at(f, 6, 10));
-    let frame = &f[12..length];
+    let frame = &f[WRAP_NUMBERS..length];
     let answer = endpoint::wrap::wrap(state.endpoint, binding, frame, segment, identifier, output);
     line::wrapped(answer, output);
     state
@@ -181,20 +189,20 @@ fn wrap_read(state: State, length: usize, payload: &mut [u8], output: &mut [u8])
 
 // It is read to a place of its own: the last packet stays, for the views after it.
 pub(crate) fn wrap(state: State, length: usize) -> State {
-    let mut payload = [0u8; 2000];
-    let mut output = [0u8; 2000];
+    let mut payload = [0u8; PAYLOAD_MOST];
+    let mut output = [0u8; PAYLOAD_MOST];
     wrap_read(state, length, &mut payload, &mut output)
 }
 
 // Every call but a receive and a wrap.
 pub(crate) fn other(state: State, op: u8, f: &[u8], packet: &mut [u8], memory: &mut [u8]) -> State {
     match op {
-        1 => start(state, f),
-        2 => peer(state, f),
-        3 => binding(state, f),
-        4 => lend(state, f, memory),
-        6 => tick(state),
-        7 => view(state, f, packet, memory),
+        record::START => start(state, f),
+        record::ADD_PEER => add_peer(state, f),
+        record::ADD_BINDING => add_binding(state, f),
+        record::LEND => lend(state, f, memory),
+        record::TICK => tick(state),
+        record::VIEW => view(state, f, packet, memory),
         _ => broken(state),
     }
 }

@@ -1,4 +1,4 @@
-// The lines of the answers.
+// The lines of the answers (host/README.md, "The files").
 use endpoint::answer::Added;
 use endpoint::answer::Place;
 use endpoint::answer::Received;
@@ -87,30 +87,43 @@ where
     text(b"\n");
 }
 
-fn fits(size: usize, start: usize, length: usize) -> bool {
-    if size < length {
+fn same_place(a: Place, b: Place) -> bool {
+    if a.in_memory != b.in_memory {
         return false;
     }
-    start <= size - length
+    if a.start != b.start {
+        return false;
+    }
+    a.length == b.length
 }
 
-// Where the part lies cannot be told from the part itself here. `view` promises it; the line says what document 01 asks for.
+// Where the library cuts for a place: there, or, if it does not fit, the empty part at the packet's start. No good line has the third.
+fn cut_for(place: Place, cut: Place) {
+    let nothing = Place {
+        start: 0,
+        length: 0,
+        in_memory: false,
+    };
+    if same_place(cut, place) {
+        decimal(cut.start as u64);
+        return;
+    }
+    if same_place(cut, nothing) {
+        text(b"-");
+        return;
+    }
+    text(b"elsewhere");
+}
+
+// A slice does not tell where it lies, so the start is what the library's `cut` says of the same place. Length and hash are the slice's own.
 pub(crate) fn viewed<'p, 'm>(place: Place, packet: &'p [u8], memory: &'m [u8])
 where
     'p: 'm,
 {
     let part = endpoint::view::view(packet, memory, place);
-    let size = if place.in_memory {
-        memory.len()
-    } else {
-        packet.len()
-    };
+    let cut = endpoint::view::cut(packet.len(), memory.len(), place);
     text(b"view ");
-    if fits(size, place.start, place.length) {
-        decimal(place.start as u64);
-    } else {
-        text(b"-");
-    }
+    cut_for(place, cut);
     text(b" ");
     decimal(part.len() as u64);
     text(b" ");

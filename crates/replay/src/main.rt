@@ -6,9 +6,12 @@ mod number;
 mod record;
 
 use call::State;
+use record::FIELDS_MOST;
 use record::Head;
+use record::LENT_MOST;
+use record::PAYLOAD_MOST;
 
-// Makes the call of one record. A packet stays where it was read, for the views after it; other payloads have at most 17 bytes.
+// Makes the call of one record. A packet stays where it was read, for the views after it; other calls have short payloads of fields.
 fn turn(state: State, memory: &mut [u8], packet: &mut [u8]) -> State {
     let mut head = [0u8; 3];
     let read = record::read_head(&mut head);
@@ -16,13 +19,13 @@ fn turn(state: State, memory: &mut [u8], packet: &mut [u8]) -> State {
         Head::End => call::ended(state),
         Head::Broken => call::broken(state),
         Head::Record(op, length) => {
-            if op == 5 {
+            if op == record::RECEIVE {
                 return call::receive(state, length, packet, memory);
             }
-            if op == 8 {
+            if op == record::WRAP {
                 return call::wrap(state, length);
             }
-            let mut fields = [0u8; 17];
+            let mut fields = [0u8; FIELDS_MOST];
             if !record::read_fields(op, length, &mut fields) {
                 return call::broken(state);
             }
@@ -44,9 +47,8 @@ fn run(memory: &mut [u8], packet: &mut [u8]) {
     }
 }
 
-// A record lends at most 60,000 bytes, and has at most 2,000.
 fn main() {
-    let mut memory = [0u8; 60000];
-    let mut packet = [0u8; 2000];
+    let mut memory = [0u8; LENT_MOST];
+    let mut packet = [0u8; PAYLOAD_MOST];
     run(&mut memory, &mut packet);
 }

@@ -1,7 +1,33 @@
-// The form of a record: op (1 byte), length (2 bytes), then that many bytes.
+// The form of a record: op (1 byte), length (2 bytes), then that many bytes. host/README.md has it.
 use crate::number;
 use program::number::low8;
 
+// The calls by their op.
+pub(crate) const START: u8 = 1;
+
+pub(crate) const ADD_PEER: u8 = 2;
+
+pub(crate) const ADD_BINDING: u8 = 3;
+
+pub(crate) const LEND: u8 = 4;
+
+pub(crate) const RECEIVE: u8 = 5;
+
+pub(crate) const TICK: u8 = 6;
+
+pub(crate) const VIEW: u8 = 7;
+
+pub(crate) const WRAP: u8 = 8;
+
+// The longest payload, and the longest one that is neither a packet nor a frame.
+pub(crate) const PAYLOAD_MOST: usize = 2000;
+
+pub(crate) const FIELDS_MOST: usize = 17;
+
+// The most memory that a record lends.
+pub(crate) const LENT_MOST: usize = 60000;
+
+// What the next record is, if there is one.
 pub(crate) enum Head {
     Record(u8, usize),
     End,
@@ -21,22 +47,22 @@ pub(crate) fn read_head(bytes: &mut [u8]) -> Head {
     Head::Record(low8(op), number::low16(length) as usize)
 }
 
-// The length of a payload that is no packet.
-fn size(op: u8) -> usize {
+// The length of a payload that is neither a packet nor a frame. An op that has none gives one that no record tells.
+fn fields_length(op: u8) -> usize {
     match op {
-        1 => 8,
-        2 => 4,
-        3 => 13,
-        4 => 8,
-        6 => 0,
-        7 => 17,
+        START => 8,
+        ADD_PEER => 4,
+        ADD_BINDING => 13,
+        LEND => 8,
+        TICK => 0,
+        VIEW => FIELDS_MOST,
         _ => 65536,
     }
 }
 
-// Reads the payload of a record that is no packet; false where it has not the form.
+// Reads a payload of fields; false where its length is not the op's, or the input ends.
 pub(crate) fn read_fields(op: u8, length: usize, out: &mut [u8]) -> bool {
-    if length != size(op) {
+    if length != fields_length(op) {
         return false;
     }
     if out.len() < length {

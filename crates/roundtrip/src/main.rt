@@ -6,19 +6,40 @@ mod tally;
 
 use endpoint::config;
 use endpoint::config::Endpoint;
+use endpoint::number::MTU_LEAST;
+use endpoint::number::MTU_MOST;
+use endpoint::number::NVGRE;
+use endpoint::number::STT;
+use endpoint::number::VXLAN;
+use reassembly::number::MEMORY_BYTES;
 use tally::Tally;
 
-// An endpoint at `own` with one peer, bound to VXLAN 22, NVGRE 4,096 and STT 77.
+const STT_PORT: u32 = 7471;
+
+// The two endpoints, 10.0.0.1 and 10.0.0.2.
+const SENDER: u32 = 0x0a000001;
+
+const RECEIVER: u32 = 0x0a000002;
+
+// The smallest and the largest frame.
+const FRAME_LEAST: usize = 14;
+
+const FRAME_MOST: usize = 1514;
+
+// The bytes of the largest packet.
+const PACKET_MOST: usize = MTU_MOST as usize;
+
+// An endpoint at `own` with one peer, whose networks VXLAN 22, NVGRE 4,096 and STT 77 are bindings 0, 1 and 2.
 fn set_up(own: u32, peer: u32, mtu: u32) -> Endpoint {
-    let started = config::start(own, 7471, mtu);
+    let started = config::start(own, STT_PORT, mtu);
     let with_peer = config::add_peer(started.endpoint, peer);
-    let vxlan = config::add_binding(with_peer.endpoint, 0, 1, 22, 7);
-    let nvgre = config::add_binding(vxlan.endpoint, 0, 2, 4096, 8);
-    let stt = config::add_binding(nvgre.endpoint, 0, 3, 77, 9);
+    let vxlan = config::add_binding(with_peer.endpoint, 0, VXLAN, 22, 7);
+    let nvgre = config::add_binding(vxlan.endpoint, 0, NVGRE, 4096, 8);
+    let stt = config::add_binding(nvgre.endpoint, 0, STT, 77, 9);
     stt.endpoint
 }
 
-// One frame, given by its segments from number `size` on, around, forwards or backwards.
+// Wraps one frame and has it received, its segments in the order that `turned` gives.
 fn carry(
     t: Tally,
     sender: Endpoint,
@@ -39,6 +60,7 @@ fn carry(
     next
 }
 
+// Fills a frame of this size and carries it.
 fn one_size(
     t: Tally,
     sender: Endpoint,
@@ -47,16 +69,16 @@ fn one_size(
     out: &mut [u8],
     memory: &mut [u8],
 ) -> Tally {
-    let size = frame.len();
-    number::fill(frame, size, binding);
+    number::fill_frame(frame, binding);
     carry(t, sender, binding, frame, out, memory)
 }
 
+// A frame of every size, for one binding and MTU, and the line that sums them up.
 fn sizes(mtu: u32, binding: u32, frame: &mut [u8], out: &mut [u8], memory: &mut [u8]) {
-    let sender = set_up(167772161, 167772162, mtu);
-    let mut t = tally::begin(set_up(167772162, 167772161, mtu));
-    let mut size: usize = 14;
-    while size <= 1514 {
+    let sender = set_up(SENDER, RECEIVER, mtu);
+    let mut t = tally::begin(set_up(RECEIVER, SENDER, mtu));
+    let mut size: usize = FRAME_LEAST;
+    while size <= FRAME_MOST {
         if frame.len() < size {
             return;
         }
@@ -66,17 +88,19 @@ fn sizes(mtu: u32, binding: u32, frame: &mut [u8], out: &mut [u8], memory: &mut 
     tally::write(t, mtu, binding);
 }
 
+// The bindings of `set_up`, one of each kind.
 fn kinds(mtu: u32, frame: &mut [u8], out: &mut [u8], memory: &mut [u8]) {
     sizes(mtu, 0, frame, out, memory);
     sizes(mtu, 1, frame, out, memory);
     sizes(mtu, 2, frame, out, memory);
 }
 
+// The memory may contain anything at first: here no byte of it is 0.
 fn main() {
-    let mut memory = [165u8; 55296];
-    let mut frame = [0u8; 1514];
-    let mut out = [0u8; 1600];
-    kinds(576, &mut frame, &mut out, &mut memory);
+    let mut memory = [0xA5u8; MEMORY_BYTES];
+    let mut frame = [0u8; FRAME_MOST];
+    let mut out = [0u8; PACKET_MOST];
+    kinds(MTU_LEAST, &mut frame, &mut out, &mut memory);
     kinds(1500, &mut frame, &mut out, &mut memory);
-    kinds(1600, &mut frame, &mut out, &mut memory);
+    kinds(MTU_MOST, &mut frame, &mut out, &mut memory);
 }

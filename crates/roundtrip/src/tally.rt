@@ -1,4 +1,4 @@
-// The receiving endpoint, and what was seen so far.
+// What a binding and an MTU come to.
 use crate::number;
 use endpoint::answer::Received;
 use endpoint::answer::Wrapped;
@@ -7,6 +7,7 @@ use program::number::hash;
 use program::print::decimal;
 use program::print::text;
 
+// The receiving endpoint, how many packets were written and a sum over their bytes, how many frames came out equal, and how many wraps were refused.
 pub(crate) struct Tally {
     pub receiver: Endpoint,
     pub packets: u64,
@@ -63,7 +64,7 @@ pub(crate) fn step(
     out: &mut [u8],
     memory: &mut [u8],
 ) -> Tally {
-    let identifier = (frame.len() % 65536) as u32;
+    let identifier = (frame.len() % 0x10000) as u32;
     let answer = endpoint::wrap::wrap(sender, binding, frame, k, identifier, out);
     match answer {
         Wrapped::Refused(_) => {
@@ -86,6 +87,7 @@ fn item(name: &[u8], n: u64) {
     decimal(n);
 }
 
+// The line. Binding 0 is of kind 1, and so on.
 pub(crate) fn write(t: Tally, mtu: u32, binding: u32) {
     item(b"mtu ", mtu as u64);
     item(b" kind ", number::more(binding as u64));

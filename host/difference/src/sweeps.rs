@@ -303,49 +303,54 @@ fn bounds() -> Vec<Record> {
     run
 }
 
+/// What is added to a number in range: its low bits stay as they were.
+const FAR: [u32; 6] = [256, 65_536, 1 << 17, 1 << 24, 1 << 31, u32::MAX - 65_535];
+
 /// Numbers whose low bits would be in range: with each of a call's numbers in
 /// turn, and with all.
 fn wide(prng: &mut Prng) -> Vec<Record> {
+    let mut run: Vec<Record> = FAR.into_iter().flat_map(wide_starts).collect();
+    run.extend(set_up(prng));
+    for more in FAR {
+        run.extend(wide_bindings(more));
+        run.extend((0..3).map(|binding| Record::Wrap {
+            binding: binding + more,
+            segment: 0,
+            identifier: 1,
+            output_length: 200,
+            frame: inner(prng, 60),
+        }));
+    }
+    run
+}
+
+fn wide_starts(more: u32) -> Vec<Record> {
+    let start = |port, mtu| Record::Start {
+        own: OWN,
+        port,
+        mtu,
+    };
     let mut run = Vec::new();
-    let far = [256, 65_536, 1 << 17, 1 << 24, 1 << 31, u32::MAX - 65_535];
-    for more in far {
-        for (port, mtu) in [(more, 0), (0, more), (more, more)] {
-            let (port, mtu) = (u32::from(PORT) + port, 1500 + mtu);
-            run.push(Record::Start {
-                own: OWN,
-                port,
-                mtu,
-            });
-            run.push(Record::Peer {
-                address: FROM_A.from,
-            });
-        }
-        run.push(Record::Start {
-            own: OWN,
-            port: more + 1,
-            mtu: 66_000,
+    for (port, mtu) in [(more, 0), (0, more), (more, more)] {
+        run.push(start(u32::from(PORT) + port, 1500 + mtu));
+        run.push(Record::Peer {
+            address: FROM_A.from,
         });
     }
-    run.extend(set_up(prng));
-    for more in far {
-        for which in 1..8u32 {
-            let by = |bit: u32| if which & bit == 0 { 0 } else { more };
-            for (kind, tenant) in [(1, 7), (2, 0), (3, 65_535)] {
-                run.push(Record::Binding {
-                    peer: by(1),
-                    kind: kind + by(2),
-                    id: ID + 1,
-                    tenant: by(4).wrapping_add(tenant),
-                });
-            }
-        }
-        for binding in 0..3 {
-            run.push(Record::Wrap {
-                binding: binding + more,
-                segment: 0,
-                identifier: 1,
-                output_length: 200,
-                frame: inner(prng, 60),
+    run.push(start(more + 1, 66_000));
+    run
+}
+
+fn wide_bindings(more: u32) -> Vec<Record> {
+    let mut run = Vec::new();
+    for which in 1..8u32 {
+        let by = |bit: u32| if which & bit == 0 { 0 } else { more };
+        for (kind, tenant) in [(1, 7), (2, 0), (3, 65_535)] {
+            run.push(Record::Binding {
+                peer: by(1),
+                kind: kind + by(2),
+                id: ID + 1,
+                tenant: by(4).wrapping_add(tenant),
             });
         }
     }

@@ -19,50 +19,56 @@ fn sweeps_show_no_difference() {
     assert!(counts.receives > 300_000);
 }
 
-/// The cut is told by lengths alone, so both sides take any: near the largest
-/// too, which no slice has.
+/// Numbers around the bounds of what a slice has, and near the largest, which
+/// no slice has.
+const NUMBERS: [usize; 12] = [
+    0,
+    1,
+    2,
+    3,
+    49,
+    50,
+    51,
+    55_296,
+    usize::MAX / 2,
+    usize::MAX - 2,
+    usize::MAX - 1,
+    usize::MAX,
+];
+
+/// Both sides cut the same for every place of these lengths.
+fn cuts_agree(packet: usize, memory: usize) {
+    for start in NUMBERS {
+        for length in NUMBERS {
+            for in_memory in [false, true] {
+                let ours = niulassenc::Place {
+                    in_memory,
+                    start,
+                    length,
+                };
+                let theirs = niulassenc_reference::Place {
+                    in_memory,
+                    start,
+                    length,
+                };
+                let cut = ours.cut(packet, memory);
+                let expected = niulassenc_reference::cut(packet, memory, theirs);
+                assert_eq!(
+                    (cut.in_memory, cut.start, cut.length),
+                    (expected.in_memory, expected.start, expected.length),
+                    "{ours:?} of {packet} and {memory}"
+                );
+            }
+        }
+    }
+}
+
+/// The cut is told by lengths alone, so both sides take any.
 #[test]
 fn cuts_of_any_length_are_the_same() {
-    let most = usize::MAX;
-    let numbers = [
-        0,
-        1,
-        2,
-        3,
-        49,
-        50,
-        51,
-        55_296,
-        most / 2,
-        most - 2,
-        most - 1,
-        most,
-    ];
-    for packet in numbers {
-        for memory in numbers {
-            for start in numbers {
-                for length in numbers {
-                    for in_memory in [false, true] {
-                        let ours = niulassenc::Place {
-                            in_memory,
-                            start,
-                            length,
-                        };
-                        let theirs = niulassenc_reference::Place {
-                            in_memory,
-                            start,
-                            length,
-                        };
-                        let cut = ours.cut(packet, memory);
-                        let expected = niulassenc_reference::cut(packet, memory, theirs);
-                        assert_eq!(
-                            (cut.in_memory, cut.start, cut.length),
-                            (expected.in_memory, expected.start, expected.length),
-                            "{ours:?} of {packet} and {memory}"
-                        );
-                    }
-                }
-            }
+    for packet in NUMBERS {
+        for memory in NUMBERS {
+            cuts_agree(packet, memory);
         }
     }
 }

@@ -1,5 +1,6 @@
 //! C's header and this crate say the same: version, limits, the names, numbers
-//! and texts of the codes. `header.c` tells what the header has.
+//! and texts of the codes. `header.c` tells what the header has. The programs in
+//! Rattle have the same texts.
 
 use niulassenc::{limits, numbers, text, Refusal, VERSION};
 use std::fmt::Write;
@@ -114,6 +115,26 @@ fn nothing_of_the_header_is_left_out() {
     for name in limits {
         assert!(program.contains(&format!("LIMIT({name});")), "{name}");
     }
+}
+
+/// The programs in Rattle print the same text for each code, and for a number
+/// that is no code.
+#[test]
+fn programs_and_crate_say_the_same() {
+    let folder = Path::new(env!("CARGO_MANIFEST_DIR"));
+    let path = folder.join("../../crates/program/src/print.rt");
+    let source = std::fs::read_to_string(path).expect("there");
+    let mut codes = Vec::new();
+    for line in source.lines() {
+        let Some((code, rest)) = line.trim().split_once(" => text(b\"") else {
+            continue;
+        };
+        let said = rest.strip_suffix("\"),").expect("a text in one line");
+        codes.extend(code.parse::<usize>());
+        assert_eq!(said, text(code.parse().unwrap_or(u8::MAX)), "{code}");
+    }
+    let all: Vec<usize> = (0..Refusal::ALL.len() + 2).collect();
+    assert_eq!(codes, all);
 }
 
 #[test]

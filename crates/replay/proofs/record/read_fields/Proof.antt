@@ -5,8 +5,8 @@ use borrow.Author.Needs.{needs}
 use Rattle.replay.proofs.record.read_fields.Statement.{statement}
 use Rattle.replay.proofs.record.read_fields.Tie as tie
 
-size-requires : tie.Need-size-requires
-size-requires c κs = search needs
+fields-length-requires : tie.Need-fields-length-requires
+fields-length-requires c κs = search needs
 
 returns : tie.Need-returns
 returns c = search needs
@@ -33,7 +33,7 @@ pub read-fields-spec : {M : Type 1} → statement M
 read-fields-spec =
     tie.close
     (tie.spec
-    size-requires
+    fields-length-requires
     returns
     returns-2
     slice-relend-prefix-read-full

@@ -1,23 +1,17 @@
--- `roundtrip::number::fill` is safe and ends: the slice keeps its length, and the measure is what is left of it.
+-- `program::number::fill` is safe and ends: the slice keeps its length, and the measure is what is left of it.
 -- Assumes nothing.
 use Prim.Native.Nat.{_-_}
 use mathlib.Core.Path.{_≡_}
 use lib.ListN.{length}
 use borrow.Author.Needs.{needs}
-use Rattle.roundtrip.proofs.number.fill.Statement.{statement}
-use Rattle.roundtrip.proofs.number.fill.Tie as tie
+use Rattle.program.proofs.number.fill.Statement.{statement}
+use Rattle.program.proofs.number.fill.Tie as tie
 
 abbrev Inv-loop : tie.InvT-loop
-Inv-loop s₀ size binding x₀ i₀ s x i = length s ≡ length s₀
+Inv-loop s₀ seed x₀ i₀ s x i = length s ≡ length s₀
 
 abbrev μ-loop : tie.MeasureT-loop
-μ-loop s₀ size binding x₀ i₀ s x i = length s₀ - i
-
-mul-x : tie.Need-mul-x Inv-loop μ-loop
-mul-x c = search needs
-
-add-x : tie.Need-add-x Inv-loop μ-loop
-add-x c = search needs
+μ-loop s₀ seed x₀ i₀ s x i = length s₀ - i
 
 loop-holds : tie.Need-loop-holds Inv-loop μ-loop
 loop-holds c = search needs
@@ -25,8 +19,8 @@ loop-holds c = search needs
 next-requires : tie.Need-next-requires Inv-loop μ-loop
 next-requires c κs = search needs
 
-content-requires : tie.Need-content-requires Inv-loop μ-loop
-content-requires c κs = search needs
+low8-requires : tie.Need-low8-requires Inv-loop μ-loop
+low8-requires c κs = search needs
 
 slice-write-s : tie.Need-slice-write-s Inv-loop μ-loop
 slice-write-s c = search needs
@@ -52,11 +46,9 @@ fill-spec =
     (tie.spec
     Inv-loop
     μ-loop
-    mul-x
-    add-x
     loop-holds
     next-requires
-    content-requires
+    low8-requires
     slice-write-s
     add-i
     loop-less

@@ -1,10 +1,10 @@
--- `rack::say::bytes` is safe and ends: the measure is what is left of the slice. Nothing has to hold from turn to turn.
+-- `rack::report::bytes` is safe and ends: the measure is what is left of the slice. Nothing has to hold from turn to turn.
 -- Assumes nothing.
 use Prim.Native.Nat.{_-_}
 use lib.ListN.{length}
 use borrow.Author.Needs.{needs}
-use Rattle.rack.proofs.say.bytes.Statement.{statement}
-use Rattle.rack.proofs.say.bytes.Tie as tie
+use Rattle.rack.proofs.report.bytes.Statement.{statement}
+use Rattle.rack.proofs.report.bytes.Tie as tie
 
 abbrev Inv-loop : tie.InvT-loop
 Inv-loop s i₀ i = Unit {0}

@@ -1,0 +1,87 @@
+// How the program reports kinds and answers.
+use endpoint::answer::Added;
+use endpoint::answer::Received;
+use endpoint::code;
+use endpoint::number::NVGRE;
+use endpoint::number::STT;
+use endpoint::number::VXLAN;
+use program::print;
+use program::print::decimal;
+use program::print::text;
+
+pub(crate) fn kind(k: u32) {
+    match k {
+        VXLAN => text(b"VXLAN"),
+        NVGRE => text(b"NVGRE"),
+        STT => text(b"STT"),
+        _ => text(b"unknown"),
+    }
+}
+
+// A refusal's number and its text.
+fn refusal(code: u8) {
+    decimal(code as u64);
+    text(b", ");
+    print::answer(code);
+}
+
+// The number of what was added, or why it was not.
+pub(crate) fn added(answer: Added) {
+    match answer {
+        Added::Number(n) => decimal(n as u64),
+        Added::Refused(r) => {
+            text(b"refused with ");
+            refusal(code::config_code(r));
+        }
+    }
+    text(b": ");
+}
+
+// Bytes in hexadecimal, each behind a space.
+fn byte(b: u8) {
+    text(b" ");
+    io::print_hex(1, b as u64, 2);
+}
+
+fn bytes(s: &[u8]) {
+    let mut i = 0;
+    while i < s.len() {
+        byte(s[i]);
+        i += 1;
+    }
+}
+
+fn frame(tenant: u16, s: &[u8]) {
+    text(b"tenant ");
+    decimal(tenant as u64);
+    text(b", frame of ");
+    decimal(s.len() as u64);
+    text(b" bytes:");
+    bytes(s);
+    text(b"\n");
+}
+
+fn pending(code: u8) {
+    print::answer(code);
+    text(b"\n");
+}
+
+fn dropped(code: u8) {
+    text(b"dropped with ");
+    refusal(code);
+    text(b"\n");
+}
+
+// What became of a packet.
+pub(crate) fn received<'p, 'm>(answer: Received, packet: &'p [u8], memory: &'m [u8])
+where
+    'p: 'm,
+{
+    match answer {
+        Received::Delivered(target, place) => {
+            frame(target.tenant, endpoint::view::view(packet, memory, place))
+        }
+        Received::Pending => pending(code::received_code(answer)),
+        Received::Dropped(d) => dropped(code::drop_code(d)),
+    }
+}
