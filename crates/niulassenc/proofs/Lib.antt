@@ -2,3 +2,5 @@
 mod Columns
 mod RowAt
 mod Fields
+mod Parts
+mod Relent
