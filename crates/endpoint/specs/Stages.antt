@@ -27,7 +27,7 @@ use Rattle.reassembly.specs.declared.take.Outcome.the-variants as O
 use Rattle.endpoint.specs.Answer.{placeOf}
 use Rattle.endpoint.specs.Search.{lowest}
 use Rattle.endpoint.specs.Config.{hasAddress, mostBindings}
-use Rattle.endpoint.specs.Receive.{answerAt, innerFrom, Step}
+use Rattle.endpoint.specs.Receive.{answerAt, innerFrom, rowAt}
 use Rattle.endpoint.specs.declared.answer.Drop.{Drop}
 use Rattle.endpoint.specs.declared.answer.Drop.the-variants as D
 use Rattle.endpoint.specs.declared.answer.Received.{Received}
@@ -146,17 +146,14 @@ deliverOf networks kinds owners tenants n peer B.Pending k m = R.Pending
 deliverOf networks kinds owners tenants n peer (B.Frame f) k m =
     answerAt (innerFrom networks kinds owners tenants n peer (f .kind) (f .network) (viewOf k m (placeOf (f .place)))) (f .place)
 
--- ---- the last two in turn, with the sender's row
-
-unfoldable pub settleOf : (networks kinds owners tenants : List ℕ) (n : ℕ) → Arrival → Peer → (packet memory : List ℕ) → Step
-settleOf networks kinds owners tenants n x row k m =
-    let c : Change = takeOf row x k m in
-    record { peer = x .peer; row = c .row; answer = deliverOf networks kinds owners tenants n (x .peer) (c .offer) k (c .mem); mem = c .mem }
-
 -- ---- with an endpoint's own columns
 
 abbrev pub openedBy : Endpoint → (packet : List ℕ) → (room : ℕ) → Arrival
 openedBy e k room = openOf (e .addresses) (e .own) (e .port) (min (e .«peer_count») mostPeers) k room
 
-abbrev pub settledBy : Endpoint → Arrival → Peer → (packet memory : List ℕ) → Step
-settledBy e x row k m = settleOf (e .networks) (e .kinds) (e .owners) (e .tenants) (min (e .«binding_count») mostBindings) x row k m
+-- the row of the peer that sent it is taken with
+abbrev pub takenBy : Endpoint → Arrival → (packet memory : List ℕ) → Change
+takenBy e x k m = takeOf (rowAt e (x .peer)) x k m
+
+abbrev pub deliveredBy : Endpoint → (peer : ℕ) → Offer → (packet memory : List ℕ) → Received
+deliveredBy e peer offer k m = deliverOf (e .networks) (e .kinds) (e .owners) (e .tenants) (min (e .«binding_count») mostBindings) peer offer k m

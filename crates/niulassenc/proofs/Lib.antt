@@ -3,3 +3,5 @@ mod Offsets
 mod Columns
 mod RowAt
 mod Fields
+mod Parts
+mod Relent

@@ -1,6 +1,5 @@
 pub mod About
 pub mod Answer
 pub mod Cut
-pub mod Receive
 pub mod WorkedAnswers
 pub mod Laws

@@ -51,7 +51,7 @@ use Rattle.endpoint.specs.declared.search.Lookup.{Lookup}
 use Rattle.endpoint.specs.declared.search.Lookup.the-variants as L
 use Rattle.endpoint.specs.Config.{Config, configOf, hasAddress, findPeer, binds, mostBindings}
 use Rattle.endpoint.specs.Receive.{answers, innerFrom, answerAt, tunnelFrom, byPayload, byPeer, headerOf, byDestination, byIpv4, bySender, sourceOf}
-use Rattle.endpoint.specs.Receive.{byStt, sttFrom, judgeOf, Step, rowAt, unchanged, stepped, stepOf}
+use Rattle.endpoint.specs.Receive.{byStt, sttFrom, judgeOf, Step, rowAt, unchanged, stepped, stepOf, withRow}
 use Rattle.endpoint.specs.declared.answer.Drop.{Drop}
 use Rattle.endpoint.specs.declared.answer.Drop.the-variants as D
 use Rattle.endpoint.specs.declared.answer.Received.{Received}
@@ -65,8 +65,9 @@ use Rattle.endpoint.specs.declared.receive.Offer.{Offer}
 use Rattle.endpoint.specs.declared.receive.Offer.the-variants as B
 use Rattle.endpoint.specs.declared.receive.Changed.{Changed}
 use Rattle.endpoint.specs.declared.config.Endpoint.{Endpoint}
-use Rattle.endpoint.specs.Stages.{carriedFrom, contentFrom, fromOther, unlistedOf, openPeer, openHeader, openIp, openOf, sttOffer, offerAt, offerOf, Lies, changedOf}
-use Rattle.endpoint.specs.Stages.{takeOf, deliverOf, settleOf, openedBy, settledBy}
+use Rattle.endpoint.specs.Stages.{carriedFrom, contentFrom, fromOther, unlistedOf, openPeer, openHeader, openIp, openOf, sttOffer, offerAt, offerOf, Lies}
+use Rattle.endpoint.specs.Stages.{changedOf}
+use Rattle.endpoint.specs.Stages.{Change, takeContent, bringsSegment, untakenOf, takeOf, deliverOf, openedBy, takenBy, deliveredBy}
 
 -- ---- a search, as the code makes it
 
@@ -210,6 +211,18 @@ module _ (row : Peer) (a : Arrival) (k m : List ℕ) where
     unfolding takeOf
     segment-out x e = (rw (due, e, same-row, same-outcome, left, are), rw (due, left, are))
 
+-- where there is no segment, nothing is taken
+untaken-content : (peer : ℕ) (row : Peer) (k m : List ℕ) (x : Content) → bringsSegment x ≡ false
+    → takeContent peer row k m x ≡ record { row = row; offer = untakenOf x; mem = m }
+untaken-content peer row k m (A.Refused d) e = refl
+untaken-content peer row k m (A.Frame f) e = refl
+untaken-content peer row k m (A.Segment d) e = let z : _≡_ {A = ℕ} 0 1 = cc in absurd (omega arith)
+
+pub nothing-taken : (row : Peer) (a : Arrival) (k m : List ℕ) → bringsSegment (a .content) ≡ false
+    → takeOf row a k m ≡ record { row = row; offer = untakenOf (a .content); mem = m }
+unfolding takeOf
+nothing-taken row a k m e = untaken-content (a .peer) row k m (a .content) e
+
 -- ---- the ways out of delivering
 
 module _ (networks kinds owners tenants : List ℕ) (n peer : ℕ) (o : Offer) (k m : List ℕ) where
@@ -319,6 +332,15 @@ module _ (c : Config) (p : ℕ) (row : Peer) (k m : List ℕ) (g : Seg) where
       ∙ sym (ap (λ (a : Answer answers). a .reply) (complete-reply answers (judgeOf c) bytesOf p g (takeIn p row m g) s))
 
 -- ---- what the stages make of a packet, and what the theory of runs does
+
+-- the last two in turn, with the sender's row
+unfoldable pub settleOf : (networks kinds owners tenants : List ℕ) (n : ℕ) → Arrival → Peer → (packet memory : List ℕ) → Step
+settleOf networks kinds owners tenants n x row k m =
+    let c : Change = takeOf row x k m in
+    record { peer = x .peer; row = c .row; answer = deliverOf networks kinds owners tenants n (x .peer) (c .offer) k (c .mem); mem = c .mem }
+
+abbrev pub settledBy : Endpoint → Arrival → Peer → (packet memory : List ℕ) → Step
+settledBy e x row k m = settleOf (e .networks) (e .kinds) (e .owners) (e .tenants) (min (e .«binding_count») 64) x row k m
 
 module _ (e : Endpoint) (m k : List ℕ) where
   -- a packet that was opened, settled with its sender's row
@@ -458,9 +480,6 @@ module _ (e : Endpoint) (k : List ℕ) where
     unfolding openOf stepOf settleOf takeOf deliverOf
     stages-step = caseB (ltb (length m) 55296) (λ b. rw b) (λ b. rw b (header-adds e m k))
 
-    pub step-below : stepOf e m k .peer < mostPeers
-    step-below = rw (← stages-step, peer-settled m (openedBy e k (length m))) (open-below (length m))
-
     -- with the row as the code reads it
     pub settled-is : (x : Arrival) → x ≡ openedBy e k (length m) → settledBy e x (getD (e .peers) (x .peer) noRow) k m ≡ stepOf e m k
     settled-is x q = rw q stages-step
@@ -472,3 +491,14 @@ module _ (networks kinds owners tenants : List ℕ) (n : ℕ) (x : Arrival) (row
   pub settled-out : record { peer = x .peer; row = c .row; answer = a; mem = m′ } ≡ settleOf networks kinds owners tenants n x row k m
   unfolding settleOf
   settled-out = rw (gave, took, left)
+
+-- the same over an endpoint that has its new row already
+pub turn-is : (e : Endpoint) (k m : List ℕ) (x : Arrival) → x ≡ openedBy e k (length m)
+    → record {
+      peer = x .peer;
+      row = takenBy e x k m .row;
+      answer = deliveredBy (withRow e (x .peer) (takenBy e x k m .row)) (x .peer) (takenBy e x k m .offer) k (takenBy e x k m .mem);
+      mem = takenBy e x k m .mem;
+    } ≡ stepOf e m k
+unfolding settleOf
+turn-is e k m x q = settled-is e k m x q

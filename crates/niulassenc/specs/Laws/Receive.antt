@@ -1,44 +1,45 @@
--- Laws of a receive: its steps add up, and the row put back makes the endpoint that it leaves.
+-- Laws of a receive: its three steps over a lent endpoint add up.
 -- Assumes nothing.
 use Prim.Native.Nat.{ℕ, _<_}
-use mathlib.Core.Path.{_≡_, sym, ap, subst}
+use mathlib.Core.Path.{_≡_, sym, ap, subst, _∙_}
+use mathlib.Core.Bool.{false}
 use mathlib.Core.List.{List}
-use native.Mathlib.Omega.{arith}
 use lib.ListN.{length}
-use Rattle.reassembly.specs.declared.slot.Peer.{Peer}
 use Rattle.endpoint.specs.Answer.{valuesOf}
 use Rattle.endpoint.specs.Receive.{Step, rowAt, stepOf, withRow, receiptOf}
-use Rattle.endpoint.specs.Stages.{openedBy, settledBy}
-use Rattle.endpoint.specs.Laws.Receive.{open-below, step-below, settled-is}
-use Rattle.endpoint.specs.declared.answer.Received.{Received}
+use Rattle.endpoint.specs.Stages.{Change, bringsSegment, untakenOf, openedBy, takenBy, deliveredBy}
+use Rattle.endpoint.specs.Laws.Receive.{open-below, nothing-taken, turn-is}
+use Rattle.endpoint.specs.Laws.Demand1.{same-row}
 use Rattle.endpoint.specs.declared.config.Endpoint.{Endpoint}
 use Rattle.endpoint.specs.declared.receive.Arrival.{Arrival}
+use Rattle.endpoint.specs.declared.receive.Offer.{Offer}
 use Rattle.niulassenc.specs.Answer.{flatOf}
 use Rattle.niulassenc.specs.declared.answer.Receipt.{Receipt}
-use Rattle.niulassenc.specs.declared.receive.PeerUpdate.{PeerUpdate}
-use Rattle.niulassenc.specs.Receive.{outcomeOf}
-use Rattle.reassembly.specs.Slots.{mostPeers}
-use Rattle.endpoint.specs.Laws.Calls.{receipt-left}
 
--- with the answer as the code makes it
-pub outcome-out : (p : ℕ) (row : Peer) (x : Received) (m : List ℕ) (s : Step) (a : Receipt) → record { peer = p; row = row; answer = x; mem = m } ≡ s → a
-    ≡ flatOf (valuesOf x)
-    → record { row = row; peer = p; answer = a } ≡ outcomeOf s
-outcome-out p row x m s a e f = rw (f, ← e)
+-- what is taken: what there is to deliver, the endpoint with the sender's row, and the memory
+abbrev pub Took : Endpoint → Arrival → (packet memory : List ℕ) → Offer → Endpoint → List ℕ → Type 0
+Took e x k m o e′ m′ = (o ≡ takenBy e x k m .offer) × ((e′ ≡ withRow e (x .peer) (takenBy e x k m .row)) × (m′ ≡ takenBy e x k m .mem))
 
--- ---- what `opened` gave, and what `settled` makes of it, add up to the receive
+-- where there is no segment, the endpoint and the memory stay
+pub untaken-out : (e : Endpoint) (x : Arrival) (k m : List ℕ) → bringsSegment (x .content) ≡ false → (o : Offer) → o ≡ untakenOf (x .content)
+    → Took e x k m o e m
+untaken-out e x k m none o is =
+    let same = nothing-taken (rowAt e (x .peer)) x k m none in (
+      is ∙ sym (ap (λ (c : Change). c .offer) same),
+      (sym (same-row e (x .peer)) ∙ sym (ap (λ (c : Change). withRow e (x .peer) (c .row)) same), sym (ap (λ (c : Change). c .mem) same)),
+    )
 
 module _ (e : Endpoint) (m k : List ℕ) (x : Arrival) (is : x ≡ openedBy e k (length m)) where
-  -- the peer's number is one of a listed peer's
-  pub arrival-listed : x .peer < mostPeers
-  arrival-listed = subst (λ (y : Arrival). y .peer < mostPeers) (sym is) (open-below e k (length m))
+  -- there are 8 peers
+  pub arrival-listed : x .peer < 8
+  arrival-listed = subst (λ (y : Arrival). y .peer < 8) (sym is) (open-below e k (length m))
 
-  pub settled-step : settledBy e x (rowAt e (x .peer)) k m ≡ stepOf e m k
-  settled-step = settled-is e k m x is
-
-pub outcome-below : (e : Endpoint) (m k : List ℕ) (r : PeerUpdate) → r ≡ outcomeOf (stepOf e m k) → r .peer < mostPeers
-outcome-below e m k r q = omega (arith, step-below e k m, ap (λ (y : PeerUpdate). y .peer) q)
-
--- put back, the row makes the endpoint that the receive leaves
-pub put-back : (e : Endpoint) (s : Step) → withRow e (s .peer) (s .row) ≡ receiptOf e s .endpoint
-put-back e s = sym (receipt-left e s)
+  -- what `opened` gave, what `taken` left and what `delivered` answered are the receive's
+  pub received-out : (o : Offer) (e′ : Endpoint) (m′ : List ℕ) → Took e x k m o e′ m′ → (r : Receipt) (m″ : List ℕ)
+      → (r ≡ flatOf (valuesOf (deliveredBy e′ (x .peer) o k m′))) × (m″ ≡ m′)
+      → (r ≡ flatOf (valuesOf (stepOf e m k .answer))) × ((e′ ≡ receiptOf e (stepOf e m k) .endpoint) × (m″ ≡ stepOf e m k .mem))
+  received-out o e′ m′ took r m″ gave =
+      let same = turn-is e k m x is in (
+        rw (took .0, took .1 .0, took .1 .1) at (gave .0) ∙ ap (λ (s : Step). flatOf (valuesOf (s .answer))) same,
+        (took .1 .0 ∙ ap (λ (s : Step). receiptOf e s .endpoint) same, gave .1 ∙ (took .1 .1 ∙ ap (λ (s : Step). s .mem) same)),
+      )
