@@ -25,14 +25,14 @@ pub record SameFrame (W : Answers) (a b : Answer W) : Type 0 where
 
 module _ (W : Answers) (Config : Type 0) (U : Layers W Config) where
   -- the answer to segment j of frame f, after the items `before`; how often a segment of frame f is answered 0
-  abbrev pub answerIn : World Config → List Frame → List Item → ℕ → ℕ → Answer W
+  unfoldable pub answerIn : World Config → List Frame → List Item → ℕ → ℕ → Answer W
   answerIn w frames before f j = answerOf W Config U (runs W Config U w (map (event frames) before)) (partOf (frameOf frames f) j .packet)
 
-  abbrev pub delivery : List Frame → ℕ → World Config → Item → ℕ
+  unfoldable pub delivery : List Frame → ℕ → World Config → Item → ℕ
   delivery frames f w (given g j) = cond (eqb g f && W .delivered (answerOf W Config U w (partOf (frameOf frames g) j .packet) .reply)) 1 0
   delivery frames f w (other e) = 0
 
-  abbrev pub deliveries : List Frame → ℕ → World Config → List Item → ℕ
+  unfoldable pub deliveries : List Frame → ℕ → World Config → List Item → ℕ
   deliveries frames f w [] = 0
   deliveries frames f w (x ∷ xs) = delivery frames f w x + deliveries frames f (next W Config U w (event frames x)) xs
 

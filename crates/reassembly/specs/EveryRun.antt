@@ -22,14 +22,14 @@ use Rattle.reassembly.specs.History.{carries, noSeg, identifierOf, lengt
 use Rattle.reassembly.specs.History.{Sixteen, Seventeen, Further, Opens, taking, historyOf, onceMore, CameIn}
 
 -- slot s of peer p starts here, and its map here
-abbrev pub frameAt : ℕ → ℕ → ℕ
+unfoldable pub frameAt : ℕ → ℕ → ℕ
 frameAt p s = (4 * p + s) * 1728
 
-abbrev pub mapAt : ℕ → ℕ → ℕ
+unfoldable pub mapAt : ℕ → ℕ → ℕ
 mapAt p s = (4 * p + s) * 1728 + 1536
 
 -- bit i mod 8, lowest first, of map byte i div 8, of the map that starts at byte b
-abbrev pub bitOf : List ℕ → ℕ → ℕ → Bool
+unfoldable pub bitOf : List ℕ → ℕ → ℕ → Bool
 bitOf m b i = eqb (getD m (b + i / 8) 0 / 2 ^ (i % 8) % 2) 1
 
 -- place j of the memory is not among the n from a on

@@ -8,6 +8,7 @@ pub mod Sim
 pub mod Store
 pub mod Table
 pub mod Answers
+pub mod SetUp
 pub mod Ghost
 pub mod CutFacts
 pub mod MixFacts

@@ -40,7 +40,7 @@ abbrev pub partOf : Frame → ℕ → Part
 partOf f j = getD (f .parts) j noPart
 
 -- what part j states of itself
-abbrev pub states : Frame → ℕ → Seg
+unfoldable pub states : Frame → ℕ → Seg
 states f j =
     record {
       identifier = f .identifier;
@@ -78,7 +78,7 @@ module _ (frames : List Frame) where
   abbrev pub frameOf : ℕ → Frame
   frameOf f = getD frames f noFrame
 
-  abbrev pub event : Item → Event
+  unfoldable pub event : Item → Event
   event (given f j) = receive (partOf (frameOf f) j .packet)
   event (other e) = e
 

@@ -21,11 +21,11 @@ pub record Layers (W : Answers) (Config : Type 0) : Type 0 where
   pub judge : Config → ℕ → Note → List ℕ → Verdict W
   pub source : Config → List ℕ → Option ℕ
 
-abbrev pub isPeer : ℕ → Option ℕ → Bool
+unfoldable pub isPeer : ℕ → Option ℕ → Bool
 isPeer p none = false
 isPeer p (some q) = eqb q p
 
-abbrev pub peerOf : (W : Answers) → Reading W → Option ℕ
+unfoldable pub peerOf : (W : Answers) → Reading W → Option ℕ
 peerOf W (otherSender a) = none
 peerOf W (direct q a) = some q
 peerOf W (segment q g) = some q
@@ -46,7 +46,7 @@ abbrev pub keeps : (List ℕ → Bool) → Event → Bool
 keeps own tick = true
 keeps own (receive k) = own k
 
-abbrev pub strike : (List ℕ → Bool) → List Event → List Event
+unfoldable pub strike : (List ℕ → Bool) → List Event → List Event
 strike own [] = []
 strike own (e ∷ es) = cond (keeps own e) (e ∷ strike own es) (strike own es)
 
@@ -76,7 +76,7 @@ module _ (W : Answers) (Config : Type 0) (U : Layers W Config) where
     pub world : World Config
 
   -- one receive: what it answers, the endpoint and the memory that it leaves. Check 2 is first
-  abbrev pub receiveBy : World Config → Reading W → Replied
+  unfoldable pub receiveBy : World Config → Reading W → Replied
   receiveBy w (otherSender a) = record { reply = a; world = w }
   receiveBy w (direct p a) = record { reply = a; world = w }
   receiveBy w (segment p g) =
@@ -86,34 +86,34 @@ module _ (W : Answers) (Config : Type 0) (U : Layers W Config) where
         world = record { ends = record { config = w .ends .config; peers = set (w .ends .peers) (rowOf p) (o .row) }; mem = o .mem };
       }
 
-  abbrev pub receives : World Config → List ℕ → Replied
+  unfoldable pub receives : World Config → List ℕ → Replied
   receives w k = cond (ltb (length (w .mem)) 55296) (record { reply = W .tooSmall; world = w }) (receiveBy w (U .header (w .ends .config) k))
 
   -- a receive or a tick, and a run of them: each gets the endpoint and the memory that the last one left
-  abbrev pub next : World Config → Event → World Config
+  unfoldable pub next : World Config → Event → World Config
   next w tick = record { ends = record { config = w .ends .config; peers = map olderRow (w .ends .peers) }; mem = w .mem }
   next w (receive k) = receives w k .world
 
-  abbrev pub runs : World Config → List Event → World Config
+  unfoldable pub runs : World Config → List Event → World Config
   runs w [] = w
   runs w (e ∷ es) = runs (next w e) es
 
   -- an answer as a run has it: what the receive answers, and the bytes that the second call hands back from the packet and the memory,
   -- n ticks after this receive, which gives the same for every n (`Claim .whenever`)
-  abbrev pub handedBack : ℕ → World Config → List ℕ → List ℕ
+  unfoldable pub handedBack : ℕ → World Config → List ℕ → List ℕ
   handedBack n w k = viewOf k (runs (receives w k .world) (replicate n tick) .mem) (W .place (receives w k .reply))
 
-  abbrev pub answerOf : World Config → List ℕ → Answer W
+  unfoldable pub answerOf : World Config → List ℕ → Answer W
   answerOf w k = record { reply = receives w k .reply; bytes = handedBack 0 w k }
 
   -- whose packet it is; the peer's answers in a run, in order
-  abbrev pub from : Config → ℕ → List ℕ → Bool
+  unfoldable pub from : Config → ℕ → List ℕ → Bool
   from c p k = isPeer p (U .source c k)
 
   abbrev pub answersAt : ℕ → World Config → Event → List (Answer W)
   answersAt p w tick = []
   answersAt p w (receive k) = cond (from (w .ends .config) p k) (answerOf w k ∷ []) []
 
-  abbrev pub answersOf : ℕ → World Config → List Event → List (Answer W)
+  unfoldable pub answersOf : ℕ → World Config → List Event → List (Answer W)
   answersOf p w [] = []
   answersOf p w (e ∷ es) = answersAt p w e ++ answersOf p (next w e) es

@@ -2,16 +2,17 @@
 -- segments, are mixed, four pending at once and one under an identifier that is used again, with ticks, packets of the peer's own and other senders'
 -- between; and by the claim each is delivered once in that run, to the tenant of its Context ID.
 use mathlib.Core.Path.{_≡_, refl, sym, ap, subst, _∙_}
-use mathlib.Core.Bool.{Bool, false, cond}
-use mathlib.Core.List.{List, [], _∷_, _++_, map}
+use mathlib.Core.Bool.{Bool, false}
+use mathlib.Core.List.{List, [], _++_, map}
 use Prim.Native.Nat.{ℕ, zero, suc, _+_, _-_, _≤_, _<_}
 use native.Mathlib.Omega.{arith}
 use lib.ListN.{length, take, drop}
 use Rattle.reassembly.specs.Laws.Base.{below-two}
 use Rattle.reassembly.specs.Take.{slotNo}
 use Rattle.reassembly.specs.Store.{slotStart}
-use Rattle.reassembly.specs.Receive.{Answer, bare, Reading, segment, Event, receive, tick}
-use Rattle.reassembly.specs.SetUp.{strike, isPeer, peerOf, World, from, answersOf}
+use Rattle.reassembly.specs.Receive.{Answer, bare, Reading, segment}
+use Rattle.reassembly.specs.SetUp.{strike, peerOf, World, from, answersOf}
+use Rattle.reassembly.specs.Laws.SetUp.{peer-other, peer-direct, peer-segment, from-none, from-another, struck-out}
 use Rattle.reassembly.specs.Mix.{Right, Frame, partOf, states, frameOf, event, Cut, Item, notSegment, Mixing, InTurn}
 use Rattle.reassembly.specs.Laws.MixTest.{mixing}
 use Rattle.reassembly.specs.Laws.OneByOne.{turns-in-turn}
@@ -116,23 +117,24 @@ is-mixing = mixing frames answers (headerOf listed) 0 mixed mixes-frames
 
 -- ---- whose packets they are
 
-own : (k : List ℕ) (x : Reading answers) → headerOf listed k ≡ x → from answers Config layers listed 0 k ≡ isPeer 0 (peerOf answers x)
-own k x e = ap (isPeer 0) (sym (header-whose listed (omega arith) k) ∙ ap (peerOf answers) e)
+source-is : (k : List ℕ) (x : Reading answers) → headerOf listed k ≡ x → layers .source listed k ≡ peerOf answers x
+source-is k x e = sym (header-whose listed (omega arith) k) ∙ ap (peerOf answers) e
 
--- another sender's packet is struck out
-struck-out : (mine : List ℕ → Bool) (before after : List Event) (k : List ℕ) → mine k ≡ false
-    → strike mine (before ++ (receive k ∷ after)) ≡ strike mine (before ++ after)
-struck-out mine [] after k e = rw e
-struck-out mine (tick ∷ before) after k e = ap (λ (x : List Event). tick ∷ x) (struck-out mine before after k e)
-struck-out mine (receive j ∷ before) after k e = ap (λ (x : List Event). cond (mine j) (receive j ∷ x) x) (struck-out mine before after k e)
+not-vxlan : from answers Config layers listed 0 vxlan-packet ≡ false
+not-vxlan = from-another answers Config layers listed 0 1 vxlan-packet (source-is vxlan-packet _ heard-vxlan ∙ peer-direct answers 1 _) refl
+
+not-stray : from answers Config layers listed 0 stray-packet ≡ false
+not-stray = from-none answers Config layers listed 0 stray-packet (source-is stray-packet _ heard-stray ∙ peer-other answers _)
+
+not-rival : from answers Config layers listed 0 rival-packet ≡ false
+not-rival = from-another answers Config layers listed 0 1 rival-packet (source-is rival-packet _ heard-rival ∙ peer-segment answers 1 _) refl
 
 is-alike : strike (from answers Config layers listed 0) (map (event frames) mixed) ≡ strike (from answers Config layers listed 0) (map (event frames) alone)
 is-alike =
     let mine : List ℕ → Bool = from answers Config layers listed 0 in
-    let events : List Item → List Event = map (event frames) in
-    struck-out mine (events (take 7 mixed)) (events (drop 8 mixed)) vxlan-packet (own vxlan-packet _ heard-vxlan)
-    ∙ struck-out mine (events (take 7 mixed ++ take 1 (drop 8 mixed))) (events (drop 10 mixed)) stray-packet (own stray-packet _ heard-stray)
-    ∙ struck-out mine (events (take 7 mixed ++ take 1 (drop 8 mixed))) (events (drop 11 mixed)) rival-packet (own rival-packet _ heard-rival)
+    struck-out frames mine (take 7 mixed) (drop 8 mixed) vxlan-packet not-vxlan
+    ∙ struck-out frames mine (take 7 mixed ++ take 1 (drop 8 mixed)) (drop 10 mixed) stray-packet not-stray
+    ∙ struck-out frames mine (take 7 mixed ++ take 1 (drop 8 mixed)) (drop 11 mixed) rival-packet not-rival
 
 -- ---- THE THEOREM: the hypotheses are met
 

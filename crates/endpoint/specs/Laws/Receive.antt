@@ -38,6 +38,7 @@ use Rattle.reassembly.specs.Store.{bytesOf, takeIn, slotStart, takenOf}
 use Rattle.reassembly.specs.Receive.{Answer, Reading as Made, otherSender, direct, segment, Verdict, bad, good, frameAnswer, takeAnswer, partOfSlice, viewOf}
 use Rattle.reassembly.specs.Laws.Base.{caseB}
 use Rattle.reassembly.specs.SetUp.{Kept, peerOf}
+use Rattle.reassembly.specs.Laws.SetUp.{peer-other, peer-direct, peer-segment}
 use Rattle.reassembly.specs.declared.take.Taken.{Taken}
 use Rattle.reassembly.specs.Laws.TakeIn.{taken-row, taken-outcome, take-length, take-whole, slot-start, frame-part}
 use Rattle.reassembly.specs.declared.slot.Peer.{Peer}
@@ -431,20 +432,20 @@ module _ (c : Config) (few : c .peers ≤ mostPeers) (k : List ℕ) where
   header-kept = ip-kept (ipv4Of k)
 
   carried-whose : (p start end : ℕ) (x : Carried) → peerOf answers (byPayload c p start end k x) ≡ some p
-  carried-whose p start end (C.Refused r) = refl
-  carried-whose p start end (C.Tunnel t) = refl
-  carried-whose p start end (C.Segment g) = refl
+  carried-whose p start end (C.Refused r) = peer-direct answers p _
+  carried-whose p start end (C.Tunnel t) = peer-direct answers p _
+  carried-whose p start end (C.Segment g) = peer-segment answers p _
 
   peer-whose : (h : Ipv4) (o : Option ℕ) → peerOf answers (byPeer c h k o) ≡ o
-  peer-whose h none = refl
+  peer-whose h none = peer-other answers _
   peer-whose h (some p) = carried-whose p (h .start) (h .end) (carriageOf (h .protocol) (h .source) (h .destination) (c .port) (part k (h .start) (h .end)))
 
   ours-whose : (h : Ipv4) (b : Bool) → peerOf answers (byDestination c h k b) ≡ cond b (findPeer c (h .source)) none
   ours-whose h true = peer-whose h (findPeer c (h .source))
-  ours-whose h false = refl
+  ours-whose h false = peer-other answers _
 
   ip-whose : (x : Ipv4Read) → peerOf answers (byIpv4 c k x) ≡ bySender c x
-  ip-whose (I.Refused r) = refl
+  ip-whose (I.Refused r) = peer-other answers _
   ip-whose (I.Packet h) = ours-whose h (eqb (h .destination) (c .own))
 
   pub header-whose : peerOf answers (headerOf c k) ≡ sourceOf c k

@@ -23,6 +23,7 @@ use Rattle.reassembly.specs.Slots.{noMark, mostPeers}
 use Rattle.reassembly.specs.Receive.{segment}
 use Rattle.reassembly.specs.Mix as M
 use Rattle.reassembly.specs.Mix.{Right}
+use Rattle.reassembly.specs.Laws.MixFacts.{states-are}
 use Rattle.reassembly.specs.SetUp.{World, runs, answerOf}
 use Rattle.endpoint.specs.Config.{Config, configOf, findPeer, findBinding}
 use Rattle.endpoint.specs.Laws.Config.{Valid, set-up-valid, listed-peer-found, listed-binding-found}
@@ -198,7 +199,7 @@ module _ (mtu : ℕ) (whole : List ℕ) (packets : ℕ → List ℕ) where
               portion mtu whole k;
           mark = noMark;
         }
-    states-at k h = rw (offset-at k h, part-at k h)
+    states-at k h = rw (states-are (frameFrom count identifier) k, offset-at k h, part-at k h)
 
     piece-some : (k : ℕ) → k < count → 0 < length (portion mtu whole k)
     piece-some k h =

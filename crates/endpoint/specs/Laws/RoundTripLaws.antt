@@ -14,6 +14,8 @@ use Rattle.reassembly.specs.Receive.{Event, receive, Answer, viewOf}
 use Rattle.reassembly.specs.Mix as M
 use Rattle.reassembly.specs.Mix.{Right, InTurn, Only}
 use Rattle.reassembly.specs.Laws.InTurn.{in-turn}
+use Rattle.reassembly.specs.Laws.MixFacts.{event-given}
+use Rattle.reassembly.specs.Laws.SetUp.{answer-reply, answer-bytes, answer-in}
 use Rattle.reassembly.specs.SetUp.{Replied, receives, runs, answerOf}
 use Rattle.reassembly.specs.Claim.{Cuts}
 use Rattle.endpoint.specs.Answer.{placeOf, valuesOf}
@@ -131,7 +133,9 @@ module _ (fr : M.Frame) (order : List ℕ) (o : Order (length (fr .parts)) order
 
   labels-events : (xs : List ℕ) → map (M.event (fr ∷ [])) (labels xs) ≡ arrivals (λ k. M.partOf fr k .packet) xs
   labels-events [] = refl
-  labels-events (x ∷ xs) = ap (λ (r : List Event). receive (M.partOf fr x .packet) ∷ r) (labels-events xs)
+  labels-events (x ∷ xs) =
+      ap (λ (r : List Event). M.event (fr ∷ []) (M.given 0 x) ∷ r) (labels-events xs)
+      ∙ ap (λ (v : Event). v ∷ arrivals (λ k. M.partOf fr k .packet) xs) (event-given (fr ∷ []) 0 x)
 
 -- what holds of the only number below one
 abbrev below-one : (P : ℕ → Type 0) → P 0 → (j : ℕ) → j < 1 → P j
@@ -151,7 +155,7 @@ one-frame e p claims fr cut order o m enough before k after is =
     let right = claims .delivers (fr ∷ []) cuts (labels order)
     (in-turn answers (headerOf (configOf e)) p (fr ∷ []) (labels order) (labels-turn fr order o)) m enough
     (labels before) (labels after) 0 k (omega arith) (ap labels is ∙ labels-append before (k ∷ after)) in
-    rw (labels-segments after, labels-events fr order o before) at right
+    rw (answer-in answers Config layers (worldOf e m) (fr ∷ []) (labels before) 0 k, labels-segments after, labels-events fr order o before) at right
 
 -- ---- an answer of a run, as the call gives it
 
@@ -160,7 +164,9 @@ heardBy w k = answerOf answers Config layers (worldOf (w .endpoint) (w .mem)) k
 
 module _ (w : Left) (k : List ℕ) where
   reply-is : stepOf (w .endpoint) (w .mem) k .answer ≡ heardBy w k .reply
-  reply-is = ap (λ (s : Replied answers Config layers). s .reply) (receive-is (w .endpoint) (w .mem) k)
+  reply-is =
+      ap (λ (s : Replied answers Config layers). s .reply) (receive-is (w .endpoint) (w .mem) k)
+      ∙ sym (answer-reply answers Config layers (worldOf (w .endpoint) (w .mem)) k)
 
   mem-is : stepOf (w .endpoint) (w .mem) k .mem ≡ receives answers Config layers (worldOf (w .endpoint) (w .mem)) k .world .mem
   mem-is = ap (λ (s : Replied answers Config layers). s .world .mem) (receive-is (w .endpoint) (w .mem) k)
@@ -174,7 +180,9 @@ module _ (w : Left) (k : List ℕ) where
         answer = reply-is ∙ r;
         views =
             ap (λ (m : List ℕ). viewOf k m (placeOf place)) mem-is
-            ∙ ap (λ (a : Received). viewOf k (receives answers Config layers (worldOf (w .endpoint) (w .mem)) k .world .mem) (valuesOf a .place)) (sym r)
+            ∙ ap (λ (a : Received). viewOf k (receives answers Config layers (worldOf (w .endpoint) (w .mem)) k .world .mem) (valuesOf a .place))
+            (sym (sym (answer-reply answers Config layers (worldOf (w .endpoint) (w .mem)) k) ∙ r))
+            ∙ sym (answer-bytes answers Config layers (worldOf (w .endpoint) (w .mem)) k)
             ∙ b;
       }
 

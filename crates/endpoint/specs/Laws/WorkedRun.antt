@@ -39,35 +39,35 @@ ready-config = refl
 -- ---- the segments of peer 0's frames: each packet is sound, and states its frame's length, its offset and its identifier
 
 pub heard-a0 : headerOf listed (partOf frame-a 0 .packet) ≡ segment 0 (states frame-a 0)
-unfolding first headerOf ipv4Checks ipv4At ipv4Of be beAt part total ones pseudo segmentChecks segmentAt segmentOf carriageOf from lowest hasAddress findPeer
+unfolding first states headerOf ipv4Checks ipv4At ipv4Of be beAt part total ones pseudo segmentChecks segmentAt segmentOf carriageOf from lowest hasAddress findPeer
 heard-a0 = refl
 
 pub heard-a1 : headerOf listed (partOf frame-a 1 .packet) ≡ segment 0 (states frame-a 1)
-unfolding first headerOf ipv4Checks ipv4At ipv4Of be beAt part total ones pseudo segmentChecks segmentAt segmentOf carriageOf from lowest hasAddress findPeer
+unfolding first states headerOf ipv4Checks ipv4At ipv4Of be beAt part total ones pseudo segmentChecks segmentAt segmentOf carriageOf from lowest hasAddress findPeer
 heard-a1 = refl
 
 pub heard-b0 : headerOf listed (partOf frame-b 0 .packet) ≡ segment 0 (states frame-b 0)
-unfolding first headerOf ipv4Checks ipv4At ipv4Of be beAt part total ones pseudo segmentChecks segmentAt segmentOf carriageOf from lowest hasAddress findPeer
+unfolding first states headerOf ipv4Checks ipv4At ipv4Of be beAt part total ones pseudo segmentChecks segmentAt segmentOf carriageOf from lowest hasAddress findPeer
 heard-b0 = refl
 
 pub heard-b1 : headerOf listed (partOf frame-b 1 .packet) ≡ segment 0 (states frame-b 1)
-unfolding first headerOf ipv4Checks ipv4At ipv4Of be beAt part total ones pseudo segmentChecks segmentAt segmentOf carriageOf from lowest hasAddress findPeer
+unfolding first states headerOf ipv4Checks ipv4At ipv4Of be beAt part total ones pseudo segmentChecks segmentAt segmentOf carriageOf from lowest hasAddress findPeer
 heard-b1 = refl
 
 pub heard-c0 : headerOf listed (partOf frame-c 0 .packet) ≡ segment 0 (states frame-c 0)
-unfolding first headerOf ipv4Checks ipv4At ipv4Of be beAt part total ones pseudo segmentChecks segmentAt segmentOf carriageOf from lowest hasAddress findPeer
+unfolding first states headerOf ipv4Checks ipv4At ipv4Of be beAt part total ones pseudo segmentChecks segmentAt segmentOf carriageOf from lowest hasAddress findPeer
 heard-c0 = refl
 
 pub heard-c1 : headerOf listed (partOf frame-c 1 .packet) ≡ segment 0 (states frame-c 1)
-unfolding first headerOf ipv4Checks ipv4At ipv4Of be beAt part total ones pseudo segmentChecks segmentAt segmentOf carriageOf from lowest hasAddress findPeer
+unfolding first states headerOf ipv4Checks ipv4At ipv4Of be beAt part total ones pseudo segmentChecks segmentAt segmentOf carriageOf from lowest hasAddress findPeer
 heard-c1 = refl
 
 pub heard-d0 : headerOf listed (partOf frame-d 0 .packet) ≡ segment 0 (states frame-d 0)
-unfolding first headerOf ipv4Checks ipv4At ipv4Of be beAt part total ones pseudo segmentChecks segmentAt segmentOf carriageOf from lowest hasAddress findPeer
+unfolding first states headerOf ipv4Checks ipv4At ipv4Of be beAt part total ones pseudo segmentChecks segmentAt segmentOf carriageOf from lowest hasAddress findPeer
 heard-d0 = refl
 
 pub heard-d1 : headerOf listed (partOf frame-d 1 .packet) ≡ segment 0 (states frame-d 1)
-unfolding first headerOf ipv4Checks ipv4At ipv4Of be beAt part total ones pseudo segmentChecks segmentAt segmentOf carriageOf from lowest hasAddress findPeer
+unfolding first states headerOf ipv4Checks ipv4At ipv4Of be beAt part total ones pseudo segmentChecks segmentAt segmentOf carriageOf from lowest hasAddress findPeer
 heard-d1 = refl
 
 -- ---- what the frames are worth: Context ID 77 is binding 0, tenant 7; the other is binding 1, tenant 8
@@ -89,7 +89,7 @@ unfolding first headerOf ipv4Checks ipv4At ipv4Of be beAt part total ones udpSum
 heard-own = refl
 
 pub heard-broken : headerOf listed broken-packet ≡ direct 0 (R.Dropped (D.Format F.TcpChecksum))
-unfolding first headerOf ipv4Checks ipv4At ipv4Of be beAt part total ones pseudo segmentChecks segmentAt segmentOf carriageOf from lowest hasAddress findPeer
+unfolding first states headerOf ipv4Checks ipv4At ipv4Of be beAt part total ones pseudo segmentChecks segmentAt segmentOf carriageOf from lowest hasAddress findPeer
 heard-broken = refl
 
 -- ---- other senders' packets
@@ -113,9 +113,9 @@ heard-stray = refl
 -- ---- the run is a mixing, as far as it can be told without the packets
 
 pub mixes-frames : mixes frames mixed ≡ true
-unfolding allBelow
+unfolding allBelow mixes
 mixes-frames = refl
 
 pub turns-frames : turns 0 frames ≡ turn
-unfolding table
+unfolding table turns
 turns-frames = refl

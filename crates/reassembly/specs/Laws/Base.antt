@@ -27,7 +27,7 @@ pub clash {ℓ} : {C : Type ℓ} → _≡_ {A = ℕ} 0 1 → C
 clash e = absurd (omega arith)
 
 -- what is to be shown of each number below two
-abbrev pub below-two : (P : ℕ → Type 0) → P 0 → P 1 → (j : ℕ) → j < 2 → P j
+pub below-two : (P : ℕ → Type 0) → P 0 → P 1 → (j : ℕ) → j < 2 → P j
 below-two P a b zero l = a
 below-two P a b (suc zero) l = b
 below-two P a b (suc (suc j)) l = absurd (omega arith)

@@ -18,7 +18,7 @@ use Rattle.reassembly.specs.Laws.Store.{take-in, bytes-laws}
 use Rattle.reassembly.specs.Receive.{Answers, Verdict, Reading, otherSender, direct, segment, Event, receive, tick}
 use Rattle.reassembly.specs.Laws.Runs.{State, react, after, run, mine, own, Listed, Sim, event-sim, rows-older}
 use Rattle.reassembly.specs.Laws.Sim.{Alike, take-alike}
-use Rattle.reassembly.specs.SetUp.{keeps, Layers, Promised, World, next, runs}
+use Rattle.reassembly.specs.SetUp.{keeps, Layers, Promised, World, next, runs, receives}
 use Rattle.reassembly.specs.Laws.NonInterference.{empty-at, empty-free, start, ghostStart}
 use Rattle.reassembly.specs.Laws.Ghost.{ghost, ghost-laws}
 use Rattle.reassembly.specs.Laws.Claim.{kept-listed, at, next-at, begins}
@@ -149,6 +149,7 @@ module _ (W : Answers) (Config : Type 0) (U : Layers W Config) (p : ℕ) where
       pub inv : Inv (past ++ es) state ghosts (logRun W Config U p (world s) L es)
 
     pub reach : (es past : List Event) (s : State bytesOf) (g : State ghost) (L : Log) → Inv past s g L → Reach past es s L
+    unfolding runs next receives
     reach [] past s g L h = record { state = s; ghosts = g; is = refl; inv = subst (λ (x : List Event). Inv x s g L) (sym (append-nil past)) h }
     reach (v ∷ es) past s g L h =
         let q : next W Config U (world s) v ≡ world (after W judge bytesOf header s v) = next-at W Config U c promise p p< s g v (h .sim) in
@@ -167,6 +168,7 @@ module _ (W : Answers) (Config : Type 0) (U : Layers W Config) (p : ℕ) where
 
     pub log-snoc : (es : List Event) (w : World Config) (L : Log) (e : Event)
         → logRun W Config U p w L (es ++ (e ∷ [])) ≡ logNext W Config U p (runs W Config U w es) (logRun W Config U p w L es) e
+    unfolding runs
     log-snoc [] w L e = refl
     log-snoc (v ∷ es) w L e = log-snoc es (next W Config U w v) (logNext W Config U p w L v) e
 

@@ -18,6 +18,7 @@ use Rattle.reassembly.specs.Laws.Store.{take-in, bytes-laws}
 use Rattle.reassembly.specs.Receive.{Place, viewOf, Answers, Answer, Verdict, Reading, otherSender, direct, segment, Event, receive, tick, partOfSlice}
 use Rattle.reassembly.specs.Laws.Runs.{fill, State, react, after, run, mine, Listed, own, strike-ext, answers, answer1, Sim, event-sim, run-sim}
 use Rattle.reassembly.specs.SetUp.{Layers, isPeer, peerOf, Kept, Promised, Endpoint, World, added, setUp, Replied, receiveBy, receives, next, runs}
+use Rattle.reassembly.specs.SetUp.{handedBack}
 use Rattle.reassembly.specs.SetUp.{answerOf, from, answersAt, answersOf}
 use Rattle.reassembly.specs.Laws.NonInterference.{start, ghostStart, start-sim, non-interference}
 use Rattle.reassembly.specs.Laws.Ghost.{ghost, ghost-laws}
@@ -53,6 +54,7 @@ kept-listed W (direct q a) h = h .0
 kept-listed W (segment q g) h = h
 
 mine-peer : (W : Answers) (p : ℕ) (x : Reading W) → mine W p x ≡ isPeer p (peerOf W x)
+unfolding isPeer peerOf
 mine-peer W p (otherSender a) = refl
 mine-peer W p (direct q a) = refl
 mine-peer W p (segment q g) = refl
@@ -60,12 +62,14 @@ mine-peer W p (segment q g) = refl
 module _ (W : Answers) (Config : Type 0) (U : Layers W Config) where
   -- ---- a tick touches no memory
   still : (n : ℕ) (w : World Config) → runs W Config U w (replicate n tick) .mem ≡ w .mem
+  unfolding runs next
   still zero w = refl
   still (suc n) w = still n (next W Config U w tick)
 
   -- ---- from the answers at each segment to the count
   runs-snoc : (frames : List Frame) (before : List Item) (x : Item) (w : World Config)
       → runs W Config U w (map (event frames) (before ++ (x ∷ []))) ≡ next W Config U (runs W Config U w (map (event frames) before)) (event frames x)
+  unfolding next runs
   runs-snoc frames [] x w = refl
   runs-snoc frames (y ∷ ys) x w = runs-snoc frames ys x (next W Config U w (event frames y))
 
@@ -77,6 +81,7 @@ module _ (W : Answers) (Config : Type 0) (U : Layers W Config) where
 
   counts : (frames : List Frame) (items : List Item) (w : World Config) (f : ℕ) → Counted frames items w f → (rest before : List Item) → items ≡ before ++ rest
       → deliveries W Config U frames f (runs W Config U w (map (event frames) before)) rest ≡ cond (ltb 0 (segmentsOf f rest)) 1 0
+  unfolding deliveries delivery answerIn answerOf event
   counts frames items w f c [] before is = refl
   counts frames items w f c (x ∷ rest) before is =
       let ih : deliveries W Config U frames f (next W Config U (runs W Config U w (map (event frames) before)) (event frames x)) rest
@@ -114,6 +119,7 @@ module _ (W : Answers) (Config : Type 0) (U : Layers W Config) where
     listed k = kept-listed W (header k) (promise .kept k)
 
     from-own : (k : List ℕ) → from W Config U c p k ≡ own W header p k
+    unfolding from isPeer
     from-own k = ap (isPeer p) (sym (promise .whose k)) ∙ sym (mine-peer W p (header k))
 
     -- a state that a run comes to
@@ -123,19 +129,23 @@ module _ (W : Answers) (Config : Type 0) (U : Layers W Config) where
     said-at : (s : State bytesOf) (g : State ghost) (x : Reading W) → Kept W x → Good s g
         → (receiveBy W Config U (at s) x .reply ≡ react W judge bytesOf s x .answer .reply)
         × (receiveBy W Config U (at s) x .world ≡ at (react W judge bytesOf s x .state))
+    unfolding receiveBy
     said-at s g (otherSender a) o h = (refl, refl)
     said-at s g (direct q a) o h = (refl, refl)
     said-at s g (segment q x) o h = rw (take-in q (getD (s .peers) q noRow) (s .mem) x o (h .same .okA)) (refl, refl)
 
     -- check 2 does not apply
     receives-at : (s : State bytesOf) (g : State ghost) (k : List ℕ) → Good s g → receives W Config U (at s) k ≡ receiveBy W Config U (at s) (header k)
+    unfolding receives receiveBy
     receives-at s g k h = rw (le-ltb (length (s .mem)) 55296 (h .same .okA))
 
     pub next-at : (s : State bytesOf) (g : State ghost) (e : Event) → Good s g → next W Config U (at s) e ≡ at (after W judge bytesOf header s e)
+    unfolding next
     next-at s g tick h = refl
     next-at s g (receive k) h = ap (λ (o : Replied W Config U). o .world) (receives-at s g k h) ∙ said-at s g (header k) (promise .kept k) h .1
 
     pub runs-at : (es : List Event) (s : State bytesOf) (g : State ghost) → Good s g → runs W Config U (at s) es ≡ at (run W judge bytesOf header s es)
+    unfolding runs next
     runs-at [] s g h = refl
     runs-at (e ∷ es) s g h =
         ap (λ (w : World Config). runs W Config U w es) (next-at s g e h)
@@ -147,7 +157,7 @@ module _ (W : Answers) (Config : Type 0) (U : Layers W Config) where
 
     back : (s : State bytesOf) (g : State ghost) (k : List ℕ) (x : Reading W) → Kept W x → Good s g
         → backOf k (receiveBy W Config U (at s) x) ≡ fill W k (react W judge bytesOf s x .answer)
-    unfolding partOfSlice viewOf
+    unfolding partOfSlice viewOf receiveBy
     back s g k (otherSender a) o h = rw o
     back s g k (direct q a) o h = rw (o .1)
     back s g k (segment q x) o h =
@@ -157,6 +167,7 @@ module _ (W : Answers) (Config : Type 0) (U : Layers W Config) where
 
     heard-at : (s : State bytesOf) (g : State ghost) (k : List ℕ) → Good s g → answerOf W Config U (at s) k
         ≡ fill W k (react W judge bytesOf s (header k) .answer)
+    unfolding answerOf handedBack runs receives
     heard-at s g k h = ap (backOf k) (receives-at s g k h) ∙ back s g k (header k) (promise .kept k) h
 
     said-to-at : (s : State bytesOf) (g : State ghost) (e : Event) → Good s g → answersAt W Config U p (at s) e ≡ answer1 W header p judge bytesOf s e
@@ -164,6 +175,7 @@ module _ (W : Answers) (Config : Type 0) (U : Layers W Config) where
     said-to-at s g (receive k) h = rw (heard-at s g k h, from-own k)
 
     answers-at : (es : List Event) (s : State bytesOf) (g : State ghost) → Good s g → answersOf W Config U p (at s) es ≡ answers W header p judge bytesOf s es
+    unfolding answersOf
     answers-at [] s g h = refl
     answers-at (e ∷ es) s g h =
         cc (
@@ -187,6 +199,7 @@ module _ (W : Answers) (Config : Type 0) (U : Layers W Config) where
         → answerIn W Config U (at (start bytesOf m)) frames before f j
         ≡ react W judge bytesOf (run W judge bytesOf header (start bytesOf m) (map (event frames) before))
         (header (partOf (frameOf frames f) j .packet)) .answer
+    unfolding answerIn answerOf
     answer-at frames before f j m q x e o =
         let k : List ℕ = partOf (frameOf frames f) j .packet in
         let h = run-sim W judge bytesOf ghost bytes-laws ghost-laws header listed p p< (map (event frames) before) (start bytesOf m) ghostStart (begins m o) in
@@ -214,6 +227,7 @@ module _ (W : Answers) (Config : Type 0) (U : Layers W Config) where
     -- an answer to a packet of the peer's that is no segment does not name the memory
     not-memory : (w : World Config) (x : Reading W) → Kept W x → notSegment W p x → mine W p x ≡ true → W .place (receiveBy W Config U w x .reply) .inMemory
         ≡ false
+    unfolding receiveBy
     not-memory w (otherSender a) o n m = ap (λ (x : Place). x .inMemory) o
     not-memory w (direct q a) o n m = o .1
     not-memory w (segment q g) o n m = absurd (n (eqb-true q p m))
@@ -224,6 +238,7 @@ module _ (W : Answers) (Config : Type 0) (U : Layers W Config) where
 
     else-at : (frames : List Frame) (before : List Item) (k : List ℕ) (m : List ℕ) → 55296 ≤ length m → notSegment W p (header k) → from W Config U c p k ≡ true
         → W .place (answerOf W Config U (runs W Config U (at (start bytesOf m)) (map (event frames) before)) k .reply) .inMemory ≡ false
+    unfolding answerOf receives
     else-at frames before k m o n f =
         let s : State bytesOf = run W judge bytesOf header (start bytesOf m) (map (event frames) before) in
         let h = run-sim W judge bytesOf ghost bytes-laws ghost-laws header listed p p< (map (event frames) before) (start bytesOf m) ghostStart (begins m o) in
@@ -233,6 +248,7 @@ module _ (W : Answers) (Config : Type 0) (U : Layers W Config) where
         ∙ not-memory (at s) (header k) (promise .kept k) n (sym (from-own k) ∙ f)
 
     fixed : Claim W Config U (record { config = c; peers = emptyRows }) p
+    unfolding handedBack answerOf runs
     fixed =
         record {
           same = λ m m′ o q es es′ alike.

@@ -204,6 +204,7 @@ module _ (W : Answers) (header : List ℕ → Reading W) (judge : ℕ → Note �
 
     -- all segments given: every byte is received, and it is the frame's
     complete-yes : segmentsOf f fut ≡ 0 → allBelow (length (fr .content)) (λ i. receivedIn (pieces frames f (now ∷ past)) i) ≡ true
+    unfolding states
     complete-yes z = allBelow-intro _ _ λ i (l : i < length (fr .content)).
         let w : Lies (fr .parts) i = part-some (fr .parts) i (omega (arith, content-length)) in
         let c : times f (w .part) (now ∷ past) + times f (w .part) fut ≡ 1 =
@@ -220,6 +221,7 @@ module _ (W : Answers) (header : List ℕ → Reading W) (judge : ℕ → Note �
 
     -- some segment still to come: its first byte is not received
     complete-no : 0 < segmentsOf f fut → allBelow (length (fr .content)) (λ i. receivedIn (pieces frames f (now ∷ past)) i) ≡ false
+    unfolding states
     complete-no u =
         let w : Given f fut = some-given f fut u in
         let k : ℕ = w .seg in
@@ -236,6 +238,7 @@ module _ (W : Answers) (header : List ℕ → Reading W) (judge : ℕ → Note �
 
     -- no byte of the segment is received
     clear-way : someBelow (testedBytes (states fr j)) (λ i. receivedIn (pieces frames f past) (offsetOf (fr .parts) j + i)) ≡ false
+    unfolding states
     clear-way = someBelow-none _ _ λ i (l : i < testedBytes (states fr j)).
         caseB (receivedIn (pieces frames f past) (offsetOf (fr .parts) j + i))
         (λ e. let h : Holder frames f past (offsetOf (fr .parts) j + i) = received-by frames f past (offsetOf (fr .parts) j + i) e in
@@ -247,6 +250,7 @@ module _ (W : Answers) (header : List ℕ → Reading W) (judge : ℕ → Note �
 
     -- check 14 passes
     fits-now : Fits (states fr j)
+    unfolding states
     fits-now =
         record {
           some-byte = cut .some-byte j lj;
@@ -287,6 +291,7 @@ module _ (W : Answers) (header : List ℕ → Reading W) (judge : ℕ → Note �
         → ((t : ℕ) → t ≢ s → m′ (slotNo p t) ≡ m (slotNo p t))
         → v ≡ slotOf p frames f (now ∷ past) → note ≡ notes frames f (now ∷ past)
         → Step (finish ghost p s (set row s v) m′ (states fr j) note)
+    unfolding states
     finish-step s row m m′ v note ls h others mine st left vs nt =
         caseB (ltb 0 (segmentsOf f fut))
         (λ e. let u : 0 < segmentsOf f fut = ltb-true 0 (segmentsOf f fut) e in
@@ -319,6 +324,7 @@ module _ (W : Answers) (header : List ℕ → Reading W) (judge : ℕ → Note �
     -- a pending frame: its slot is found
     find-old : (row : List Slot) (m : ℕ → List Piece) (h : Seats p frames past (now ∷ fut) row m) (o : Seat p frames past row m f)
         → chosen row (states fr j) ≡ old (o .at)
+    unfolding states
     find-old row m h o =
         let on : bears (fr .identifier) (getD row (o .at) free) ≡ true = bears-is (fr .identifier) (getD row (o .at) free) (rw (o .slot)) (rw (o .slot)) in
         caseO (first (bears (fr .identifier)) row)
@@ -332,7 +338,7 @@ module _ (W : Answers) (header : List ℕ → Reading W) (judge : ℕ → Note �
 
     take-old : (row : List Slot) (m : ℕ → List Piece) → Seats p frames past (now ∷ fut) row m → 0 < segmentsOf f past
         → Step (placed ghost p row m (states fr j) (chosen row (states fr j)))
-    unfolding slotNo
+    unfolding slotNo states
     take-old row m h b =
         let o : Seat p frames past row m f = h .seat f lf b (rw (eq-eqb f f refl) (omega arith)) in
         let s : ℕ = o .at in
@@ -393,7 +399,7 @@ module _ (W : Answers) (header : List ℕ → Reading W) (judge : ℕ → Note �
           absurd (omega (arith, mix .four (reverse past) now fut (split-here past now fut is)))
 
       take-fresh : Step (placed ghost p row m (states fr j) (chosen row (states fr j)))
-      unfolding slotNo
+      unfolding slotNo states
       take-fresh =
           caseO (first isFree row)
           (λ n. absurd (not-full n))

@@ -77,11 +77,12 @@ module _ (p : ℕ) (row : Peer) (m : List ℕ) (g : Seg) where
 
 -- byte i of the frame in a slot, where it lies
 pub frame-byte : (m : List ℕ) (p s n i : ℕ) → i < n → getD (frameIn bytesOf m (slotNo p s) n) i 0 ≡ getD m (frameAt p s + i) 0
-unfolding frameIn byteAt slotStart slotNo
-frame-byte m p s n i l = getD-table n (λ i. getD m ((slotNo p s) * 1728 + i) 0) 0 i l
+unfolding frameIn byteAt slotStart slotNo frameAt
+frame-byte m p s n i l = getD-table n (λ i. getD m (slotNo p s * 1728 + i) 0) 0 i l
 
 module _ (W : Answers) (Config : Type 0) (U : Layers W Config) where
   pub runs-snoc : (es : List Event) (w : World Config) (e : Event) → runs W Config U w (es ++ (e ∷ [])) ≡ next W Config U (runs W Config U w es) e
+  unfolding next runs
   runs-snoc [] w e = refl
   runs-snoc (v ∷ es) w e = runs-snoc es (next W Config U w v) e
 
@@ -141,6 +142,7 @@ module _ (W : Answers) (Config : Type 0) (U : Layers W Config) (p : ℕ) (p< : p
 
   run-stand : (es past : List Event) (s : State bytesOf) (g : State ghost) (L : Log) (C : ℕ → ℕ) → Holding past s g L
       → Stand (rowIn s .slots) (told-of L C) → StandAfter (at s) L C es
+  unfolding runs next
   run-stand [] past s g L C h st = st
   run-stand (v ∷ es) past s g L C h st =
       let q : next W Config U (at s) v ≡ at (after W judge bytesOf header s v) = next-at W Config U c promise p p< s g v (h .sim) in
@@ -150,6 +152,7 @@ module _ (W : Answers) (Config : Type 0) (U : Layers W Config) (p : ℕ) (p< : p
 
   clock-snoc : (es : List Event) (w : World Config) (C : ℕ → ℕ) (e : Event)
       → clockRun W Config U p w C (es ++ (e ∷ [])) ≡ clockNext W Config U p (runs W Config U w es) (clockRun W Config U p w C es) e
+  unfolding runs
   clock-snoc [] w C e = refl
   clock-snoc (v ∷ es) w C e = clock-snoc es (next W Config U w v) (clockNext W Config U p w C v) e
 
@@ -209,6 +212,7 @@ module _ (W : Answers) (Config : Type 0) (U : Layers W Config) (p : ℕ) (p< : p
     in-bytes = in-memory W Config U p p< c promise past s g L h k x e
 
     left : receives W Config U (at s) k .world .mem ≡ takeSegment bytesOf p (rowIn s) (s .mem) x .mem
+    unfolding receives receiveBy
     left = rw (le-ltb (length (s .mem)) 55296 (h .sim .same .okA), e) (ap (λ (o : Effect bytesOf). o .mem) in-bytes)
 
     refused-left : (r : Rejection) → outcome ≡ Rejected r → Unchanged before behind (s .mem) (receives W Config U (at s) k .world .mem)
@@ -351,6 +355,7 @@ module _ (W : Answers) (Config : Type 0) (U : Layers W Config) (p : ℕ) (p< : p
       → Ruled p g (historyOf W Config U p (begun m) es) (historyOf W Config U p (begun m) (es ++ (receive k ∷ [])))
       (taking W Config U p (runs W Config U (begun m) es) g .outcome)
       (runs W Config U (begun m) es .mem) (runs W Config U (begun m) (es ++ (receive k ∷ [])) .mem)
+  unfolding runs next
   ruled-from m o es k g e f =
       let r : Reach W Config U p p< c promise [] es (start bytesOf m) (λ t. []) = reached W Config U p p< c promise m o es in
       let st : Stand (rowIn (r .state) .slots) (historyOf W Config U p (begun m) es) =
@@ -367,6 +372,7 @@ module _ (W : Answers) (Config : Type 0) (U : Layers W Config) (p : ℕ) (p< : p
       → Fourteen (historyOf W Config U p (begun m) es) (historyOf W Config U p (begun m) (es ++ (receive k ∷ [])))
       (taking W Config U p (runs W Config U (begun m) es) g .outcome)
       (runs W Config U (begun m) es .mem) (runs W Config U (begun m) (es ++ (receive k ∷ [])) .mem)
+  unfolding runs next
   fourteen-from m o es k g e f =
       let r : Reach W Config U p p< c promise [] es (start bytesOf m) (λ t. []) = reached W Config U p p< c promise m o es in
       let st : Stand (rowIn (r .state) .slots) (historyOf W Config U p (begun m) es) =
@@ -387,6 +393,7 @@ module _ (W : Answers) (Config : Type 0) (U : Layers W Config) (p : ℕ) (p< : p
   seen-left s L C (segment q g) n = caseB (eqb q p) (λ e. absurd (n g (ap (λ (y : ℕ). segment y g) (eqb-true q p e)))) (λ e. rw e (refl, refl))
 
   said-left : (s : State bytesOf) (x : Reading W) → ((q : ℕ) (g : Seg) → x ≡ segment q g → ⊥) → receiveBy W Config U (at s) x .world .mem ≡ s .mem
+  unfolding receiveBy
   said-left s (otherSender a) n = refl
   said-left s (direct q a) n = refl
   said-left s (segment q g) n = absurd (n q g refl)
@@ -407,6 +414,7 @@ module _ (W : Answers) (Config : Type 0) (U : Layers W Config) (p : ℕ) (p< : p
 
   memory-left : (m : List ℕ) → 55296 ≤ length m → (es : List Event) (k : List ℕ) → ((q : ℕ) (g : Seg) → header k ≡ segment q g → ⊥)
       → runs W Config U (begun m) (es ++ (receive k ∷ [])) .mem ≡ runs W Config U (begun m) es .mem
+  unfolding receives next
   memory-left m o es k n =
       let r : Reach W Config U p p< c promise [] es (start bytesOf m) (λ t. []) = reached W Config U p p< c promise m o es in
       let left : receives W Config U (runs W Config U (begun m) es) k .world .mem ≡ runs W Config U (begun m) es .mem =
@@ -417,11 +425,13 @@ module _ (W : Answers) (Config : Type 0) (U : Layers W Config) (p : ℕ) (p< : p
       → receives W Config U (runs W Config U (begun m) es) k .reply
       ≡ takeAnswer W judge bytesOf p g (taking W Config U p (runs W Config U (begun m) es) g)
       (taking W Config U p (runs W Config U (begun m) es) g .outcome) .reply
+  unfolding receives receiveBy
   answered-from m o es k g e =
       let r : Reach W Config U p p< c promise [] es (start bytesOf m) (λ t. []) = reached W Config U p p< c promise m o es in
       rw (r .is) (rw (le-ltb (length (r .state .mem)) 55296 (r .inv .sim .same .okA), e) refl)
 
   every-from : EveryRun W Config U p (record { config = c; peers = emptyRows })
+  unfolding next
   every-from =
       record {
         begins = λ m s. refl;

@@ -86,20 +86,24 @@ complete-is false s t e = not-complete Pending s refl (sym e)
 module _ (W : Answers) (Config : Type 0) (U : Layers W Config) where
   said-keeps : (w : World Config) (x : Reading W)
       → (receiveBy W Config U w x .world .ends .config ≡ w .ends .config) × (length (receiveBy W Config U w x .world .mem) ≡ length (w .mem))
+  unfolding receiveBy
   said-keeps w (otherSender a) = (refl, refl)
   said-keeps w (direct q a) = (refl, refl)
   said-keeps w (segment q g) = (refl, take-length q (getD (w .ends .peers) (rowOf q) noRow) (w .mem) g)
 
   receive-keeps : (w : World Config) (k : List ℕ)
       → (receives W Config U w k .world .ends .config ≡ w .ends .config) × (length (receives W Config U w k .world .mem) ≡ length (w .mem))
+  unfolding receives receiveBy
   receive-keeps w k = caseB (ltb (length (w .mem)) 55296) (λ b. rw b (refl, refl)) (λ b. rw b (said-keeps w (U .header (w .ends .config) k)))
 
   next-keeps : (w : World Config) (e : Event) → (next W Config U w e .ends .config ≡ w .ends .config) × (length (next W Config U w e .mem) ≡ length (w .mem))
+  unfolding next
   next-keeps w tick = (refl, refl)
   next-keeps w (receive k) = receive-keeps w k
 
   runs-keeps : (es : List Event) (w : World Config)
       → (runs W Config U w es .ends .config ≡ w .ends .config) × (length (runs W Config U w es .mem) ≡ length (w .mem))
+  unfolding runs next
   runs-keeps [] w = (refl, refl)
   runs-keeps (v ∷ es) w =
       let n = next-keeps w v in
@@ -109,6 +113,7 @@ module _ (W : Answers) (Config : Type 0) (U : Layers W Config) where
   -- the memory that a segment leaves is the one that taking it leaves
   segment-memory : (p : ℕ) (w : World Config) (k : List ℕ) (g : Seg) → 55296 ≤ length (w .mem) → U .header (w .ends .config) k ≡ segment p g
       → receives W Config U w k .world .mem ≡ taking W Config U p w g .mem
+  unfolding receives receiveBy
   segment-memory p w k g o e = rw (le-ltb (length (w .mem)) 55296 o, e) refl
 
 module _ (W : Answers) (Config : Type 0) (U : Layers W Config) (p : ℕ) (e : Endpoint Config) (every : EveryRun W Config U p e) (m : List ℕ)
@@ -129,6 +134,7 @@ module _ (W : Answers) (Config : Type 0) (U : Layers W Config) (p : ℕ) (e : En
   frameTaken s = frameIn bytesOf (effect .mem) (slotNo p s) (g .frame-length)
 
   same-memory : runs W Config U world (es ++ (receive k ∷ [])) .mem ≡ effect .mem
+  unfolding next
   same-memory =
       let r = runs-keeps W Config U es world in
       ap (λ (w : World Config). w .mem) (runs-snoc W Config U es world (receive k))

@@ -15,9 +15,28 @@ use Rattle.reassembly.specs.Laws.Ghost.{Piece, covers, receivedIn, byteI
 use Rattle.reassembly.specs.Slots.{Note, noNote}
 use Rattle.reassembly.specs.Laws.Slots.{noted-swap}
 use Rattle.reassembly.specs.Take.{noteAfter}
-use Rattle.reassembly.specs.Mix.{Frame, joined, offsetOf, partOf, states, noteTo, frameNote, Item, given, other, frameOf, times, timesItem, segmentsOf}
+use Rattle.reassembly.specs.Mix.{Frame, joined, offsetOf, partOf, states, noteTo, frameNote, Item, given, other, frameOf, event, times, timesItem}
+use Rattle.reassembly.specs.Mix.{segmentsOf}
 use Rattle.reassembly.specs.Mix.{ofItem, ticks, tickItem, howMany}
 use Rattle.reassembly.specs.Laws.CutFacts.{size, part-byte, part-differ}
+
+-- ---- what the crates above know of an item and of a part
+
+pub event-given : (frames : List Frame) (f j : ℕ) → event frames (given f j) ≡ receive (partOf (frameOf frames f) j .packet)
+unfolding event
+event-given frames f j = refl
+
+pub states-are : (f : Frame) (j : ℕ)
+    → states f j
+    ≡ record {
+      identifier = f .identifier;
+      frame-length = length (f .content);
+      offset = offsetOf (f .parts) j;
+      bytes = partOf f j .bytes;
+      mark = partOf f j .mark;
+    }
+unfolding states
+states-are f j = refl
 
 -- ---- counting
 
@@ -151,6 +170,7 @@ module _ (frames : List Frame) (f : ℕ) where
   -- and it is the frame's byte
   pub right-byte : (past : List Item) (i : ℕ) → ((j : ℕ) → 0 < times f j past → j < length (frameOf frames f .parts)) → receivedIn (pieces past) i ≡ true
       → byteIn (pieces past) i ≡ getD (joined (frameOf frames f .parts)) i 0
+  unfolding states
   right-byte [] i v e = clash (cc)
   right-byte (given g j ∷ past) i v e =
       caseB (eqb g f)
@@ -183,6 +203,7 @@ module _ (frames : List Frame) (f : ℕ) where
   pull : (t : ℕ → Bool) (k : ℕ) (past : List Item) → t k ≡ true → times f k past ≡ 1
       → ((j : ℕ) → 0 < times f j past → j ≢ k → offsetOf (frameOf frames f .parts) k ≢ offsetOf (frameOf frames f .parts) j)
       → notesIf t past ≡ noteAfter (notesIf (λ j. t j && not (eqb j k)) past) (states (frameOf frames f) k)
+  unfolding states
   pull t k [] tk one d = absurd (omega arith)
   pull t k (given g j ∷ past) tk one d =
       caseB (eqb g f)

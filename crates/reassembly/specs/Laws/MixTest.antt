@@ -57,7 +57,7 @@ module _ (frames : List Frame) where
   abbrev pub onceAll : List Item → Bool
   onceAll items = allBelow (length frames) (λ f. allBelow (length (frameOf frames f .parts)) (λ j. eqb (times f j items) 1))
 
-  abbrev pub mixes : List Item → Bool
+  unfoldable pub mixes : List Item → Bool
   mixes items = everywhere labelled [] items && (onceAll items && (everywhere apartAt [] items && (everywhere fourAt [] items && everywhere soonAt [] items)))
 
   unlabelled : (f j : ℕ) → isSegment frames f j ≡ false → (xs before : List Item) → everywhere labelled before xs ≡ true → times f j xs ≡ 0
@@ -80,6 +80,7 @@ module _ (frames : List Frame) where
 
   pub mixing : (W : Answers) (header : List ℕ → Reading W) (p : ℕ) (items : List Item) → mixes items ≡ true → AllFree W header p items
       → Mixing W header p frames items
+  unfolding mixes
   mixing W header p items t free =
       let t₁ = and-r (everywhere labelled [] items) _ t in
       let t₂ = and-r (onceAll items) _ t₁ in

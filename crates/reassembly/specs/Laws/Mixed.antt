@@ -51,6 +51,7 @@ module _ (W : Answers) (header : List ℕ → Reading W) (judge : ℕ → Note �
 
   item-step : (past fut : List Item) (x : Item) (e : State ghost) → Inv past (x ∷ fut) e
       → Inv (x ∷ past) fut (run W judge ghost header e (cond (keeps (own W header p) (event frames x)) (event frames x ∷ []) []))
+  unfolding event
   item-step past fut (given f j) e h =
       let r = reads past fut f j (h .is) in
       let o : Effect ghost = takeSegment ghost p (getD (e .peers) p noRow) (e .mem) (states (frameOf frames f) j) in
@@ -84,7 +85,7 @@ module _ (W : Answers) (header : List ℕ → Reading W) (judge : ℕ → Note �
       → Right W p (frameOf frames f) (cuts f lf′ .verdict) (segmentsOf f after′)
       (react W judge ghost (run W judge ghost header e (strike (own W header p) (map (event frames) before)))
       (header (partOf (frameOf frames f) j .packet)) .answer)
-  unfolding frameAnswer slotNo takeAnswer
+  unfolding frameAnswer slotNo takeAnswer strike states
   ghost-right [] past after′ f j lf′ e h =
       let s = step past after′ f j e h in
       let o : Effect ghost = takeSegment ghost p (getD (e .peers) p noRow) (e .mem) (states (frameOf frames f) j) in

@@ -18,7 +18,7 @@ use Rattle.reassembly.specs.Laws.MixFacts.{times-append, of-append}
 abbrev pub block : ℕ → ℕ → List Item
 block f n = table n (λ j. given f j)
 
-abbrev pub turns : ℕ → List Frame → List Item
+unfoldable pub turns : ℕ → List Frame → List Item
 turns lo [] = []
 turns lo (fr ∷ frs) = block lo (length (fr .parts)) ++ turns (suc lo) frs
 
@@ -42,6 +42,7 @@ block-times g (suc n) f j =
 
 turns-times : (frs : List Frame) (lo f j : ℕ) → lo ≤ f
     → times f j (turns lo frs) ≡ cond (ltb (f - lo) (length frs) && ltb j (length (getD frs (f - lo) noFrame .parts))) 1 0
+unfolding turns
 turns-times [] lo f j l = rw (le-ltb (f - lo) 0 (omega arith))
 turns-times (fr ∷ frs) lo f j l =
     times-append f j (block lo (length (fr .parts))) (turns (suc lo) frs)
@@ -105,6 +106,7 @@ rising-block lo zero xs r = r
 rising-block lo (suc n) xs r = rw append-assoc (rising-block lo n (given lo n ∷ xs) (omega arith, r))
 
 rising-turns : (lo : ℕ) (frs : List Frame) → Rising lo (turns lo frs)
+unfolding turns
 rising-turns lo [] = tt
 rising-turns lo (fr ∷ frs) = rising-block lo (length (fr .parts)) (turns (suc lo) frs)
     (rising-weaken lo (suc lo) (turns (suc lo) frs) (omega arith) (rising-turns (suc lo) frs))

@@ -35,13 +35,13 @@ unfolding bitAt isOn
 zero-bit m b i e = rw (e, zero-div (2 ^ (i % 8)))
 
 bit-is : (m : List ℕ) (b i : ℕ) → bitOf m b i ≡ bitAt m b i
-unfolding bitAt isOn
+unfolding bitAt isOn bitOf
 bit-is m b i = refl
 
 module _ (p s : ℕ) (p< : p < mostPeers) (s< : s < mostSlots) (g : Seg) (f : Fits g) where
   -- a further segment of a frame pending
   pub touches-further : (m : List ℕ) → 55296 ≤ length m → Touches p s false g m (putAt m (slotNo p s) (g .offset) (g .bytes))
-  unfolding putAt slotStart mapStart slotNo
+  unfolding putAt slotStart mapStart slotNo frameAt mapAt
   touches-further m o =
       let k : ℕ = slotNo p s in
       let z : g .frame-length ≤ 1532 = f .most in
@@ -71,7 +71,7 @@ module _ (p s : ℕ) (p< : p < mostPeers) (s< : s < mostSlots) (g : Seg) (f : Fi
 
   -- the first segment of a new frame
   pub touches-opens : (m : List ℕ) → 55296 ≤ length m → Touches p s true g m (putAt (clearAt m (slotNo p s)) (slotNo p s) (g .offset) (g .bytes))
-  unfolding clearAt slotStart mapStart slotNo
+  unfolding clearAt slotStart mapStart slotNo mapAt
   touches-opens m o =
       let z : g .frame-length ≤ 1532 = f .most in
       let i₀ : g .offset + length (g .bytes) ≤ g .frame-length = f .inside in

@@ -53,6 +53,7 @@ module _ (W : Answers) where
       run e (ev ∷ evs) = run (after e ev) evs
 
 pub strike-ext : (own own′ : List ℕ → Bool) → ((k : List ℕ) → own k ≡ own′ k) → (es : List Event) → strike own es ≡ strike own′ es
+unfolding strike
 strike-ext own own′ h [] = refl
 strike-ext own own′ h (tick ∷ es) = ap (λ (x : List Event). tick ∷ x) (strike-ext own own′ h es)
 strike-ext own own′ h (receive k ∷ es) = cc (h k, strike-ext own own′ h es)
@@ -225,6 +226,7 @@ module _ (W : Answers) (judge : ℕ → Note → List ℕ → Verdict W) (A B : 
 
   pub run-sim : (es : List Event) (e : State A) (g : State B) → Sim A B p e g
       → Sim A B p (run W judge A header e es) (run W judge B header g (strike (own W header p) es))
+  unfolding strike
   run-sim [] e g h = h
   run-sim (ev ∷ es) e g h =
       caseB (keeps (own W header p) ev)
@@ -234,6 +236,7 @@ module _ (W : Answers) (judge : ℕ → Note → List ℕ → Verdict W) (A B : 
   -- the peer's answers are those of the run of its own packets and the ticks
   pub answers-sim : (es : List Event) (e : State A) (g : State B) → Sim A B p e g
       → answers W header p judge A e es ≡ answers W header p judge B g (strike (own W header p) es)
+  unfolding strike
   answers-sim [] e g h = refl
   answers-sim (tick ∷ es) e g h = answers-sim es _ _ (tick-sim e g h)
   answers-sim (receive k ∷ es) e g h =

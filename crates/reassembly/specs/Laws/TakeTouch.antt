@@ -27,7 +27,7 @@ pub record Completes (p s : ℕ) (g : Seg) (row row′ : List Slot) (m m′ : Li
 
 -- every byte of the frame is received: its bits are set
 all-set : (p s n : ℕ) (m : List ℕ) → complete bytesOf m (slotNo p s) n ≡ true → (i : ℕ) → i < n → bitOf m (mapAt p s) i ≡ true
-unfolding complete receivedAt mapStart bitAt isOn slotNo
+unfolding complete receivedAt mapStart bitAt isOn slotNo bitOf mapAt
 all-set p s n m e i l = allBelow-at n (λ j. receivedAt m (slotNo p s) j) e i l
 
 module _ (p : ℕ) (row : List Slot) (m : List ℕ) (g : Seg) where

@@ -22,7 +22,7 @@ use Rattle.reassembly.specs.Laws.Runs.{answers}
 use Rattle.reassembly.specs.Laws.NonInterference.{start, ghostStart}
 use Rattle.reassembly.specs.Laws.Ghost.{ghost}
 use Rattle.reassembly.specs.Mix.{Part, Frame, partOf, states, frameOf, Cut, Item, given, other, Mixing}
-use Rattle.reassembly.specs.Laws.MixTest.{mixing}
+use Rattle.reassembly.specs.Laws.MixTest.{mixing, mixes}
 use Rattle.reassembly.specs.SetUp.{Layers, peerOf, Kept, Promised, Endpoint, setUp}
 use Rattle.reassembly.specs.Claim.{deliveries, Claim}
 use Rattle.reassembly.specs.Laws.Claim.{claim}
@@ -123,6 +123,7 @@ abbrev toyLayers : Layers toyAnswers (Unit {0})
 toyLayers = record { header = λ c k. toy k; judge = λ c p t f. toyJudge p t f; source = λ c k. toySource k }
 
 toy-promise : (c : Unit {0}) → Promised toyAnswers (Unit {0}) toyLayers c
+unfolding peerOf
 toy-promise c = record { kept = kept; whose = whose }
   where
     kept : (k : List ℕ) → Kept toyAnswers (toy k)
@@ -157,10 +158,11 @@ mixture = given 0 1 ∷ given 1 0 ∷ other tick ∷ other (receive (3 ∷ 7 ∷
     ∷ other tick ∷ []
 
 is-mixing : Mixing toyAnswers toy 2 two mixture
-unfolding allBelow
+unfolding allBelow mixes
 is-mixing = mixing two toyAnswers toy 2 mixture refl (tt, (tt, (tt, ((λ e. absurd (omega arith)), (tt, (tt, (tt, (tt, (tt, (tt, tt))))))))))
 
 cut-a : Cut toyAnswers toy toyJudge 2 frame-a
+unfolding states
 cut-a =
     record {
       verdict = 5;
@@ -173,6 +175,7 @@ cut-a =
     }
 
 cut-b : Cut toyAnswers toy toyJudge 2 frame-b
+unfolding states
 cut-b =
     record {
       verdict = 5;
