@@ -7,6 +7,8 @@ use wire::carriage::Carried;
 use wire::carriage::Tunnel;
 use wire::frame::FrameRead;
 use wire::ipv4::Ipv4Read;
+use wire::number::KIND_NVGRE;
+use wire::number::KIND_VXLAN;
 use wire::refusal::Refusal;
 use wire::segment::Segment;
 ghost use Prim.Native.Nat.{_+_, _<_};
@@ -43,10 +45,18 @@ fn segment(g: Segment) {
     text(b"\n");
 }
 
-fn tunnel(t: Tunnel) {
-    text(b"kind ");
-    decimal(t.kind as u64);
-    text(b", network ");
+fn kind(k: u8) {
+    match k {
+        KIND_VXLAN => text(b"VXLAN"),
+        KIND_NVGRE => text(b"NVGRE"),
+        _ => text(b"unknown"),
+    }
+}
+
+// A VXLAN or NVGRE packet's network. An STT segment tells none: the frame's first bytes do.
+fn network(t: Tunnel) {
+    kind(t.kind);
+    text(b" network ");
     decimal(t.network as u64);
 }
 
@@ -66,8 +76,7 @@ fn inner(at: usize, frame: &[u8]) {
     }
 }
 
-// What the IPv4 header's protocol carries. The payload `s` begins at `at` of the packet, so the sum of both, which a frame's place is taken from, is no
-// longer than a slice can be.
+// What an IPv4 payload carries. `s` begins at `at` of the packet, so both together are no longer than the packet, and below 2^64.
 fn payload(protocol: u8, source: u32, destination: u32, at: usize, s: &[u8])
     requires { ⌜ at + length (now s) < 18446744073709551616 ⌝ }
 {
@@ -76,7 +85,7 @@ fn payload(protocol: u8, source: u32, destination: u32, at: usize, s: &[u8])
         Carried::Refused(r) => refused(r),
         Carried::Segment(g) => segment(g),
         Carried::Tunnel(t) => {
-            tunnel(t);
+            network(t);
             let start = t.start;
             inner(at + start, &s[start..]);
         }

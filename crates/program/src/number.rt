@@ -15,7 +15,7 @@ pub fn fill(s: &mut [u8], seed: u64) {
     let mut i = 0;
     while i < s.len() {
         x = next(x);
-        s[i] = low8(x / 65536);
+        s[i] = low8(x / 0x10000);
         i += 1;
     }
 }

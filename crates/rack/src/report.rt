@@ -37,7 +37,7 @@ pub(crate) fn added(answer: Added) {
     text(b": ");
 }
 
-// Bytes in hexadecimal, each behind a space.
+// A byte in hexadecimal, behind a space.
 fn byte(b: u8) {
     text(b" ");
     io::print_hex(1, b as u64, 2);

@@ -97,7 +97,7 @@ fn same_place(a: Place, b: Place) -> bool {
     a.length == b.length
 }
 
-// Where the library cuts for a place: there, or, if it does not fit, the empty part at the packet's start. No good line has the third.
+// Where the library cuts for a place: at its start, or, if the place does not fit (`-`), the empty part at the packet's start. No expected line has the third.
 fn cut_for(place: Place, cut: Place) {
     let nothing = Place {
         start: 0,

@@ -1,5 +1,6 @@
 // Numbers of the record form, which are big-endian, and what an output is filled with.
 
+// One more byte behind a number; a ninth would push the first one out.
 fn shifted(value: u64, byte: u8) -> u64 {
     value % 0x100000000000000 * 256 + byte as u64
 }
@@ -26,7 +27,7 @@ pub(crate) fn low32(n: u64) -> u32 {
     (n % 0x100000000) as u32
 }
 
-// Every byte of s is this one.
+// Makes every byte this one.
 pub(crate) fn fill_same(s: &mut [u8], byte: u8) {
     let mut i = 0;
     while i < s.len() {

@@ -6,7 +6,7 @@ pub(crate) fn more(n: u64) -> u64 {
     n % 0x100000000 + 1
 }
 
-// Fills a frame with the generator's bytes, from a seed that every size and binding has to itself. Its type is 0x88B5, for experiments: it is untagged.
+// Fills a frame with the generator's bytes. The seed, 16 size + binding, is another for every size and binding. The type is 0x88B5, for experiments: no tag.
 pub(crate) fn fill_frame(frame: &mut [u8], binding: u32) {
     let size = frame.len();
     fill(frame, (size % 0x10000) as u64 * 16 + binding as u64);

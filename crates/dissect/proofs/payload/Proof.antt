@@ -25,8 +25,8 @@ segment-requires c κs = search needs
 enum-known-carried-3 : tie.Need-enum-known-carried-3
 enum-known-carried-3 c = search needs
 
-tunnel-requires : tie.Need-tunnel-requires
-tunnel-requires c κs = search needs
+network-requires : tie.Need-network-requires
+network-requires c κs = search needs
 
 add-inner : tie.Need-add-inner
 add-inner c =
@@ -68,7 +68,7 @@ payload-spec =
     enum-known-carried-2
     segment-requires
     enum-known-carried-3
-    tunnel-requires
+    network-requires
     add-inner
     sub-inner
     part-inner-start
