@@ -10,6 +10,7 @@ use Rattle.endpoint.specs.Receive.{Step, rowAt, stepOf, withRow, receiptOf}
 use Rattle.endpoint.specs.Stages.{Change, bringsSegment, untakenOf, openedBy, takenBy, deliveredBy}
 use Rattle.endpoint.specs.Laws.Receive.{open-below, nothing-taken, turn-is}
 use Rattle.endpoint.specs.Laws.Demand1.{same-row}
+use Rattle.endpoint.specs.Laws.Calls.{receipt-left}
 use Rattle.endpoint.specs.declared.config.Endpoint.{Endpoint}
 use Rattle.endpoint.specs.declared.receive.Arrival.{Arrival}
 use Rattle.endpoint.specs.declared.receive.Offer.{Offer}
@@ -41,5 +42,5 @@ module _ (e : Endpoint) (m k : List ℕ) (x : Arrival) (is : x ≡ openedBy e k 
   received-out o e′ m′ took r m″ gave =
       let same = turn-is e k m x is in (
         rw (took .0, took .1 .0, took .1 .1) at (gave .0) ∙ ap (λ (s : Step). flatOf (valuesOf (s .answer))) same,
-        (took .1 .0 ∙ ap (λ (s : Step). receiptOf e s .endpoint) same, gave .1 ∙ (took .1 .1 ∙ ap (λ (s : Step). s .mem) same)),
+        (took .1 .0 ∙ (ap (λ (s : Step). withRow e (s .peer) (s .row)) same ∙ sym (receipt-left e (stepOf e m k))), gave .1 ∙ (took .1 .1 ∙ ap (λ (s : Step). s .mem) same)),
       )
