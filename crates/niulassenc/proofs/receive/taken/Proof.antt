@@ -22,7 +22,8 @@ use ghost.Atoms.{Atoms, sem}
 use contract.Lifetimes.{Lfts, Shares}
 use contract.Monad.{Fun, fact}
 use contract.Running.{givenOf, tables, tablesOf}
-use types.Kit.{Given, Item, ‵, raw, runs, anyQ, atRet, Sq, _⊛_, ⋆, some, later, _$_, _∵_, !, qed, by, move, keep, drop, use1, use2, use3, split, join, pick}
+use types.Kit.{Given, Item, ‵, raw, prop, runs, frees, anyQ, atRet, Sq, _⊛_, ⋆, some, later, _$_, _∵_, !, qed, by, move, keep, drop, use1, use2, use3, split}
+use types.Kit.{join, pick}
 use types.Kit.{rewrite, fsplit}
 use types.Kit.{fsplit3, fjoin, fjoin3, feqL, feqI, suffices, frame, await, done}
 use types.Run.{look, look-raw, store, store-raw, init, forget, stop, hop, fld, from, load, lit, addr, bin, un, of-opd, and-then, no-more, assigns, land}
@@ -109,9 +110,13 @@ passes = parts (parts test .0) .0
 abbrev takes : Code
 takes = parts test .1
 
+-- where the row is reached
+abbrev reads : Code
+reads = parts (parts (parts (parts takes .1) .1) .1) .1
+
 -- behind the call of `take`
 abbrev stores : Code
-stores = parts (parts (parts (parts (parts (parts (parts (parts (parts takes .1) .1) .1) .1) .1) .1) .1) .1) .1
+stores = parts (parts (parts (parts (parts reads .1) .1) .1) .1) .1
 
 abbrev ty : ℕ → Ty
 ty k = tyAt (code.function .locals) k
@@ -268,6 +273,17 @@ module _ {M : Type 1} (𝓤 : URA M) (H : Heap 𝓤) (A : Atoms 𝓤) (W : Given
       abbrev holds : ℕ → ℕ → Val → List (Item 𝓤) → List (Item 𝓤)
       holds k l v Γ = ‵ (fat fullShare (ty k) l 0 v) ∷ ‵ (fdies (ty k) l) ∷ Γ
 
+      -- all locals are free: what is left is given back
+      freed : (r : Offer) (v : Val) → Is O.the-row r (v ∷ []) → (e′ : Endpoint) (zs : List ℕ) → length zs ≡ length (m .now)
+          → Took h x (p .now) (m .now) r e′ zs → Sq W (free 17 l₁₇ (free 16 l₁₆ (free 15 l₁₅ (free 14 l₁₄ (free 13 l₁₃ (free 12 l₁₂ (free 11 l₁₁ (free 10 l₁₀ (free 9 l₉ (free 8 l₈ (free 7 l₇ (free 6 l₆ (free 5 l₅ (free 4 l₄ (free 3 l₃ (free 2 l₂ (free 1 l₁ (free 0 l₀ (‵ (fobs γ (T.the-row .coded .code e′)) ∷ ‵ (fbor κe (Body (mem T.the-row) b o γ)) ∷ ‵ (flft κe qe)
+          ∷ Tokens ∷ ‵ (finally u8 (m .name) zs) ∷ ‵ OwnP ∷ []))))))))))))))))))) (frees En (prop (Post v)))
+      freed r v is e′ zs l e =
+          move ! (34 ∷ 35 ∷ []) $ free1 ! $ move ! (32 ∷ 33 ∷ []) $ free1 ! $ move ! (30 ∷ 31 ∷ []) $ free1 ! $ move ! (28 ∷ 29 ∷ []) $ free1 ! $ move ! (26
+          ∷ 27 ∷ []) $ free1 ! $ move ! (24 ∷ 25 ∷ []) $ free1 ! $ move ! (22 ∷ 23 ∷ []) $ free1 ! $ move ! (20 ∷ 21 ∷ []) $ free1 ! $ move ! (18 ∷ 19 ∷ [])
+          $ free1 ! $ move ! (16 ∷ 17 ∷ []) $ free1 ! $ move ! (14 ∷ 15 ∷ []) $ free1 ! $ move ! (12 ∷ 13 ∷ []) $ free1 ! $ move ! (10 ∷ 11 ∷ []) $ free1 !
+          $ move ! (8 ∷ 9 ∷ []) $ free1 ! $ move ! (6 ∷ 7 ∷ []) $ free1 ! $ move ! (4 ∷ 5 ∷ []) $ free1 ! $ move ! (2 ∷ 3 ∷ []) $ free1 ! $ move ! (0 ∷ 1 ∷
+          []) $ free1 ! $ free0 ! $ by ! (exits r v is e′ zs l e)
+
       -- the parameters, and the test
       abbrev Params : List (Item 𝓤) → List (Item 𝓤)
       Params Γ = holds 4 l₄ vm (holds 3 l₃ vp (holds 2 l₂ vx (holds 1 l₁ (vptr b o) (free 0 l₀ Γ))))
@@ -291,10 +307,9 @@ module _ {M : Type 1} (𝓤 : URA M) (H : Heap 𝓤) (A : Atoms 𝓤) (W : Given
           land ! (from ! (stop !)) (init ! 34 refl (EL.lawful O.the-type O′.the-laws 𝓤 H A W tt .typed r _ is .0)) $
           returns-within ! Post refl (look ! 34 refl) $ forget ! 16 refl $ forget ! 18 refl $ forget ! 26 refl $ forget ! 28 refl $ forget ! 30 refl $
           forget ! 32 refl $ forget ! 34 refl $
-          move ! (34 ∷ 35 ∷ []) $ free1 ! $ move ! (32 ∷ 33 ∷ []) $ free1 ! $ move ! (30 ∷ 31 ∷ []) $ free1 ! $ move ! (28 ∷ 29 ∷ []) $ free1 ! $ move ! (26 ∷ 27 ∷ []) $ free1 ! $ move ! (24 ∷ 25 ∷ []) $ free1 ! $ move ! (22 ∷ 23 ∷ []) $ free1 ! $ move ! (20 ∷ 21 ∷ []) $ free1 ! $ move ! (18 ∷ 19 ∷ []) $ free1 ! $ move ! (16 ∷ 17 ∷ []) $ free1 ! $ move ! (14 ∷ 15 ∷ []) $ free1 ! $ move ! (12 ∷ 13 ∷ []) $ free1 ! $ move ! (10 ∷ 11 ∷ []) $ free1 ! $ move ! (8 ∷ 9 ∷ []) $ free1 ! $ move ! (6 ∷ 7 ∷ []) $ free1 ! $ move ! (4 ∷ 5 ∷ []) $ free1 ! $ move ! (2 ∷ 3 ∷ []) $ free1 ! $ move ! (0 ∷ 1 ∷ []) $ free1 ! $ free0 ! $
-          -- [obs; the borrow; its token; packet; packet; memory; true; the other tokens]
-          move ! (5 ∷ []) $ use1 W (‵ (finally u8 (m .name) (m .now))) let-go $ keep ! (1 ∷ 2 ∷ 3 ∷ 7 ∷ 0 ∷ 4 ∷ []) $
-          by ! (exits r v′ is h (m .now) refl (untaken-out h x (p .now) (m .now) (sym brings ∙ is-false y none) r e))))))
+          move ! (41 ∷ []) $ use1 W (‵ (finally u8 (m .name) (m .now))) let-go $ keep ! (1 ∷ 2 ∷ 3 ∷ 4 ∷ 5 ∷ 6 ∷ 7 ∷ 8 ∷ 9 ∷ 10 ∷ 11 ∷ 12 ∷ 13 ∷ 14 ∷ 15 ∷
+          16 ∷ 17 ∷ 18 ∷ 19 ∷ 20 ∷ 21 ∷ 22 ∷ 23 ∷ 24 ∷ 25 ∷ 26 ∷ 27 ∷ 28 ∷ 29 ∷ 30 ∷ 31 ∷ 32 ∷ 33 ∷ 34 ∷ 35 ∷ 36 ∷ 37 ∷ 38 ∷ 39 ∷ 43 ∷ 0 ∷ 40 ∷ []) $
+          freed r v′ is h (m .now) refl (untaken-out h x (p .now) (m .now) (sym brings ∙ is-false y none) r e)))))
 
       -- the borrow is closed: the function returns
       abbrev Done : (w₇ w₈ w₉ w₁₁ w₁₂ w₁₄ w₁₅ w₁₆ w₁₇ : Val) → Changed → Endpoint → Val → List ℕ → List (Item 𝓤)
@@ -309,10 +324,11 @@ module _ {M : Type 1} (𝓤 : URA M) (H : Heap 𝓤) (A : Atoms 𝓤) (W : Given
       ends : (w₇ w₈ w₉ w₁₁ w₁₂ w₁₄ w₁₅ w₁₆ w₁₇ : Val) (r : Changed) (v : Val) (is : Is G.the-row r (v ∷ [])) (zs : List ℕ) → length zs ≡ length (m .now)
           → Gave r → Left zs → Sq W (Done w₇ w₈ w₉ w₁₁ w₁₂ w₁₄ w₁₅ w₁₆ w₁₇ r (next r v is) v zs) (runs C Λ En return (atRet En Post))
       ends w₇ w₈ w₉ w₁₁ w₁₂ w₁₄ w₁₅ w₁₆ w₁₇ r v is zs l gave left =
-          returns ! (look ! 41 refl) $ forget ! 7 refl $ forget ! 9 refl $ forget ! 11 refl $ forget ! 13 refl $ forget ! 15 refl $ forget ! 17 refl $ forget ! 19 refl $ forget ! 21 refl $ forget ! 23 refl $ forget ! 25 refl $ forget ! 27 refl $ forget ! 29 refl $ forget ! 31 refl $ forget ! 33 refl $ forget ! 35 refl $ forget ! 37 refl $ forget ! 39 refl $ forget ! 41 refl $
-          move ! (41 ∷ 42 ∷ []) $ free1 ! $ move ! (39 ∷ 40 ∷ []) $ free1 ! $ move ! (37 ∷ 38 ∷ []) $ free1 ! $ move ! (35 ∷ 36 ∷ []) $ free1 ! $ move ! (33 ∷ 34 ∷ []) $ free1 ! $ move ! (31 ∷ 32 ∷ []) $ free1 ! $ move ! (29 ∷ 30 ∷ []) $ free1 ! $ move ! (27 ∷ 28 ∷ []) $ free1 ! $ move ! (25 ∷ 26 ∷ []) $ free1 ! $ move ! (23 ∷ 24 ∷ []) $ free1 ! $ move ! (21 ∷ 22 ∷ []) $ free1 ! $ move ! (19 ∷ 20 ∷ []) $ free1 ! $ move ! (17 ∷ 18 ∷ []) $ free1 ! $ move ! (15 ∷ 16 ∷ []) $ free1 ! $ move ! (13 ∷ 14 ∷ []) $ free1 ! $ move ! (11 ∷ 12 ∷ []) $ free1 ! $ move ! (9 ∷ 10 ∷ []) $ free1 ! $ move ! (7 ∷ 8 ∷ []) $ free1 ! $ free0 ! $
-          keep ! (0 ∷ 1 ∷ 2 ∷ 4 ∷ 5 ∷ 7 ∷ []) $
-          by ! (exits (r .offer) _ (is-offer r v is) (next r v is) zs l (took r v is zs gave left))
+          returns ! (look ! 41 refl) $ keep ! (7 ∷ 8 ∷ 9 ∷ 10 ∷ 11 ∷ 12 ∷ 13 ∷ 14 ∷ 15 ∷ 16 ∷ 17 ∷ 18 ∷ 19 ∷ 20 ∷ 21 ∷ 22 ∷ 23 ∷ 24 ∷ 25 ∷ 26 ∷ 27 ∷ 28 ∷ 29
+          ∷ 30 ∷ 31 ∷ 32 ∷ 33 ∷ 34 ∷ 35 ∷ 36 ∷ 37 ∷ 38 ∷ 39 ∷ 40 ∷ 41 ∷ 42 ∷ 0 ∷ 1 ∷ 2 ∷ 4 ∷ 5 ∷ 43 ∷ []) $ forget ! 0 refl $ forget ! 2 refl $ forget ! 4
+          refl $ forget ! 6 refl $ forget ! 8 refl $ forget ! 10 refl $ forget ! 12 refl $ forget ! 14 refl $ forget ! 16 refl $ forget ! 18 refl $ forget !
+          20 refl $ forget ! 22 refl $ forget ! 24 refl $ forget ! 26 refl $ forget ! 28 refl $ forget ! 30 refl $ forget ! 32 refl $ forget ! 34 refl $
+          freed (r .offer) _ (is-offer r v is) (next r v is) zs l (took r v is zs gave left)
 
       -- `take` gave r: its row is stored
       abbrev Given-back : (w₈ w₉ w₁₁ w₁₂ w₁₄ w₁₅ : Val) → Changed → Val → List ℕ → List (Item 𝓤)
@@ -347,24 +363,20 @@ module _ {M : Type 1} (𝓤 : URA M) (H : Heap 𝓤) (A : Atoms 𝓤) (W : Given
           move ! (0 ∷ 5 ∷ 6 ∷ 7 ∷ []) $ close-ref ! tt (mem T.the-row) (next r v′ is) {b = b} {o = o} $
           ends _ _ _ _ _ _ _ _ _ r v′ is zs l gave left
 
-      takes-on : Is (MutSlice (named 2) κm u8) m (vm ∷ []) → (y : Bool) → Sq W (Tested y) (runs C Λ En takes (atRet En Post))
-      takes-on im y =
-          assigns ! (of-opd ! (load ! (from ! (fld ! refl (stop !))) (look-in ! 30 (sub ! 0 refl (whole !))))) (from ! (stop !))
-          (init ! 24 refl (tt, record { fits = peer-fits })) $
-          assigns ! (bin ! (load ! (from ! (stop !)) (look ! 24 refl)) (lit ! tt) (record { fits = offset-fits (x .peer) less })) (from ! (stop !))
-          (init ! 14 refl (tt, record { fits = offset-fits (x .peer) less })) $
-          assigns ! (addr ! (from ! (hop ! (look ! 32 refl) (fld ! {d = 512} refl (stop !))))) (from ! (stop !)) (init ! 12 refl (tt, tt)) $
-          assigns ! (bin ! (load ! (from ! (stop !)) (look ! 12 refl)) (load ! (from ! (stop !)) (look ! 14 refl)) tt) (from ! (stop !))
-          (init ! 10 refl (tt, tt)) $
-          -- the borrow is opened; the row is reached, and read
-          move ! (36 ∷ 37 ∷ 38 ∷ []) $ opens ! tt T.the-row {h = h} b o (λ vs.
-          use2 W (‵ (partAt T.the-row fullShare h b o)) (lies-in 𝓤 H A W fullShare T.the-row h b o vs) $
-          use1 W (AtRow 𝓤 H A W fullShare h (x .peer) b o was) (reaches 𝓤 H A W fullShare h (x .peer) b o less) $ split ! $ split ! $ move ! (1 ∷ []) $ split ! $
-          use1 W (some (λ (us : List Val). ‵ (cellAt fullShare (RowS .mir) us b (rowPlace o (x .peer))) ⊛ ‵ (RowS .own (into-row was) us)))
-          (lies-out 𝓤 H A W fullShare RowS (into-row was) b (rowPlace o (x .peer))) $ pick ! (λ us. split ! $
-          spelt ! R.the-row (Is R.the-row) (shows 𝓤 H A R.the-row) (LL.vals R.the-type R′.the-laws) (LL.tells R.the-type R′.the-laws) fullShare was us b
-          (rowPlace o (x .peer)) $
-          move ! (1 ∷ []) $ peeks ! R.the-row (Is R.the-row) (shows 𝓤 H A R.the-row) was (vrow ∷ []) (λ isr. move ! (1 ∷ 0 ∷ []) $
+      -- the row is reached: it is read, and goes to `take`
+      abbrev Reached : (w₈ w₉ w₁₁ : Val) → List (Item 𝓤)
+      Reached w₈ w₉ w₁₁ =
+          ‵ (cellAt fullShare (R.the-row .mir) (vrow ∷ []) b (rowPlace o (x .peer))) ∷ ‵ (R.the-row .own was (vrow ∷ []))
+          ∷ ‵ (Others 𝓤 H A W fullShare h (x .peer) b o) ∷ ‵ (Eight 𝓤 H A W fullShare h (x .peer) b o)
+          ∷ (‵ (EndpointRest 𝓤 H A W fullShare h (x .peer) b o) ⊛ raw (EndpointBack 𝓤 H A W fullShare h (x .peer) b o))
+          ∷ ‵ (fobor κe qe (Body (mem T.the-row) b o γ)) ∷ ‵ (fobs γ (T.the-row .coded .code h)) ∷ ‵ (fauth γ (T.the-row .coded .code h))
+          ∷ free 17 l₁₇ (free 16 l₁₆ (free 15 l₁₅ (free 14 l₁₄ (free 13 l₁₃ (holds 12 l₁₂ (vptr b (rowPlace o (x .peer))) (holds 11 l₁₁ w₁₁
+          (holds 10 l₁₀ (vint w64 (x .peer * 32)) (holds 9 l₉ w₉ (holds 8 l₈ w₈ (free 7 l₇ (free 6 l₆ (holds 5 l₅ (vint w64 (x .peer))
+          (Params (‵ OwnP ∷ ‵ OwnP ∷ ‵ OwnM ∷ ‵ ftrue ∷ Tokens ∷ []))))))))))))))
+
+      reads-on : (w₈ w₉ w₁₁ : Val) → Is (MutSlice (named 2) κm u8) m (vm ∷ []) → Is R.the-row was (vrow ∷ [])
+          → Sq W (Reached w₈ w₉ w₁₁) (runs C Λ En reads (atRet En Post))
+      reads-on w₈ w₉ w₁₁ im isr =
           -- [the row's cell; what it owns; the other rows; eight; the rest; the open borrow; obs; auth; _17; …; _0; …; packet; packet; memory; true; the other
           -- tokens]
           assigns ! (of-opd ! (load ! (from ! (hop ! (look ! 18 refl) (stop !))) (look-raw ! 0 refl))) (from ! (stop !))
@@ -392,7 +404,27 @@ module _ {M : Type 1} (𝓤 : URA M) (H : Heap 𝓤) (A : Atoms 𝓤) (W : Given
           -- auth; _17; …; _0; …; packet; true]
           land ! (from ! (stop !)) (init ! 32 refl (LL.lawful G.the-type G′.the-laws 𝓤 H A W .typed r _ is .0)) $ rewrite ! 32
           (λ (u : Val). ‵ (fat fullShare G′.mir l₇ 0 u)) (ap only (LL.tells G.the-type G′.the-laws r _ is)) refl $
-          stores-on _ _ _ _ _ _ r v′ is (zs .1 .1 .1 .0) l gave left))))))))))
+          stores-on _ _ _ _ _ _ r v′ is (zs .1 .1 .1 .0) l gave left)))))))
+
+      takes-on : Is (MutSlice (named 2) κm u8) m (vm ∷ []) → (y : Bool) → Sq W (Tested y) (runs C Λ En takes (atRet En Post))
+      takes-on im y =
+          assigns ! (of-opd ! (load ! (from ! (fld ! refl (stop !))) (look-in ! 30 (sub ! 0 refl (whole !))))) (from ! (stop !))
+          (init ! 24 refl (tt, record { fits = peer-fits })) $
+          assigns ! (bin ! (load ! (from ! (stop !)) (look ! 24 refl)) (lit ! tt) (record { fits = offset-fits (x .peer) less })) (from ! (stop !))
+          (init ! 14 refl (tt, record { fits = offset-fits (x .peer) less })) $
+          assigns ! (addr ! (from ! (hop ! (look ! 32 refl) (fld ! {d = 512} refl (stop !))))) (from ! (stop !)) (init ! 12 refl (tt, tt)) $
+          assigns ! (bin ! (load ! (from ! (stop !)) (look ! 12 refl)) (load ! (from ! (stop !)) (look ! 14 refl)) tt) (from ! (stop !))
+          (init ! 10 refl (tt, tt)) $
+          -- the borrow is opened; the row is reached, and read
+          move ! (36 ∷ 37 ∷ 38 ∷ []) $ opens ! tt T.the-row {h = h} b o (λ vs.
+          use2 W (‵ (partAt T.the-row fullShare h b o)) (lies-in 𝓤 H A W fullShare T.the-row h b o vs) $
+          use1 W (AtRow 𝓤 H A W fullShare h (x .peer) b o was) (reaches 𝓤 H A W fullShare h (x .peer) b o less) $ split ! $ split ! $ move ! (1 ∷ []) $ split ! $
+          use1 W (some (λ (us : List Val). ‵ (cellAt fullShare (RowS .mir) us b (rowPlace o (x .peer))) ⊛ ‵ (RowS .own (into-row was) us)))
+          (lies-out 𝓤 H A W fullShare RowS (into-row was) b (rowPlace o (x .peer))) $ pick ! (λ us. split ! $
+          spelt ! R.the-row (Is R.the-row) (shows 𝓤 H A R.the-row) (LL.vals R.the-type R′.the-laws) (LL.tells R.the-type R′.the-laws) fullShare was us b
+          (rowPlace o (x .peer)) $
+          move ! (1 ∷ []) $ peeks ! R.the-row (Is R.the-row) (shows 𝓤 H A R.the-row) was (vrow ∷ []) (λ isr. move ! (1 ∷ 0 ∷ []) $
+          reads-on _ _ _ im isr)))
 
     walk : Is (ShrSlice (named 1) κp u8) p (vp ∷ []) → Is (MutSlice (named 2) κm u8) m (vm ∷ [])
         → ent 𝓤 (onEntry 𝓤 H A f.signature κs qs a at) (WpFn 𝓤 H C Λ code.function (vptr b o ∷ vx ∷ vp ∷ vm ∷ []) Post)
