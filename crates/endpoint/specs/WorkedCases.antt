@@ -116,7 +116,7 @@ cases =
 
 -- THE STATEMENT
 pub worked : map given cases ≡ map paper cases
-unfolding cases rejectionCode codeOf Checks.first total ones be beAt I.header complement udp vxlan gre nvgreChecks nvgreAt nvgreOf ipv4With outer ipv4Head packet sourcePort vxlanBody nvgreBody
-    vxlanPacket nvgrePacket stt sttFrame flagsOf tcpWith S.header pseudo part segmentHeader segmentBytes segmentBody segmentPacket allBelow first bears isFree
-    chosen isOn bitAt setBit setBits segmentsOf packetOf
+unfolding cases rejectionCode codeOf Checks.first total ones be beAt I.header complement udp vxlan gre nvgreChecks nvgreAt nvgreOf ipv4With outer ipv4Head
+    packet sourcePort vxlanBody nvgreBody vxlanPacket nvgrePacket stt sttFrame flagsOf tcpWith S.header pseudo part segmentHeader segmentBytes segmentBody
+    segmentPacket allBelow first bears isFree chosen isOn bitAt setBit setBits segmentsOf packetOf
 worked = refl

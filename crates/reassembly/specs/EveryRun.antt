@@ -103,6 +103,7 @@ module _ (W : Answers) (Config : Type 0) (U : Layers W Config) (p : ℕ) (e : En
   abbrev pub after : List ℕ → List Event → World Config
   after m es = runs W Config U (record { ends = e; mem = m }) es
 
+  -- Open: short for `historyOf` from this set-up and memory
   abbrev pub history : List ℕ → List Event → History
   history m es = historyOf W Config U p (record { ends = e; mem = m }) es
 

@@ -177,6 +177,7 @@ onceMore c t = c t + 1
 
 module _ (W : Answers) (Config : Type 0) (U : Layers W Config) (p : ℕ) where
   -- what taking peer p's segment g gives in this world
+  -- Open: short for `takeIn` with the row and the memory of a world
   abbrev pub taking : World Config → Seg → Effect bytesOf
   taking w g = takeIn p (getD (w .ends .peers) p noRow) (w .mem) g
 

@@ -22,6 +22,7 @@ pub record Frame : Type 0 where
   pub content : List ℕ
   pub parts : List Part
 
+-- Open: only data
 abbrev pub noPart : Part
 noPart = record { packet = []; bytes = []; mark = noMark }
 
@@ -29,13 +30,16 @@ abbrev pub noFrame : Frame
 noFrame = record { identifier = 0; content = []; parts = [] }
 
 -- the parts' bytes one after another; where part j begins
+-- Open: `map` and concatenation of a list that the crates above write out
 abbrev pub joined : List Part → List ℕ
 joined [] = []
 joined (x ∷ ps) = x .bytes ++ joined ps
 
+-- Open: short for the length of what is joined so far
 abbrev pub offsetOf : List Part → ℕ → ℕ
 offsetOf ps j = length (joined (take j ps))
 
+-- Open: entry j of a list
 abbrev pub partOf : Frame → ℕ → Part
 partOf f j = getD (f .parts) j noPart
 
@@ -75,6 +79,7 @@ pub data Item : Type 0 where
   other : Event → Item
 
 module _ (frames : List Frame) where
+  -- Open: entry f of a list
   abbrev pub frameOf : ℕ → Frame
   frameOf f = getD frames f noFrame
 
@@ -82,6 +87,7 @@ module _ (frames : List Frame) where
   event (given f j) = receive (partOf (frameOf f) j .packet)
   event (other e) = e
 
+  -- Open: entry j of entry f is there
   abbrev pub isSegment : ℕ → ℕ → Bool
   isSegment f j = ltb f (length frames) && ltb j (length (frameOf f .parts))
 
@@ -90,6 +96,7 @@ abbrev pub timesItem : ℕ → ℕ → Item → ℕ
 timesItem f j (given g k) = cond (eqb g f && eqb k j) 1 0
 timesItem f j (other e) = 0
 
+-- Open: a count over a list that the crates above write out
 abbrev pub times : ℕ → ℕ → List Item → ℕ
 times f j [] = 0
 times f j (x ∷ xs) = timesItem f j x + times f j xs
@@ -98,6 +105,7 @@ abbrev pub ofItem : ℕ → Item → ℕ
 ofItem f (given g k) = cond (eqb g f) 1 0
 ofItem f (other e) = 0
 
+-- Open: a count over a list that the crates above write out
 abbrev pub segmentsOf : ℕ → List Item → ℕ
 segmentsOf f [] = 0
 segmentsOf f (x ∷ xs) = ofItem f x + segmentsOf f xs

@@ -18,6 +18,7 @@ pub record Place : Type 0 where
   pub len : ℕ
 
 -- the empty place, which a refusal and answer 1 carry
+-- Open: only data
 abbrev pub nowhere : Place
 nowhere = record { inMemory = false; start = 0; len = 0 }
 
@@ -69,6 +70,7 @@ module _ (W : Answers) where
     pub reply : W .A
     pub bytes : List ℕ
 
+  -- Open: only data
   abbrev pub bare : W .A → Answer
   bare a = record { reply = a; bytes = [] }
 

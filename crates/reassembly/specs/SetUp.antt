@@ -67,6 +67,7 @@ module _ (Config Adding : Type 0) (adds : Config → Adding → Config) where
   added e (a ∷ as′) = added (record { config = adds (e .config) a; peers = e .peers }) as′
 
   -- a set-up: what a start leaves (every slot free), and any adding calls
+  -- Open: short for `added` from what a start leaves
   abbrev pub setUp : Config → List Adding → Endpoint Config
   setUp c as′ = added (record { config = c; peers = emptyRows }) as′
 

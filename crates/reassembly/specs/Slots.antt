@@ -35,6 +35,7 @@ noted n at k = n
 -- ---- slots
 
 -- a free slot: every number 0 (document 01 leaves them free)
+-- Open: only data
 abbrev pub free : Slot
 free = record { identifier = 0; «frame_length» = 0; age = 0; pending = false }
 
@@ -46,10 +47,12 @@ unfoldable pub noteOf : Slot → Note
 noteOf s = noNote
 
 -- no row: what a list of rows has past its end
+-- Open: only data
 abbrev pub noRow : Peer
 noRow = record { slots = [] }
 
 -- how many peers may be listed, and how many frames of a peer may be pending
+-- Open: a numeral
 abbrev pub mostPeers : ℕ
 mostPeers = 8
 
@@ -60,6 +63,7 @@ mostSlots = 4
 abbrev pub emptyRow : List Slot
 emptyRow = replicate mostSlots free
 
+-- Open: only data
 abbrev pub freePeer : Peer
 freePeer = record { slots = emptyRow }
 

@@ -63,6 +63,7 @@ receivedAt m k i = bitAt m (mapStart k) i
 unfoldable pub byteAt : List ℕ → ℕ → ℕ → ℕ
 byteAt m k i = getD m (slotStart k + i) 0
 
+-- Open: a record of definitions that are shut; signatures compute with its types
 abbrev pub bytesOf : Ops
 bytesOf = record { S = List ℕ; Ok = λ m. memorySize ≤ length m; received = receivedAt; byte = byteAt; clear = clearAt; put = putAt }
 

@@ -25,6 +25,7 @@ pub record Seg : Type 0 where
   pub bytes : List ℕ
   pub mark : Mark
 
+-- Open: only data: the fields of the header, and the bytes
 abbrev pub segOf : Segment → List ℕ → Seg
 segOf h bs = record { identifier = h .identifier; frame-length = h .«frame_length»; offset = h .offset; bytes = bs; mark = noMark }
 

@@ -44,6 +44,7 @@ infix 15 _otherwise_
 abbrev pub _otherwise_ : Rows → ℕ → ℕ
 rows otherwise n = first (λ m. m) rows n
 
+-- Open: short for `rows otherwise 0`
 abbrev pub numbered : Rows → ℕ
 numbered rows = rows otherwise 0
 
@@ -160,19 +161,23 @@ badFrame frame = length frame below 14 || length frame above 1514 || beAt frame 
 -- ---- THE STATEMENT
 
 -- the number of what a reader answers: a refusal's, and what is made of what was read
+-- Open: a match on `Ipv4Read`, with what the reader of the page makes of each case
 abbrev pub ipv4Number : (Ipv4 → ℕ) → Ipv4Read → ℕ
 ipv4Number f (I.Packet h) = f h
 ipv4Number f (I.Refused r) = codeOf r
 
+-- Open: a match on `Carried`, with what the reader of the page makes of each case
 abbrev pub carriedNumber : (Tunnel → ℕ) → (Segment → ℕ) → Carried → ℕ
 carriedNumber f g (C.Tunnel t) = f t
 carriedNumber f g (C.Segment s) = g s
 carriedNumber f g (C.Refused r) = codeOf r
 
+-- Open: a match on `SttRead`, with what the reader of the page makes of each case
 abbrev pub sttNumber : (ℕ → ℕ) → SttRead → ℕ
 sttNumber f (S.Header context) = f context
 sttNumber f (S.Refused r) = codeOf r
 
+-- Open: a match on `FrameRead`, with what the reader of the page makes of each case
 abbrev pub frameNumber : ℕ → FrameRead → ℕ
 frameNumber n F.Good = n
 frameNumber n (F.Refused r) = codeOf r

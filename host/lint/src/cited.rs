@@ -86,7 +86,7 @@ fn citations(modules: &Modules, scopes: &[Vec<&str>], place: Place) -> Vec<Place
 }
 
 /// Every word with the path that follows it: `T.the-row`.
-fn paths(tokens: &[Token]) -> Vec<String> {
+pub fn paths(tokens: &[Token]) -> Vec<String> {
     let mut found: Vec<String> = Vec::new();
     for (at, token) in tokens.iter().enumerate() {
         let tight = at > 0 && tokens[at - 1].end() == token.start;

@@ -66,7 +66,7 @@ fn findings(tree: &Tree) -> Vec<Finding> {
     found.extend(storeys::findings(&files));
     found.extend(layers::findings(tree, &modules));
     found.extend(edits::inapplicable(&tree.edits, &tree.sources));
-    found.extend(layers::notes(tree, &modules));
+    found.extend(layers::open(tree, &modules));
     found.extend(columns::findings(&tree.sources));
     found.sort();
     found

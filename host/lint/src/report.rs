@@ -9,25 +9,28 @@ pub enum Rule {
     Storeys,
     Layers,
     Edits,
-    /// Definitions of a lower crate that are open to every proof.
+    /// Definitions of a lower crate that are open to every proof, named above, with no reason given.
     Open,
+    /// Those that no crate above names, or whose crate is not held to it.
+    OpenUnnamed,
     Columns,
 }
 
 impl Rule {
-    pub const ALL: [Rule; 7] = [
+    pub const ALL: [Rule; 8] = [
         Rule::Imports,
         Rule::Uncited,
         Rule::Storeys,
         Rule::Layers,
         Rule::Edits,
         Rule::Open,
+        Rule::OpenUnnamed,
         Rule::Columns,
     ];
 
     /// A note is counted and refuses nothing, unless all is asked for.
     pub fn is_note(self) -> bool {
-        matches!(self, Rule::Open | Rule::Columns)
+        matches!(self, Rule::OpenUnnamed | Rule::Columns)
     }
 
     pub fn title(self) -> &'static str {
@@ -37,7 +40,8 @@ impl Rule {
             Rule::Storeys => "imports from the second storey",
             Rule::Layers => "definitions of a lower crate unfolded",
             Rule::Edits => "must-fail edits that do not apply",
-            Rule::Open => "`abbrev pub` of lower crates that are no type and no notation",
+            Rule::Open => "`abbrev pub` that crates above see through, with no reason given",
+            Rule::OpenUnnamed => "`abbrev pub` of lower crates that are no type and have no reason",
             Rule::Columns => "lines over 160 columns",
         }
     }

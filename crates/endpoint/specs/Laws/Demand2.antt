@@ -190,7 +190,8 @@ module _ (e : Endpoint) (m k : List ℕ) (enough : 55296 ≤ length m) (packet :
         → (place : Place) → takeAnswer answers (judgeOf (configOf e)) bytesOf p g (takeIn p (rowAt e p) m g) o .reply ≡ R.Delivered t place
         → viewOf k (takeIn p (rowAt e p) m g .mem) (placeOf place) ≡ frame → Completes e m k t frame
     taken-sound p g h b (O.Rejected r) q place a w =
-        let y : R.Dropped (D.Segment r) ≡ R.Delivered t place = sym (rejected-reply answers (judgeOf (configOf e)) bytesOf p g (takeIn p (rowAt e p) m g) r) ∙ a in
+        let y : R.Dropped (D.Segment r) ≡ R.Delivered t place =
+        sym (rejected-reply answers (judgeOf (configOf e)) bytesOf p g (takeIn p (rowAt e p) m g) r) ∙ a in
         let z : _≡_ {A = ℕ} 0 1 = cc in absurd (omega arith)
     taken-sound p g h b O.Pending q place a w =
         let y : R.Pending ≡ R.Delivered t place = sym (pending-reply answers (judgeOf (configOf e)) bytesOf p g (takeIn p (rowAt e p) m g)) ∙ a in

@@ -256,8 +256,8 @@ longest-good =
 
 -- the tenant that the receiver has for it
 tenant-is : getD (receiver .tenants) 0 0 ≡ 4
-unfolding first configOf from lowest hasAddress findPeer binds findBinding fresh startChecks startOf addPeerChecks withAddress addPeerOf isNetwork addBindingChecks
-    withBinding addBindingOf added addedAll setUp
+unfolding first configOf from lowest hasAddress findPeer binds findBinding fresh startChecks startOf addPeerChecks withAddress addPeerOf isNetwork
+    addBindingChecks withBinding addBindingOf added addedAll setUp
 tenant-is = refl
 
 module _ (m : List ℕ) (enough : 55296 ≤ length m) (identifier : ℕ) (fits : identifier < 256 ^ 4) where

@@ -113,8 +113,8 @@ seg0 id size at n = receive (0 ∷ id ∷ size ∷ at ∷ replicate n (id + at))
 
 bytes10 : map (λ (a : Answer toyAnswers). a .reply .code) (answers toyAnswers toy 0 toyJudge bytesOf (start bytesOf (replicate 1728 255))
     (seg0 1 32 0 8 ∷ tick ∷ seg0 1 32 8 24 ∷ seg0 1 32 0 8 ∷ [])) ≡ 1 ∷ 0 ∷ 1 ∷ []
-unfolding takeSegment chosen first bears isFree complete overlaps frameIn allBelow someBelow table isOn bitAt setBit setBits slotStart mapStart clearAt putAt frameAnswer slotNo takeAnswer
-    receivedAt byteAt older olderRow
+unfolding takeSegment chosen first bears isFree complete overlaps frameIn allBelow someBelow table isOn bitAt setBit setBits slotStart mapStart clearAt
+    putAt frameAnswer slotNo takeAnswer receivedAt byteAt older olderRow
 bytes10 = refl
 
 -- ---- the claim of the toy, and a mixing

@@ -76,6 +76,7 @@ At ((test ⇒ r) ∷ checks) zero = test ≡ true
 At ((test ⇒ r) ∷ checks) (suc n) = (test ≡ false) × At checks n
 
 -- what is then given
+-- Open: the words of the law `decided`: entry n of a list that is written out
 abbrev pub given : {R A : Type 0} → (R → A) → List (Check R) → A → ℕ → A
 given refused [] accepted n = accepted
 given refused ((test ⇒ r) ∷ checks) accepted zero = refused r

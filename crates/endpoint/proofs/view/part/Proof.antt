@@ -49,7 +49,10 @@ returns-3 c =
     let a = c .before .before .before .args in
     let fits : a .start + a .length ≤ length (a .s .now) = omega arith in
     let n : a .start + a .length - a .start ≡ a .length = omega arith in
-    record { bytes = simp (part-fits (a .s .now) (a .start) (a .length) fits, n); begins = simp (le-leb _ _ fits) (ap (λ (o : ℕ). (a .s .ptr .0, o)) (add-comm (a .start) (a .s .ptr .1))) }
+    record {
+      bytes = simp (part-fits (a .s .now) (a .start) (a .length) fits, n);
+      begins = simp (le-leb _ _ fits) (ap (λ (o : ℕ). (a .s .ptr .0, o)) (add-comm (a .start) (a .s .ptr .1)));
+    }
 
 pub part-spec : {M : Type 1} → statement M
 part-spec =

@@ -10,13 +10,19 @@ part-requires : tie.Need-part-requires
 part-requires c κs = search needs
 
 returns : tie.Need-returns
-returns c = record { bytes = c .part .ensures .bytes ∙ sym (view-memory _ _ _ (c .before .if1 .taken)); begins = simp (c .before .if1 .taken) (c .part .ensures .begins) }
+returns c = record {
+  bytes = c .part .ensures .bytes ∙ sym (view-memory _ _ _ (c .before .if1 .taken));
+  begins = simp (c .before .if1 .taken) (c .part .ensures .begins);
+}
 
 part-requires-2 : tie.Need-part-requires-2
 part-requires-2 c κs = search needs
 
 returns-2 : tie.Need-returns-2
-returns-2 c = record { bytes = c .part2 .ensures .bytes ∙ sym (view-packet _ _ _ (c .before .if1 .left)); begins = simp (c .before .if1 .left) (c .part2 .ensures .begins) }
+returns-2 c = record {
+  bytes = c .part2 .ensures .bytes ∙ sym (view-packet _ _ _ (c .before .if1 .left));
+  begins = simp (c .before .if1 .left) (c .part2 .ensures .begins);
+}
 
 pub view-one-spec : {M : Type 1} → statement M
 view-one-spec = tie.close (tie.spec part-requires returns part-requires-2 returns-2)
