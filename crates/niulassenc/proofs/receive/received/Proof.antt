@@ -51,7 +51,7 @@ use Rattle.endpoint.specs.declared.receive.Arrival.{Arrival}
 use Rattle.niulassenc.specs.declared.receive.PeerUpdate.{PeerUpdate}
 use Rattle.endpoint.specs.Receive.{Step, rowAt}
 use Rattle.endpoint.specs.Stages.{openedBy, settledBy}
-use Rattle.endpoint.specs.Laws.Demand1.{same-row}
+use Rattle.endpoint.specs.Laws.Demand1Receive.{same-row}
 use Rattle.niulassenc.specs.Receive.{outcomeOf}
 use Rattle.niulassenc.specs.Laws.Receive.{arrival-listed, settled-step}
 use Rattle.endpoint.proofs.config.Endpoint as T
