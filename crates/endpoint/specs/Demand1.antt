@@ -1,7 +1,7 @@
 -- DEMAND 1's words (document 00): the rule of each call: which numbers it answers, what it leaves, and that a refusal changes nothing, but for the one
 -- exception. `Demand1` (Demands.antt) says that every call keeps its rule, for every endpoint, memory, packet and number.
 -- Only definitions; the rules are proved in Laws/Demand1, a receive's in Laws/Demand1Receive.
-use Prim.Native.Nat.{ℕ, _+_, _-_, _<_, _≤_}
+use Prim.Native.Nat.{ℕ, _+_, _-_, _/_, _^_, _<_, _≤_}
 use mathlib.Core.Path.{_≡_}
 use mathlib.Core.Logic.{_⊎_, _≢_}
 use mathlib.Core.Bool.{Bool, true, false, cond, _||_}
@@ -112,6 +112,44 @@ pub record AddRule (e : Endpoint) (Added : AddedValues → Endpoint → Type 0) 
   pub number : addedValuesOf (r .answer) .number among (0 ∷ 18 ∷ 19 ∷ 20 ∷ []) ≡ true
   pub done : addedValuesOf (r .answer) .number ≡ 0 → Added (addedValuesOf (r .answer)) (r .endpoint)
   pub refused : addedValuesOf (r .answer) .number ≢ 0 → (r .endpoint ≡ e) × (addedValuesOf (r .answer) .entry ≡ none)
+
+-- ---- what every configuration that the calls leave keeps (document 01, "Listing and numbers")
+
+-- its first byte is 1 to 223
+abbrev pub IsAddress : ℕ → Type 0
+IsAddress address = (1 ≤ address / 2 ^ 24) × (address / 2 ^ 24 ≤ 223)
+
+-- an id of its kind: VXLAN, NVGRE, STT
+abbrev pub IsId : (kind id : ℕ) → Type 0
+IsId kind id = ((kind ≡ 1) × (id ≤ 16777215)) ⊎ (((kind ≡ 2) × ((4096 ≤ id) × (id ≤ 16777214))) ⊎ (kind ≡ 3))
+
+pub record InRange (e : Endpoint) : Type 0 where
+  pub own : IsAddress (e .own)
+  pub port : (1 ≤ e .port) × (e .port ≤ 65535)
+  pub mtu : (576 ≤ e .mtu) × (e .mtu ≤ 1600)
+
+-- after a refused start every number is 0, and nothing is ever listed
+pub record NotStarted (e : Endpoint) : Type 0 where
+  pub own : e .own ≡ 0
+  pub port : e .port ≡ 0
+  pub mtu : e .mtu ≡ 0
+  pub no-peer : e .«peer_count» ≡ 0
+  pub no-binding : e .«binding_count» ≡ 0
+
+pub record Configured (e : Endpoint) : Type 0 where
+  pub settings : InRange e ⊎ NotStarted e
+  pub peers : e .«peer_count» ≤ 8
+  pub bindings : e .«binding_count» ≤ 64
+  -- no two peers have one address, and none has our own
+  pub address : (i : ℕ) → i < e .«peer_count» → IsAddress (getD (e .addresses) i 0)
+  pub not-ours : (i : ℕ) → i < e .«peer_count» → getD (e .addresses) i 0 ≢ e .own
+  pub peer-once : (i j : ℕ) → i < e .«peer_count» → j < e .«peer_count» → getD (e .addresses) i 0 ≡ getD (e .addresses) j 0 → i ≡ j
+  -- each binding is of a listed peer, and no two agree in peer, kind and id
+  pub owner : (i : ℕ) → i < e .«binding_count» → getD (e .owners) i 0 < e .«peer_count»
+  pub id : (i : ℕ) → i < e .«binding_count» → IsId (getD (e .kinds) i 0) (getD (e .networks) i 0)
+  pub tenant : (i : ℕ) → i < e .«binding_count» → getD (e .tenants) i 0 ≤ 65535
+  pub binding-once : (i j : ℕ) → i < e .«binding_count» → j < e .«binding_count» → getD (e .owners) i 0 ≡ getD (e .owners) j 0
+      → getD (e .kinds) i 0 ≡ getD (e .kinds) j 0 → getD (e .networks) i 0 ≡ getD (e .networks) j 0 → i ≡ j
 
 -- ---- receive: 0 to 17
 

@@ -14,6 +14,7 @@ pub mod Demand1Receive
 pub mod Calls
 pub mod Wrap
 pub mod Reached
+pub mod Configured
 pub mod Demand2Writing
 pub mod RoundTripLaws
 pub mod RoundTrip
