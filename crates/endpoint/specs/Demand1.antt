@@ -129,12 +129,8 @@ pub record InRange (e : Endpoint) : Type 0 where
   pub mtu : (576 ≤ e .mtu) × (e .mtu ≤ 1600)
 
 -- after a refused start every number is 0, and nothing is ever listed
-pub record NotStarted (e : Endpoint) : Type 0 where
-  pub own : e .own ≡ 0
-  pub port : e .port ≡ 0
-  pub mtu : e .mtu ≡ 0
-  pub no-peer : e .«peer_count» ≡ 0
-  pub no-binding : e .«binding_count» ≡ 0
+abbrev pub NotStarted : Endpoint → Type 0
+NotStarted e = (e .own ≡ 0) × ((e .port ≡ 0) × ((e .mtu ≡ 0) × ((e .«peer_count» ≡ 0) × (e .«binding_count» ≡ 0))))
 
 pub record Configured (e : Endpoint) : Type 0 where
   pub settings : InRange e ⊎ NotStarted e

@@ -58,13 +58,7 @@ in-range e p =
 
 not-started : (e : Endpoint) → e ≡ fresh 0 0 0 → NotStarted e
 unfolding fresh
-not-started e q = record {
-  own = ap (λ (x : Endpoint). x .own) q;
-  port = ap (λ (x : Endpoint). x .port) q;
-  mtu = ap (λ (x : Endpoint). x .mtu) q;
-  no-peer = ap (λ (x : Endpoint). x .«peer_count») q;
-  no-binding = ap (λ (x : Endpoint). x .«binding_count») q;
-}
+not-started e q = rw q (refl, (refl, (refl, (refl, refl))))
 
 -- ---- set-ups
 
@@ -105,9 +99,7 @@ set-up-free own port mtu adds p s =
 
 of-rows : (e : Endpoint) (l : List Peer) → Configured (withRows e l) → Configured e
 of-rows e l w = record {
-  settings = either (w .settings)
-      (λ r. inl (record { own = r .own; port = r .port; mtu = r .mtu }))
-      (λ r. inr (record { own = r .own; port = r .port; mtu = r .mtu; no-peer = r .no-peer; no-binding = r .no-binding }));
+  settings = either (w .settings) (λ r. inl (record { own = r .own; port = r .port; mtu = r .mtu })) (λ r. inr r);
   peers = w .peers;
   bindings = w .bindings;
   address = w .address;
