@@ -1,22 +1,24 @@
 -- DEMAND 1's words (document 00): the rule of each call: which numbers it answers, what it leaves, and that a refusal changes nothing, but for the one
 -- exception. `Demand1` (Demands.antt) says that every call keeps its rule, for every endpoint, memory, packet and number.
--- Only definitions; the rules are proved in Laws/Demand1.
-use Prim.Native.Nat.{ℕ, _+_, _<_, _≤_}
+-- Only definitions; the rules are proved in Laws/Demand1, a receive's in Laws/Demand1Receive.
+use Prim.Native.Nat.{ℕ, _+_, _-_, _/_, _^_, _<_, _≤_}
 use mathlib.Core.Path.{_≡_}
 use mathlib.Core.Logic.{_⊎_, _≢_}
-use mathlib.Core.Bool.{Bool, true, false, _||_}
+use mathlib.Core.Bool.{Bool, true, false, cond, _||_}
 use mathlib.Core.List.{List, [], _∷_}
 use mathlib.Core.Option.{none, some}
-use lib.ListN.{length, getD, replicate}
+use lib.ListN.{length, getD, take, drop, replicate}
 use lib.Dec.{eqb}
 use Rattle.wire.specs.Bytes.{Bytes}
 use Rattle.reassembly.specs.Slots.{free, noRow}
-use Rattle.reassembly.specs.Take.{Seg}
-use Rattle.reassembly.specs.EveryRun.{mapAt, bitOf, Touches}
+use Rattle.reassembly.specs.Take.{Seg, Fits}
+use Rattle.reassembly.specs.Receive.{Place, viewOf}
+use Rattle.reassembly.specs.EveryRun.{frameAt, mapAt, bitOf, Touches}
 use Rattle.reassembly.specs.declared.slot.Slot.{Slot}
 use Rattle.endpoint.specs.Answer.{Values, startCode, AddedValues, addedValuesOf, WrapValues}
 use Rattle.endpoint.specs.Config.{configOf}
-use Rattle.endpoint.specs.Formats.{CarriesSegment}
+use Rattle.endpoint.specs.Formats.{CarriesFrame, CarriesSegment, GoodFrame}
+use Rattle.endpoint.specs.declared.answer.Target.{Target}
 use Rattle.endpoint.specs.declared.config.Endpoint.{Endpoint}
 use Rattle.endpoint.specs.declared.config.AddResult.{AddResult}
 use Rattle.endpoint.specs.declared.config.StartResult.{StartResult}
@@ -111,6 +113,40 @@ pub record AddRule (e : Endpoint) (Added : AddedValues → Endpoint → Type 0) 
   pub done : addedValuesOf (r .answer) .number ≡ 0 → Added (addedValuesOf (r .answer)) (r .endpoint)
   pub refused : addedValuesOf (r .answer) .number ≢ 0 → (r .endpoint ≡ e) × (addedValuesOf (r .answer) .entry ≡ none)
 
+-- ---- what every configuration that the calls leave keeps (document 01, "Listing and numbers")
+
+-- its first byte is 1 to 223
+abbrev pub IsAddress : ℕ → Type 0
+IsAddress address = (1 ≤ address / 2 ^ 24) × (address / 2 ^ 24 ≤ 223)
+
+-- an id of its kind: VXLAN, NVGRE, STT
+abbrev pub IsId : (kind id : ℕ) → Type 0
+IsId kind id = ((kind ≡ 1) × (id ≤ 16777215)) ⊎ (((kind ≡ 2) × ((4096 ≤ id) × (id ≤ 16777214))) ⊎ (kind ≡ 3))
+
+pub record InRange (e : Endpoint) : Type 0 where
+  pub own : IsAddress (e .own)
+  pub port : (1 ≤ e .port) × (e .port ≤ 65535)
+  pub mtu : (576 ≤ e .mtu) × (e .mtu ≤ 1600)
+
+-- after a refused start every number is 0, and nothing is ever listed
+abbrev pub NotStarted : Endpoint → Type 0
+NotStarted e = (e .own ≡ 0) × ((e .port ≡ 0) × ((e .mtu ≡ 0) × ((e .«peer_count» ≡ 0) × (e .«binding_count» ≡ 0))))
+
+pub record Configured (e : Endpoint) : Type 0 where
+  pub settings : InRange e ⊎ NotStarted e
+  pub peers : e .«peer_count» ≤ 8
+  pub bindings : e .«binding_count» ≤ 64
+  -- no two peers have one address, and none has our own
+  pub address : (i : ℕ) → i < e .«peer_count» → IsAddress (getD (e .addresses) i 0)
+  pub not-ours : (i : ℕ) → i < e .«peer_count» → getD (e .addresses) i 0 ≢ e .own
+  pub peer-once : (i j : ℕ) → i < e .«peer_count» → j < e .«peer_count» → getD (e .addresses) i 0 ≡ getD (e .addresses) j 0 → i ≡ j
+  -- each binding is of a listed peer, and no two agree in peer, kind and id
+  pub owner : (i : ℕ) → i < e .«binding_count» → getD (e .owners) i 0 < e .«peer_count»
+  pub id : (i : ℕ) → i < e .«binding_count» → IsId (getD (e .kinds) i 0) (getD (e .networks) i 0)
+  pub tenant : (i : ℕ) → i < e .«binding_count» → getD (e .tenants) i 0 ≤ 65535
+  pub binding-once : (i j : ℕ) → i < e .«binding_count» → j < e .«binding_count» → getD (e .owners) i 0 ≡ getD (e .owners) j 0
+      → getD (e .kinds) i 0 ≡ getD (e .kinds) j 0 → getD (e .networks) i 0 ≡ getD (e .networks) j 0 → i ≡ j
+
 -- ---- receive: 0 to 17
 
 -- what a refusal and answer 1 carry: no tenant, no binding, the empty place
@@ -126,29 +162,89 @@ pub record Unchanged (e : Endpoint) (m : List ℕ) (e′ : Endpoint) (m′ : Lis
   pub endpoint : e′ ≡ e
   pub memory : m′ ≡ m
 
--- THE EXCEPTION: 11, 12 or 13, on the segment that makes its STT frame complete. It is stored, and its slot is given back
-pub record FoundBad (e : Endpoint) (m packet : List ℕ) (number : ℕ) (e′ : Endpoint) (m′ : List ℕ) : Type 0 where
-  pub is : number among (11 ∷ 12 ∷ 13 ∷ []) ≡ true
-  -- the packet carries the segment g of peer p
-  pub p : ℕ
-  pub g : Seg
-  pub carried : Bytes packet → CarriesSegment (configOf e) packet p g
-  -- its bytes are at their place in slot s and their bits are set; its place and the slot's map apart, no byte of the memory changed
-  pub s : ℕ
+-- a frame with this identifier is pending in slot s of peer p
+pub record PendingIn (e : Endpoint) (p s identifier : ℕ) : Type 0 where
+  pub pending : slotAt e p s .pending ≡ true
+  pub is : slotAt e p s .identifier ≡ identifier
+
+-- the segment is the first of a new frame: none with its identifier is pending, and slot s is the lowest that is free
+pub record OpensIn (e : Endpoint) (p s : ℕ) (g : Seg) : Type 0 where
+  pub none-pending : (t : ℕ) → t < 4 → PendingIn e p t (g .identifier) → ⊥
+  pub idle : slotAt e p s .pending ≡ false
+  pub below : (t : ℕ) → t < s → slotAt e p t .pending ≡ true
+
+-- it is a further one of the frame in slot s: the lowest with its identifier, and of its length
+pub record FurtherIn (e : Endpoint) (p s : ℕ) (g : Seg) : Type 0 where
+  pub pending : PendingIn e p s (g .identifier)
+  pub below : (t : ℕ) → t < s → PendingIn e p t (g .identifier) → ⊥
+  pub size : slotAt e p s .«frame_length» ≡ g .frame-length
+
+-- A SEGMENT IS STORED: the packet carries the segment g of peer p, which passes 14 and belongs into slot s
+pub record Stored (e : Endpoint) (m packet : List ℕ) (p s : ℕ) (g : Seg) (e′ : Endpoint) (m′ : List ℕ) : Type 0 where
   pub is-peer : p < 8
   pub is-slot : s < 4
+  pub carried : Bytes packet → CarriesSegment (configOf e) packet p g
+  pub fits : Fits g
   pub new : Bool
-  pub stored : Touches p s new g m m′
-  -- the frame is complete: every byte below its length is received
-  pub complete : (i : ℕ) → i < g .frame-length → bitOf m′ (mapAt p s) i ≡ true
-  -- the slot is free; every other slot is as it came, and the configuration
-  pub freed : slotAt e′ p s .pending ≡ false
+  pub opens : new ≡ true → OpensIn e p s g
+  pub further : new ≡ false → FurtherIn e p s g
+  -- its bytes are at their place in the slot and their bits are set; its place and the slot's map apart, no byte of the memory changed
+  pub touches : Touches p s new g m m′
+  -- every other slot is as it came, and the configuration
   pub other-slots : (q t : ℕ) → (q ≢ p) ⊎ (t ≢ s) → slotAt e′ q t ≡ slotAt e q t
   pub configuration : SameConfiguration e e′
+
+-- 1: some byte of its frame is not received yet. The slot is pending with the frame's identifier and length, and with age 0 if it was free, else with its own
+-- (the two lengths say that there is such a slot: an endpoint has 4 for each of 8 peers)
+pub record NotYet (e : Endpoint) (m packet : List ℕ) (e′ : Endpoint) (m′ : List ℕ) : Type 0 where
+  pub p : ℕ
+  pub s : ℕ
+  pub g : Seg
+  pub stored : Stored e m packet p s g e′ m′
+  pub missing : (i : ℕ) × ((i < g .frame-length) × (bitOf m′ (mapAt p s) i ≡ false))
+  pub slot : p < length (e .peers) → s < length (getD (e .peers) p noRow .slots) → slotAt e′ p s
+      ≡ record { identifier = g .identifier; «frame_length» = g .frame-length; age = cond (slotAt e p s .pending) (slotAt e p s .age) 0; pending = true }
+
+-- it makes its frame complete: every byte below its length is received; and the slot is given back
+pub record Completed (e : Endpoint) (m packet : List ℕ) (p s : ℕ) (g : Seg) (e′ : Endpoint) (m′ : List ℕ) : Type 0 where
+  pub stored : Stored e m packet p s g e′ m′
+  pub complete : (i : ℕ) → i < g .frame-length → bitOf m′ (mapAt p s) i ≡ true
+  pub freed : slotAt e′ p s .pending ≡ false
+
+-- THE EXCEPTION: 11, 12 or 13, on the segment that makes its STT frame complete
+pub record FoundBad (e : Endpoint) (m packet : List ℕ) (number : ℕ) (e′ : Endpoint) (m′ : List ℕ) : Type 0 where
+  pub is : number among (11 ∷ 12 ∷ 13 ∷ []) ≡ true
+  pub p : ℕ
+  pub s : ℕ
+  pub g : Seg
+  pub completed : Completed e m packet p s g e′ m′
+
+-- 0: the frame is the bytes of the place. The packet carries it by VXLAN or NVGRE for the target, and nothing changes
+pub record FromPacket (e : Endpoint) (m packet : List ℕ) (t : Target) (place : Place) (e′ : Endpoint) (m′ : List ℕ) : Type 0 where
+  pub in-packet : place .inMemory ≡ false
+  pub carried : Bytes packet → CarriesFrame (configOf e) packet t (viewOf packet m′ place)
+  pub unchanged : Unchanged e m e′ m′
+
+-- or the packet's segment makes its STT frame complete; that lies in the memory from the slot's start on, and is good for the target
+pub record FromMemory (e : Endpoint) (m packet : List ℕ) (t : Target) (place : Place) (e′ : Endpoint) (m′ : List ℕ) : Type 0 where
+  pub p : ℕ
+  pub s : ℕ
+  pub g : Seg
+  pub completed : Completed e m packet p s g e′ m′
+  pub lies : place ≡ record { inMemory = true; start = frameAt p s + 18; len = g .frame-length - 18 }
+  pub good : Bytes m → Bytes packet → GoodFrame (configOf e) p (take (g .frame-length) (drop (frameAt p s) m′)) t (viewOf packet m′ place)
+
+pub record Delivered (e : Endpoint) (m packet : List ℕ) (v : Values) (e′ : Endpoint) (m′ : List ℕ) : Type 0 where
+  pub t : Target
+  pub tenant : v .tenant ≡ some (t .tenant)
+  pub binding : v .binding ≡ some (t .binding)
+  pub from : FromPacket e m packet t (v .place) e′ m′ ⊎ FromMemory e m packet t (v .place) e′ m′
 
 pub record ReceiveRule (e : Endpoint) (m packet : List ℕ) (v : Values) (e′ : Endpoint) (m′ : List ℕ) : Type 0 where
   pub number : v .number ≤ 17
   pub empties : v .number ≢ 0 → Empties v
+  pub delivered : v .number ≡ 0 → Delivered e m packet v e′ m′
+  pub not-yet : v .number ≡ 1 → NotYet e m packet e′ m′
   -- a refusal is every number but 0 and 1
   pub refused : v .number ≢ 0 → v .number ≢ 1 → Unchanged e m e′ m′ ⊎ FoundBad e m packet (v .number) e′ m′
   -- 11, 12 or 13 on an STT segment is always the exception

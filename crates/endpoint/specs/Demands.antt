@@ -5,6 +5,7 @@
 -- Only definitions; proved in Laws/Demands (`demand-one`, `demand-two`, `demand-three`).
 use Prim.Native.Nat.{ℕ, _^_, _<_, _≤_}
 use mathlib.Core.Path.{_≡_}
+use mathlib.Core.Bool.{false}
 use mathlib.Core.Logic.{_⊎_}
 use mathlib.Core.List.{List}
 use lib.ListN.{length}
@@ -23,7 +24,7 @@ use Rattle.endpoint.specs.Run.{Left, left, endsOf}
 use Rattle.endpoint.specs.Formats.{CarriesFrame}
 use Rattle.endpoint.specs.Reached.{Reached}
 use Rattle.endpoint.specs.Table.{Table}
-use Rattle.endpoint.specs.Demand1.{StartRule, PeerAdded, BindingAdded, AddRule, ReceiveRule, TickRule, WrapRule}
+use Rattle.endpoint.specs.Demand1.{slotAt, StartRule, PeerAdded, BindingAdded, AddRule, Configured, ReceiveRule, TickRule, WrapRule}
 use Rattle.endpoint.specs.Demand2.{Delivers, MadeUp, Packets}
 use Rattle.endpoint.specs.Demand2Writing.{Demand2Writing}
 use Rattle.endpoint.specs.RoundTrip.{segmentsFor, Wraps, Matches, RoundTrip}
@@ -47,6 +48,10 @@ pub record Demand1 : Type 0 where
       → WrapRule output (wrapValuesOf (wrapOf e binding frame segment identifier output .answer)) (wrapOf e binding frame segment identifier output .output)
   -- which number is given when: the first row of document 01's table that applies
   pub table : Table
+  -- so every set-up keeps the rules of a configuration, and has every slot free; and what comes from the calls later keeps them
+  pub set-up : (own port mtu : ℕ) (adds : List Adding) → Configured (setUp own port mtu adds)
+  pub all-free : (own port mtu : ℕ) (adds : List Adding) (p s : ℕ) → slotAt (setUp own port mtu adds) p s .pending ≡ false
+  pub reached : (e : Endpoint) → Reached e → Configured e
 
 -- ---- 2: what is carried to a tenant is exactly what was sent
 

@@ -11,9 +11,11 @@ pub mod Formats
 pub mod Demand1
 pub mod Demand3
 pub mod Demand2
+pub mod Demand1Receive
 pub mod Calls
 pub mod Wrap
 pub mod Reached
+pub mod Configured
 pub mod Demand2Writing
 pub mod RoundTripLaws
 pub mod RoundTrip

@@ -78,7 +78,7 @@ peerAt e b = getD (configOf e .addresses) (ownerAt e b) 0
 abbrev pub packetAt : Endpoint → (b : ℕ) (frame : List ℕ) (segment identifier : ℕ) → List ℕ
 packetAt e b frame segment identifier = packetOf (kindAt e b) (e .own) (peerAt e b) (e .port) (networkAt e b) (e .mtu) frame segment identifier
 
--- a binding's owner is one of the eight peers in every set-up (`Laws/Config.Valid`)
+-- a binding's owner is one of the eight peers in every set-up (`Demand1.Configured`)
 unfoldable pub wrapChecks : Endpoint → (b : ℕ) (frame : List ℕ) (segment identifier : ℕ) (output : List ℕ) → List (Check WrapRefusal)
 wrapChecks e b frame segment identifier output =
     (leb (configOf e .bindings) b ⇒ X.Binding)

@@ -11,7 +11,7 @@ use native.Mathlib.Omega.{arith}
 use lib.ListN.{length, getD, set, replicate, length-set}
 use lib.Seq.{getD-set-same, getD-set-other}
 use lib.Dec.{eqb}
-use borrow.Author.Tests.{eq-eqb, ne-eqb, le-leb, leb-false, eqb-true, eqb-false, not-false}
+use borrow.Author.Tests.{eq-eqb, ne-eqb, le-leb, ltb-false, leb-false, eqb-true, eqb-false, not-false}
 use Rattle.wire.specs.Checks.{Passed}
 use Rattle.wire.specs.Laws.Checks.{cases}
 use Rattle.reassembly.specs.Laws.Base.{caseB, either, clash}
@@ -95,6 +95,7 @@ pub record Valid (e : Endpoint) : Type 0 where
       → getD (e .kinds) i 0 ≡ getD (e .kinds) j 0 → getD (e .networks) i 0 ≡ getD (e .networks) j 0 → i ≡ j
   pub owner-listed : (i : ℕ) → i < e .«binding_count» → getD (e .owners) i 0 < e .«peer_count»
   pub network-good : (i : ℕ) → i < e .«binding_count» → isNetwork (getD (e .kinds) i 0) (getD (e .networks) i 0) ≡ true
+  pub tenant-good : (i : ℕ) → i < e .«binding_count» → getD (e .tenants) i 0 ≤ 65535
 
 fresh-valid : (own port mtu : ℕ) → Passed (startChecks own port mtu) ⊎ (fresh own port mtu ≡ fresh 0 0 0) → Valid (fresh own port mtu)
 unfolding fresh
@@ -114,6 +115,7 @@ fresh-valid own port mtu s = record {
   binding-once = λ i j a b q r s. absurd (not-suc-le-zero a);
   owner-listed = λ i a. absurd (not-suc-le-zero a);
   network-good = λ i a. absurd (not-suc-le-zero a);
+  tenant-good = λ i a. absurd (not-suc-le-zero a);
 }
 
 -- below n + 1 is n or below it
@@ -180,6 +182,7 @@ module _ (e : Endpoint) (address : ℕ) where
         binding-once = v .binding-once;
         owner-listed = λ i a. let h : getD (e .owners) i 0 < e .«peer_count» = v .owner-listed i a in omega arith;
         network-good = v .network-good;
+        tenant-good = v .tenant-good;
       }
 
 at-last : (l : List ℕ) (n x i : ℕ) → n < length l → i ≡ n → getD (set l n x) i 0 ≡ x
@@ -210,6 +213,7 @@ module _ (e : Endpoint) (peer kind network tenant : ℕ) where
       let wn : length (e .networks) ≡ mostBindings = v .networks-length in
       let wk : length (e .kinds) ≡ mostBindings = v .kinds-length in
       let wo : length (e .owners) ≡ mostBindings = v .owners-length in
+      let wt : length (e .tenants) ≡ mostBindings = v .tenants-length in
       let other = unlisted-binding v (p .1 .1 .1 .0) in
       record {
         settings = either (v .settings) (λ s. inl s) (λ q. let z : e .«peer_count» ≡ 0 = ap (λ (x : Endpoint). x .«peer_count») q in absurd (omega arith));
@@ -220,7 +224,7 @@ module _ (e : Endpoint) (peer kind network tenant : ℕ) where
         networks-length = length-set (e .networks) n network ∙ wn;
         kinds-length = length-set (e .kinds) n kind ∙ wk;
         owners-length = length-set (e .owners) n peer ∙ wo;
-        tenants-length = length-set (e .tenants) n tenant ∙ v .tenants-length;
+        tenants-length = length-set (e .tenants) n tenant ∙ wt;
         address-once = v .address-once;
         address-other = v .address-other;
         address-good = v .address-good;
@@ -243,6 +247,10 @@ module _ (e : Endpoint) (peer kind network tenant : ℕ) where
             (λ x. rw (at-last (e .kinds) n kind i (omega arith) x, at-last (e .networks) n network i (omega arith) x)
             (not-false (isNetwork kind network) (p .1 .0)))
             (λ x. rw (at-before (e .kinds) n kind i x, at-before (e .networks) n network i x) (v .network-good i x));
+        tenant-good = λ i a.
+            last i n a
+            (λ x. rw (at-last (e .tenants) n tenant i (omega arith) x) (ltb-false 65535 tenant (p .1 .1 .0)))
+            (λ x. rw (at-before (e .tenants) n tenant i x) (v .tenant-good i x));
       }
     where
       clashes : (i j : ℕ) → i < e .«binding_count» → j ≡ e .«binding_count»

@@ -31,16 +31,15 @@ use Rattle.reassembly.specs.declared.take.Outcome.the-variants as O
 use Rattle.reassembly.specs.EveryRun.{IfAndOnlyIf}
 use Rattle.endpoint.specs.Answer.{placeOf}
 use Rattle.endpoint.specs.Config.{Config, configOf, findPeer, Adding, setUp}
-use Rattle.endpoint.specs.Laws.Receive.{slot-view}
+use Rattle.endpoint.specs.Laws.Receive.{Spoken, header-spoken, slot-view}
 use Rattle.endpoint.specs.Receive.{answers, isDelivered, byPayload, byPeer, byDestination, byIpv4, headerOf, judgeOf, rowAt, stepped, stepOf, layers}
 use Rattle.endpoint.specs.Receive.{worldOf}
 use Rattle.endpoint.specs.Formats.{CarriesFrame, CarriesSegment, GoodFrame}
 use Rattle.endpoint.specs.Laws.Formats.{Lies, judge-sound, judge-complete, segment-sound, segment-complete, frame-sound, frame-complete}
 use Rattle.endpoint.specs.declared.answer.Place.{Place}
 use Rattle.endpoint.specs.declared.answer.Target.{Target}
-use Rattle.endpoint.specs.declared.answer.Drop.the-variants as D
-use Rattle.endpoint.specs.declared.answer.Received.{Received}
 use Rattle.endpoint.specs.declared.answer.Received.the-variants as R
+use Rattle.endpoint.specs.declared.answer.Drop.the-variants as D
 use Rattle.endpoint.specs.declared.config.Endpoint.{Endpoint}
 use Rattle.reassembly.specs.Laws.StoreBytes.{take-bytes}
 use Rattle.reassembly.specs.SetUp.{World, runs}
@@ -91,12 +90,12 @@ calls-length w [] = refl
 calls-length w (e ∷ es) = calls-length (called w e) es ∙ called-length w e
 
 -- a segment is a part of its packet
-abbrev SegBytes : Reading answers → Type 0
+abbrev pub SegBytes : Reading answers → Type 0
 SegBytes (otherSender a) = Unit {0}
 SegBytes (direct p a) = Unit {0}
 SegBytes (segment p g) = Bytes (g .bytes)
 
-header-bytes : (c : Config) (k : List ℕ) → Bytes k → SegBytes (headerOf c k)
+pub header-bytes : (c : Config) (k : List ℕ) → Bytes k → SegBytes (headerOf c k)
 unfolding headerOf
 header-bytes c k b = by-ip (ipv4Of k)
   where
@@ -133,40 +132,16 @@ calls-bytes w (receive k ∷ es) b h = calls-bytes (called w (receive k)) es (st
 
 -- ---- views
 
-lies-view : (k m : List ℕ) (place : Place) (frame : List ℕ) → Lies k place frame → viewOf k m (placeOf place) ≡ frame
+pub lies-view : (k m : List ℕ) (place : Place) (frame : List ℕ) → Lies k place frame → viewOf k m (placeOf place) ≡ frame
 lies-view k m place frame l =
     let size : place .start + place .length - place .start ≡ place .length = omega arith in
     view-packet k m (placeOf place) (l .in-packet)
     ∙ part-fits k (place .start) (place .length) (l .within)
     ∙ ap (λ (n : ℕ). take n (drop (place .start) k)) (sym size) ∙ sym (part-is k (place .start) (place .start + place .length)) ∙ l .bytes
 
--- ---- a stranger's packet is never delivered
-
-ours-stranger : (c : Config) (h : Ipv4) (k : List ℕ) (b : Bool) (a : Received) → byDestination c h k b ≡ otherSender a → isDelivered a ≡ false
-ours-stranger c h k false a e = let q : R.Dropped D.Destination ≡ a = cc in sym (ap isDelivered q)
-ours-stranger c h k true a e = peer-stranger (findPeer c (h .source)) e
-  where
-    carried-not : (q start end : ℕ) (x : Carried) → byPayload c q start end k x ≡ otherSender a → isDelivered a ≡ false
-    carried-not q start end (C.Refused r) e = let z : _≡_ {A = ℕ} 0 1 = cc in absurd (omega arith)
-    carried-not q start end (C.Tunnel t) e = let z : _≡_ {A = ℕ} 0 1 = cc in absurd (omega arith)
-    carried-not q start end (C.Segment g) e = let z : _≡_ {A = ℕ} 0 1 = cc in absurd (omega arith)
-
-    peer-stranger : (o : Option ℕ) → byPeer c h k o ≡ otherSender a → isDelivered a ≡ false
-    peer-stranger none e = let q : R.Dropped D.Peer ≡ a = cc in sym (ap isDelivered q)
-    peer-stranger (some q) e = carried-not q (h .start) (h .end)
-        (carriageOf (h .protocol) (h .source) (h .destination) (c .port) (part k (h .start) (h .end))) e
-
-ip-stranger : (c : Config) (k : List ℕ) (x : Ipv4Read) (a : Received) → byIpv4 c k x ≡ otherSender a → isDelivered a ≡ false
-ip-stranger c k (I.Refused r) a e = let q : R.Dropped (D.Format r) ≡ a = cc in sym (ap isDelivered q)
-ip-stranger c k (I.Packet h) a e = ours-stranger c h k (eqb (h .destination) (c .own)) a e
-
-header-stranger : (c : Config) (k : List ℕ) (a : Received) → headerOf c k ≡ otherSender a → isDelivered a ≡ false
-unfolding headerOf
-header-stranger c k a e = ip-stranger c k (ipv4Of k) a e
-
 -- ---- one receive, sound
 
-spoken-good : (x : Verdict answers) (i n : ℕ) (frame : List ℕ) (t : Target) (place : Place) → frameAnswer answers x i n frame .reply ≡ R.Delivered t place
+pub spoken-good : (x : Verdict answers) (i n : ℕ) (frame : List ℕ) (t : Target) (place : Place) → frameAnswer answers x i n frame .reply ≡ R.Delivered t place
     → (x ≡ good t) × (record { start = slotStart i + 18; length = n - 18; «in_memory» = true } ≡ place)
 spoken-good (bad b) i n frame t place e =
     let y : R.Dropped b ≡ R.Delivered t place = sym (bad-reply answers b i n frame) ∙ e in
@@ -176,15 +151,37 @@ spoken-good (good u) i n frame t place e =
     sym (good-reply answers u i n frame) ∙ e in
     (cc, cc)
 
+frame-bytes : (n : List ℕ) → Bytes n → (i size : ℕ) → slotStart i + size ≤ length n → Bytes (frameIn bytesOf n i size)
+frame-bytes n b i size f =
+    let s : slotStart i + size - slotStart i ≡ size = omega arith in
+    let q : frameIn bytesOf n i size ≡ part n (slotStart i) (slotStart i + size) =
+    frame-part n i size f ∙ ap (λ (x : ℕ). take x (drop (slotStart i) n)) (sym s) ∙ sym (part-is n (slotStart i) (slotStart i + size)) in
+    rw q (bytes-part n b (slotStart i) (slotStart i + size))
+
+-- a complete frame that is judged good, and what the place that is answered shows of it
+module _ (e : Endpoint) (m k : List ℕ) (p : ℕ) (g : Seg) (s : ℕ) (q : takeIn p (rowAt e p) m g .outcome ≡ O.Complete s) where
+  abbrev after : List ℕ
+  after = takeIn p (rowAt e p) m g .mem
+
+  pub after-inside : slotStart (slotNo p s) + g .frame-length ≤ length after
+  after-inside =
+      let whole = take-whole p s (rowAt e p) m g q in
+      slot-inside after p s (g .frame-length) (omega (arith, whole .memory, take-length p (rowAt e p) m g)) (whole .is-peer) (whole .is-slot)
+      (omega (arith, whole .fits .most))
+
+  pub judged-good : Bytes after → (t : Target)
+      → judgeOf (configOf e) p (takeIn p (rowAt e p) m g .note) (frameIn bytesOf after (slotNo p s) (g .frame-length)) ≡ good t
+      → GoodFrame (configOf e) p (frameIn bytesOf after (slotNo p s) (g .frame-length)) t
+      (viewOf k after (record { inMemory = true; start = slotStart (slotNo p s) + 18; len = g .frame-length - 18 }))
+  judged-good b t j =
+      let frame : List ℕ = frameIn bytesOf after (slotNo p s) (g .frame-length) in
+      let whole = take-whole p s (rowAt e p) m g q in
+      subst (λ (x : List ℕ). GoodFrame (configOf e) p frame t x)
+      (sym (slot-view k after (slotNo p s) (g .frame-length) (omega (arith, whole .fits .least)) after-inside))
+      (judge-sound (configOf e) p (takeIn p (rowAt e p) m g .note) frame t (frame-bytes after b (slotNo p s) (g .frame-length) after-inside) j)
+
 module _ (e : Endpoint) (m k : List ℕ) (enough : 55296 ≤ length m) (packet : Bytes k) where
   module _ (memory : Bytes m) (t : Target) (frame : List ℕ) where
-    frame-bytes : (n : List ℕ) → Bytes n → (i size : ℕ) → slotStart i + size ≤ length n → Bytes (frameIn bytesOf n i size)
-    frame-bytes n b i size f =
-        let s : slotStart i + size - slotStart i ≡ size = omega arith in
-        let q : frameIn bytesOf n i size ≡ part n (slotStart i) (slotStart i + size) =
-        frame-part n i size f ∙ ap (λ (x : ℕ). take x (drop (slotStart i) n)) (sym s) ∙ sym (part-is n (slotStart i) (slotStart i + size)) in
-        rw q (bytes-part n b (slotStart i) (slotStart i + size))
-
     taken-sound : (p : ℕ) (g : Seg) → headerOf (configOf e) k ≡ segment p g → Bytes (takeIn p (rowAt e p) m g .mem) → (o : Outcome)
         → takeIn p (rowAt e p) m g .outcome ≡ o
         → (place : Place) → takeAnswer answers (judgeOf (configOf e)) bytesOf p g (takeIn p (rowAt e p) m g) o .reply ≡ R.Delivered t place
@@ -200,25 +197,25 @@ module _ (e : Endpoint) (m k : List ℕ) (enough : 55296 ≤ length m) (packet :
         let y : R.Dropped D.Memory ≡ R.Delivered t place = sym (no-memory-reply answers (judgeOf (configOf e)) bytesOf p g (takeIn p (rowAt e p) m g)) ∙ a in
         let z : _≡_ {A = ℕ} 0 1 = cc in absurd (omega arith)
     taken-sound p g h b (O.Complete s) q place a w =
-        let after : List ℕ = takeIn p (rowAt e p) m g .mem in
-        let whole = take-whole p s (rowAt e p) m g q in
-        let inside : slotStart (slotNo p s) + g .frame-length ≤ length after =
-        slot-inside after p s (g .frame-length) (omega (arith, take-length p (rowAt e p) m g)) (whole .is-peer) (whole .is-slot)
-        (omega (arith, whole .fits .most)) in
-        let x = spoken-good (judgeOf (configOf e) p (takeIn p (rowAt e p) m g .note) (frameIn bytesOf after (slotNo p s) (g .frame-length))) (slotNo p s)
-        (g .frame-length) (frameIn bytesOf after (slotNo p s) (g .frame-length)) t place
+        let whole : List ℕ = frameIn bytesOf (takeIn p (rowAt e p) m g .mem) (slotNo p s) (g .frame-length) in
+        let x = spoken-good (judgeOf (configOf e) p (takeIn p (rowAt e p) m g .note) whole) (slotNo p s) (g .frame-length) whole t place
         (sym (ap (λ (y : Answer answers). y .reply) (complete-reply answers (judgeOf (configOf e)) bytesOf p g (takeIn p (rowAt e p) m g) s)) ∙ a) in
-        let j = judge-sound (configOf e) p (takeIn p (rowAt e p) m g .note) (frameIn bytesOf after (slotNo p s) (g .frame-length)) t
-        (frame-bytes after b (slotNo p s) (g .frame-length) inside) (x .0) in
-        let same : drop 18 (frameIn bytesOf after (slotNo p s) (g .frame-length)) ≡ frame =
-        sym (slot-view k after (slotNo p s) (g .frame-length) (omega (arith, whole .fits .least)) inside)
-        ∙ ap (λ (y : Place). viewOf k after (placeOf y)) (x .1) ∙ w in
-        record { p = p; g = g; carried = segment-sound (configOf e) k p g packet h; slot = s; complete = q; good-frame = rw same at j }
+        let same : viewOf k (takeIn p (rowAt e p) m g .mem) (record { inMemory = true; start = slotStart (slotNo p s) + 18; len = g .frame-length - 18 }) ≡ frame =
+        ap (λ (y : Place). viewOf k (takeIn p (rowAt e p) m g .mem) (placeOf y)) (x .1) ∙ w in
+        record {
+          p = p;
+          g = g;
+          carried = segment-sound (configOf e) k p g packet h;
+          slot = s;
+          complete = q;
+          good-frame = subst (λ (y : List ℕ). GoodFrame (configOf e) p whole t y) same (judged-good e m k p g s q b t (x .0));
+        }
 
     seen-sound : (x : Reading answers) → headerOf (configOf e) k ≡ x → Bytes (stepped e m x .mem) → (place : Place) → stepped e m x .answer
         ≡ R.Delivered t place
         → viewOf k (stepped e m x .mem) (placeOf place) ≡ frame → CarriesFrame (configOf e) k t frame ⊎ Completes e m k t frame
-    seen-sound (otherSender a) h b place q w = let z : _≡_ {A = Bool} true false = sym (ap isDelivered q) ∙ header-stranger (configOf e) k a h in
+    seen-sound (otherSender a) h b place q w =
+        let z : _≡_ {A = Bool} true false = sym (ap isDelivered q) ∙ subst Spoken h (header-spoken (configOf e) k) .0 in
         let y : _≡_ {A = ℕ} 0 1 = cc (z) in absurd (omega arith)
     seen-sound (direct p a) h b place q w =
         let x = frame-sound (configOf e) k p t place packet (h ∙ ap (direct p) q) in

@@ -13,7 +13,8 @@ use Rattle.wire.specs.Table.{numbered}
 use Rattle.endpoint.specs.Table.{startRows, addPeerRows, addBindingRows, receiveRows, wrapRows}
 use Rattle.endpoint.specs.Laws.Table.{document-table}
 use Rattle.endpoint.specs.Demand1.{StartRule, PeerAdded, BindingAdded, AddRule, ReceiveRule, TickRule, WrapRule}
-use Rattle.endpoint.specs.Laws.Demand1.{start-rule, add-peer-rule, add-binding-rule, receive-rule, tick-rule, wrap-rule}
+use Rattle.endpoint.specs.Laws.Demand1.{start-rule, add-peer-rule, add-binding-rule, tick-rule, wrap-rule}
+use Rattle.endpoint.specs.Laws.Demand1Receive.{receive-rule}
 use Rattle.endpoint.specs.declared.answer.Added.{Added}
 use Rattle.endpoint.specs.declared.answer.Added.the-variants as A
 use Rattle.endpoint.specs.declared.answer.Wrapped.{Wrapped}

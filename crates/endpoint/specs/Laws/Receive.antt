@@ -51,8 +51,8 @@ use Rattle.endpoint.specs.Laws.Search.{lowest-some}
 use Rattle.endpoint.specs.declared.search.Lookup.{Lookup}
 use Rattle.endpoint.specs.declared.search.Lookup.the-variants as L
 use Rattle.endpoint.specs.Config.{Config, configOf, hasAddress, findPeer, binds, mostBindings}
-use Rattle.endpoint.specs.Receive.{answers, innerFrom, answerAt, tunnelFrom, byPayload, byPeer, headerOf, byDestination, byIpv4, bySender, sourceOf}
-use Rattle.endpoint.specs.Receive.{byStt, sttFrom, judgeOf, Step, rowAt, unchanged, stepped, stepOf, withRow}
+use Rattle.endpoint.specs.Receive.{answers, isDelivered, innerFrom, answerAt, tunnelFrom, byPayload, byPeer, headerOf, byDestination, byIpv4, bySender}
+use Rattle.endpoint.specs.Receive.{sourceOf, byStt, sttFrom, judgeOf, Step, rowAt, unchanged, stepped, stepOf, withRow}
 use Rattle.endpoint.specs.declared.answer.Drop.{Drop}
 use Rattle.endpoint.specs.declared.answer.Drop.the-variants as D
 use Rattle.endpoint.specs.declared.answer.Received.{Received}
@@ -451,6 +451,52 @@ module _ (c : Config) (few : c .peers ≤ mostPeers) (k : List ℕ) where
   pub header-whose : peerOf answers (headerOf c k) ≡ sourceOf c k
   unfolding headerOf sourceOf
   header-whose = ip-whose (ipv4Of k)
+
+-- what the layers answer before reassembly: never 1, and to another sender never 0
+
+abbrev pub isPending : Received → Bool
+isPending (R.Delivered t p) = false
+isPending R.Pending = true
+isPending (R.Dropped d) = false
+
+abbrev pub Spoken : Made answers → Type 0
+Spoken (otherSender a) = (isDelivered a ≡ false) × (isPending a ≡ false)
+Spoken (direct p a) = isPending a ≡ false
+Spoken (segment p g) = Unit {0}
+
+tunnel-spoken : (networks kinds owners tenants : List ℕ) (n peer kind network at : ℕ) (frame : List ℕ)
+    → isPending (tunnelFrom networks kinds owners tenants n peer kind network at frame) ≡ false
+unfolding tunnelFrom
+tunnel-spoken networks kinds owners tenants n peer kind network at frame = by-worth (innerFrom networks kinds owners tenants n peer kind network frame)
+  where
+    by-worth : (x : Verdict answers) → isPending (answerAt x (record { start = at; length = length frame; «in_memory» = false })) ≡ false
+    by-worth (bad d) = refl
+    by-worth (good t) = refl
+
+module _ (c : Config) (k : List ℕ) where
+  carried-spoken : (p start end : ℕ) (x : Carried) → Spoken (byPayload c p start end k x)
+  carried-spoken p start end (C.Refused r) = refl
+  carried-spoken p start end (C.Tunnel t) =
+      tunnel-spoken (c .networks) (c .kinds) (c .owners) (c .tenants) (c .bindings) p (t .kind) (t .network) (start + t .start)
+      (part k (start + t .start) end)
+  carried-spoken p start end (C.Segment g) = tt
+
+  peer-spoken : (h : Ipv4) (o : Option ℕ) → Spoken (byPeer c h k o)
+  peer-spoken h none = (refl, refl)
+  peer-spoken h (some p) = carried-spoken p (h .start) (h .end)
+      (carriageOf (h .protocol) (h .source) (h .destination) (c .port) (part k (h .start) (h .end)))
+
+  ours-spoken : (h : Ipv4) (b : Bool) → Spoken (byDestination c h k b)
+  ours-spoken h true = peer-spoken h (findPeer c (h .source))
+  ours-spoken h false = (refl, refl)
+
+  ip-spoken : (x : Ipv4Read) → Spoken (byIpv4 c k x)
+  ip-spoken (I.Refused r) = (refl, refl)
+  ip-spoken (I.Packet h) = ours-spoken h (eqb (h .destination) (c .own))
+
+  pub header-spoken : Spoken (headerOf c k)
+  unfolding headerOf
+  header-spoken = ip-spoken (ipv4Of k)
 
 pub config-few : (e : Endpoint) → configOf e .peers ≤ mostPeers
 unfolding configOf

@@ -9,7 +9,7 @@ use Rattle.endpoint.specs.Answer.{valuesOf}
 use Rattle.endpoint.specs.Receive.{Step, rowAt, stepOf, withRow, receiptOf}
 use Rattle.endpoint.specs.Stages.{Change, bringsSegment, untakenOf, openedBy, takenBy, deliveredBy}
 use Rattle.endpoint.specs.Laws.Receive.{open-below, nothing-taken, turn-is}
-use Rattle.endpoint.specs.Laws.Demand1.{same-row}
+use Rattle.endpoint.specs.Laws.Demand1Receive.{same-row}
 use Rattle.endpoint.specs.Laws.Calls.{receipt-left}
 use Rattle.endpoint.specs.declared.config.Endpoint.{Endpoint}
 use Rattle.endpoint.specs.declared.receive.Arrival.{Arrival}

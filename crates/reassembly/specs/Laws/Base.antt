@@ -96,6 +96,15 @@ allBelow-at (suc n) f e i h =
     (λ l. allBelow-at n f (and-r (f n) (allBelow n f) e) i l)
     (λ q. cc (and-l (f n) (allBelow n f) e))
 
+-- a test that does not pass at every number fails at one
+pub allBelow-fails : (n : ℕ) (f : ℕ → Bool) → allBelow n f ≡ false → (i : ℕ) × ((i < n) × (f i ≡ false))
+unfolding allBelow
+allBelow-fails zero f e = clash (cc)
+allBelow-fails (suc n) f e =
+    caseB (f n)
+    (λ q. let r = allBelow-fails n f (rw q at e) in (r .0, (omega (arith, r .1 .0), r .1 .1)))
+    (λ q. (n, (omega arith, q)))
+
 pub allBelow-intro : (n : ℕ) (f : ℕ → Bool) → ((i : ℕ) → i < n → f i ≡ true) → allBelow n f ≡ true
 unfolding allBelow
 allBelow-intro zero f h = refl

@@ -75,6 +75,11 @@ module _ (p : ℕ) (row : Peer) (m : List ℕ) (g : Seg) where
       ap (λ (x : Effect bytesOf). x .mem) (take-by bytesOf p row m g (fresh s) e)
       ∙ finish-mem bytesOf p s (set (row .slots) s (openedSlot g)) (putAt (clearAt m (slotNo p s)) (slotNo p s) (g .offset) (g .bytes)) g (noteAfter noNote g)
 
+-- where a slot's frame lies
+pub frame-at : (p s : ℕ) → slotStart (slotNo p s) ≡ frameAt p s
+unfolding slotStart slotNo frameAt
+frame-at p s = refl
+
 -- byte i of the frame in a slot, where it lies
 pub frame-byte : (m : List ℕ) (p s n i : ℕ) → i < n → getD (frameIn bytesOf m (slotNo p s) n) i 0 ≡ getD m (frameAt p s + i) 0
 unfolding frameIn byteAt slotStart slotNo frameAt

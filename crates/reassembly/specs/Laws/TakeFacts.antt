@@ -121,8 +121,17 @@ isComplete Pending = false
 isComplete (Complete s) = true
 isComplete NoMemory = false
 
+abbrev pub isPending : Outcome → Bool
+isPending (Rejected r) = false
+isPending Pending = true
+isPending (Complete s) = false
+isPending NoMemory = false
+
 pub not-complete {ℓ} : {C : Type ℓ} (o : Outcome) (s : ℕ) → isComplete o ≡ false → o ≡ Complete s → C
 not-complete o s e q = clash (cc (ap isComplete q))
+
+pub not-pending {ℓ} : {C : Type ℓ} (o : Outcome) → isPending o ≡ false → o ≡ Pending → C
+not-pending o e q = clash (cc (ap isPending q))
 
 pub complete-slot : (s t : ℕ) → Complete s ≡ Complete t → s ≡ t
 complete-slot s t q = ap slotIn q

@@ -1,7 +1,7 @@
 -- What a user of `take` needs of its outcome: the memory keeps its length, and a complete frame lies in it, in one of the peer's four slots.
 -- Assumes nothing.
 use mathlib.Core.Path.{_≡_, refl, sym, _∙_}
-use mathlib.Core.Bool.{_&&_}
+use mathlib.Core.Bool.{true}
 use mathlib.Core.List.{List}
 use Prim.Native.Nat.{ℕ, _+_, _*_, _≤_, _<_}
 use native.Mathlib.Omega.{arith}
@@ -57,18 +57,21 @@ pub record Whole (p s : ℕ) (m : List ℕ) (g : Seg) : Type 0 where
   pub fits : Fits g
   pub memory : 55296 ≤ length m
 
+pub has-slots : (p : ℕ) (m : List ℕ) → hasSlots p m ≡ true → (p < mostPeers) × (55296 ≤ length m)
+unfolding hasSlots
+has-slots p m d = (
+  ltb-true p mostPeers (and-l (ltb p mostPeers) (leb 55296 (length m)) d),
+  leb-true 55296 (length m) (and-r (ltb p mostPeers) (leb 55296 (length m)) d),
+)
+
 pub take-whole : (p s : ℕ) (row : Peer) (m : List ℕ) (g : Seg) → takeIn p row m g .outcome ≡ Complete s → Whole p s m g
-unfolding takeIn hasSlots
+unfolding takeIn
 take-whole p s row m g e =
-    caseB (ltb p mostPeers && leb 55296 (length m))
+    caseB (hasSlots p m)
     (λ d.
     let t = take-complete bytesOf p s row m g (rw d at e) in
-    record {
-      is-peer = ltb-true p mostPeers (and-l (ltb p mostPeers) (leb 55296 (length m)) d);
-      is-slot = t .0;
-      fits = t .1;
-      memory = leb-true 55296 (length m) (and-r (ltb p mostPeers) (leb 55296 (length m)) d);
-    })
+    let w = has-slots p m d in
+    record { is-peer = w .0; is-slot = t .0; fits = t .1; memory = w .1 })
     (λ d. not-complete NoMemory s refl (rw d at e))
 
 pub slot-start : (k : ℕ) → slotStart k ≡ k * 1728

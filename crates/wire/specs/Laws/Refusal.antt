@@ -1,4 +1,4 @@
--- The numbers of refusals: at most 13; a complete STT frame's is 11, an inner frame's is 13.
+-- The numbers of refusals: 3 to 13; a complete STT frame's is 11, an inner frame's is 13.
 -- Assumes nothing.
 use Prim.Native.Nat.{ℕ, _≤_, _%_}
 use mathlib.Core.Path.{_≡_, refl, sym, ap, _∙_}
@@ -20,32 +20,32 @@ use Rattle.wire.specs.declared.stt.SttRead.the-variants as T
 use Rattle.wire.specs.declared.frame.FrameRead.{FrameRead}
 use Rattle.wire.specs.declared.frame.FrameRead.the-variants as F
 
--- a format refuses by 13 at most
-pub code-most : (r : Refusal) → codeOf r ≤ 13
+-- a format refuses by 3 to 13
+pub refusal-codes : (r : Refusal) → (3 ≤ codeOf r) × (codeOf r ≤ 13)
 unfolding codeOf
-code-most R.Truncated = omega arith
-code-most R.Version = omega arith
-code-most R.HeaderLength = omega arith
-code-most R.TotalLength = omega arith
-code-most R.HeaderChecksum = omega arith
-code-most R.Fragment = omega arith
-code-most R.Protocol = omega arith
-code-most R.Port = omega arith
-code-most R.Short = omega arith
-code-most R.UdpLength = omega arith
-code-most R.TcpLength = omega arith
-code-most R.DataOffset = omega arith
-code-most R.UdpChecksum = omega arith
-code-most R.TcpChecksum = omega arith
-code-most R.VxlanFlag = omega arith
-code-most R.GreFlags = omega arith
-code-most R.GreVersion = omega arith
-code-most R.GreTypeHigh = omega arith
-code-most R.GreTypeLow = omega arith
-code-most R.SttVersion = omega arith
-code-most R.SttFlags = omega arith
-code-most R.FrameLength = omega arith
-code-most R.FrameTag = omega arith
+refusal-codes R.Truncated = (omega arith, omega arith)
+refusal-codes R.Version = (omega arith, omega arith)
+refusal-codes R.HeaderLength = (omega arith, omega arith)
+refusal-codes R.TotalLength = (omega arith, omega arith)
+refusal-codes R.HeaderChecksum = (omega arith, omega arith)
+refusal-codes R.Fragment = (omega arith, omega arith)
+refusal-codes R.Protocol = (omega arith, omega arith)
+refusal-codes R.Port = (omega arith, omega arith)
+refusal-codes R.Short = (omega arith, omega arith)
+refusal-codes R.UdpLength = (omega arith, omega arith)
+refusal-codes R.TcpLength = (omega arith, omega arith)
+refusal-codes R.DataOffset = (omega arith, omega arith)
+refusal-codes R.UdpChecksum = (omega arith, omega arith)
+refusal-codes R.TcpChecksum = (omega arith, omega arith)
+refusal-codes R.VxlanFlag = (omega arith, omega arith)
+refusal-codes R.GreFlags = (omega arith, omega arith)
+refusal-codes R.GreVersion = (omega arith, omega arith)
+refusal-codes R.GreTypeHigh = (omega arith, omega arith)
+refusal-codes R.GreTypeLow = (omega arith, omega arith)
+refusal-codes R.SttVersion = (omega arith, omega arith)
+refusal-codes R.SttFlags = (omega arith, omega arith)
+refusal-codes R.FrameLength = (omega arith, omega arith)
+refusal-codes R.FrameTag = (omega arith, omega arith)
 
 -- every check of the list refuses with the number n
 abbrev Gives : ℕ → List (Check Refusal) → Type 0
