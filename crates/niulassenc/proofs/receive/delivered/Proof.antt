@@ -88,7 +88,8 @@ module _ {M : Type 1} (𝓤 : URA M) (H : Heap 𝓤) (A : Atoms 𝓤) (at-mem : 
 
 -- n the peer, x what there is to deliver, p the packet, m the memory
 module _ {M : Type 1} (𝓤 : URA M) (H : Heap 𝓤) (A : Atoms 𝓤) (W : Given 𝓤 H A) (at-mem : Memory → SProp 𝓤) (run : Routine → Fun 𝓤)
-    (κe κp κm : Lft) (qe qp qm : Share) (b o : ℕ) (γ : GName) (h : Endpoint) (n : ℕ) (n-fits : n < 2 ^ 64) (x : Offer) (ix : Is S.the-row x (EL.val S.the-type S′.the-laws x ∷ []))
+    (κe κp κm : Lft) (qe qp qm : Share) (b o : ℕ) (γ : GName) (h : Endpoint) (n : ℕ) (n-fits : n < 2 ^ 64) (x : Offer) (ix : Is S.the-row x (EL.val S.the-type S′.the-laws x
+    ∷ []))
     (p m : RefT (List ℕ)) where
   abbrev κs : Lfts 3
   κs = (κe, (κp, (κm, tt)))
@@ -247,7 +248,8 @@ module _ {M : Type 1} (𝓤 : URA M) (H : Heap 𝓤) (A : Atoms 𝓤) (W : Given
         (and-then ! (load ! (from ! (stop !)) (look ! 18 refl)) (and-then ! (load ! (from ! (stop !)) (look ! 2 refl)) (no-more !)))))))))) (λ v.
         use1 W (later (some (λ (r : Receipt). ((‵ (flft κe qe) ⊛ Tokens) ⊛ ‵ (O.the-row .own r (v ∷ []))) ⊛ raw
         (ensured 𝓤 H A delivering.ended (delivering.clauses 𝓤 H A at-mem run) κs (args was g) tt r)))) (id⊢ 𝓤 _) $ await ! tt $ pick ! (λ r.
-        split ! $ move ! (1 ∷ []) $ use1 W (some (λ (zs : Unit {0} × (Unit {0} × (Unit {0} × (Unit {0} × (Unit {0} × (Unit {0} × (Unit {0} × (Unit {0} × (List ℕ × Unit {0}))))))))).
+        split ! $ move ! (1 ∷ []) $
+        use1 W (some (λ (zs : Unit {0} × (Unit {0} × (Unit {0} × (Unit {0} × (Unit {0} × (Unit {0} × (Unit {0} × (Unit {0} × (List ℕ × Unit {0}))))))))).
         ‵ (lasts delivering.ended κs (args was g) zs) ⊛ raw (fact 𝓤 (Says r (zs .1 .1 .1 .1 .1 .1 .1 .1 .0))))) (id⊢ 𝓤 _) $ pick ! (λ zs.
         split ! $ move ! (1 ∷ []) $ heard ! (Says r (zs .1 .1 .1 .1 .1 .1 .1 .1 .0))
         (λ e. fsplit3 ! $ drop ! $ drop ! $ fsplit3 ! $ drop ! $ drop ! $ fsplit3 ! $ drop ! $ drop ! $ fsplit3 ! $ drop ! $ drop ! $ fsplit ! $ fsplit ! $
@@ -255,7 +257,8 @@ module _ {M : Type 1} (𝓤 : URA M) (H : Heap 𝓤) (A : Atoms 𝓤) (W : Given
         move ! (2 ∷ []) $ split ! $ move ! (1 ∷ []) $ peeks ! O.the-row (Is O.the-row) (shows 𝓤 H A O.the-row) r (v ∷ []) (λ is.
         -- [what the result owns; the tokens; the memory's last bytes; true; the borrow; _12; …; _0; …; res; packet; true]
         land ! (from ! (stop !)) (init ! 29 refl (LL.lawful O.the-type O′.the-laws 𝓤 H A W .typed r _ is .0)) $
-        returns ! (look ! 29 refl) $ forget ! 5 refl $ forget ! 7 refl $ forget ! 9 refl $ forget ! 11 refl $ forget ! 13 refl $ forget ! 15 refl $ forget ! 17
+        returns ! (look ! 29 refl) $ forget ! 5 refl $ forget ! 7 refl $ forget ! 9 refl $ forget ! 11 refl $ forget ! 13 refl $ forget ! 15 refl $
+        forget ! 17
         refl $ forget ! 19 refl $ forget ! 21 refl $ forget ! 23 refl $ forget ! 25 refl $ forget ! 27 refl $ forget ! 29 refl $
         move ! (29 ∷ 30 ∷ []) $ free1 ! $ move ! (27 ∷ 28 ∷ []) $ free1 ! $ move ! (25 ∷ 26 ∷ []) $ free1 ! $ move ! (23 ∷ 24 ∷ []) $ free1 ! $ move !
         (21 ∷ 22 ∷ []) $ free1 ! $ move ! (19 ∷ 20 ∷ []) $ free1 ! $ move ! (17 ∷ 18 ∷ []) $ free1 ! $ move ! (15 ∷ 16 ∷ []) $ free1 ! $ move !

@@ -180,7 +180,8 @@ module _ {M : Type 1} (𝓤 : URA M) (H : Heap 𝓤) (A : Atoms 𝓤) (W : Given
 
     goes-open : ent 𝓤 (⋆ 𝓤 H A ((‵ (Lent h α g) ⊛ ‵ OwnP) ∷ ‵ (flft (α ∷ []) fullShare) ∷ ‵ (flft κp qp) ∷ [])) (Opens 𝓤 H A at-mem run .pre open-to)
     goes-open =
-        qed W ((‵ (Lent h α g) ⊛ ‵ OwnP) ∷ ‵ (flft (α ∷ []) fullShare) ∷ ‵ (flft κp qp) ∷ []) ∵ split ! $ nothing ! $ owned ! u64 (Is u64) (uint-makes 𝓤 H A W w64)
+        qed W ((‵ (Lent h α g) ⊛ ‵ OwnP) ∷ ‵ (flft (α ∷ []) fullShare) ∷ ‵ (flft κp qp) ∷ []) ∵ split ! $ nothing ! $
+        owned ! u64 (Is u64) (uint-makes 𝓤 H A W w64)
         (length (m .now)) _ (refl, im .0 .1 .0) $ join ! $
         move ! (2 ∷ 0 ∷ []) $ join ! $ move ! (1 ∷ 0 ∷ []) $ join ! $ nothing ! $ move ! (3 ∷ 0 ∷ []) $ join ! $ move !
         (2 ∷ 0 ∷ []) $ join ! $ join ! $ frame ! $ done !
@@ -207,7 +208,8 @@ module _ {M : Type 1} (𝓤 : URA M) (H : Heap 𝓤) (A : Atoms 𝓤) (W : Given
 
     goes-take : ent 𝓤 (⋆ 𝓤 H A Lentₜ) (Takes 𝓤 H A at-mem run .pre take-to)
     goes-take =
-        qed W Lentₜ ∵ move ! (1 ∷ []) $ split ! $ move ! (2 ∷ []) $ split ! $ split ! $ says ! (arrival-listed h (m .now) (p .now) x saw) $ nothing ! $ move ! (3 ∷ 0 ∷ []) $ join ! $ move ! (2 ∷ 0 ∷ []) $ join ! $
+        qed W Lentₜ ∵ move ! (1 ∷ []) $ split ! $ move ! (2 ∷ []) $ split ! $ split ! $ says ! (arrival-listed h (m .now) (p .now) x saw) $ nothing ! $
+        move ! (3 ∷ 0 ∷ []) $ join ! $ move ! (2 ∷ 0 ∷ []) $ join ! $
         owned ! S.the-row (Is S.the-row) (LL.makes S.the-type S′.the-plain 𝓤 H A) x _ ix $ join ! $ move ! (1 ∷ 0 ∷ []) $ join ! $
         -- [all arguments; the three tokens]
         nothing ! $ move ! (4 ∷ 0 ∷ []) $ join ! $ move ! (3 ∷ 0 ∷ []) $ join ! $ move ! (2 ∷ 0 ∷ []) $ join ! $ join ! $ done !
@@ -230,7 +232,8 @@ module _ {M : Type 1} (𝓤 : URA M) (H : Heap 𝓤) (A : Atoms 𝓤) (W : Given
     goes-deliver =
         qed W Lentₓ ∵ split ! $ split ! $ nothing ! $ move ! (3 ∷ 0 ∷ []) $ join ! $ move ! (2 ∷ 0 ∷ []) $ join ! $
         owned ! O.the-row (Is O.the-row) (EL.makes O.the-type O′.the-plain 𝓤 H A) w _ iw $ join ! $
-        owned ! u64 (Is u64) (uint-makes 𝓤 H A W w64) n _ (refl, n-fits) $ join ! $ move ! (1 ∷ 0 ∷ []) $ join ! $ move ! (1 ∷ 2 ∷ []) $ join ! $ join ! $ frame ! $
+        owned ! u64 (Is u64) (uint-makes 𝓤 H A W w64) n _ (refl, n-fits) $ join ! $ move ! (1 ∷ 0 ∷ []) $ join ! $ move ! (1 ∷ 2 ∷ []) $ join ! $ join ! $
+        frame ! $
         done !
 
   exits : (x : Arrival) → Saw x → (w : Offer) (e′ : Endpoint) (zs : List ℕ) → Took h x (p .now) (m .now) w e′ zs
@@ -252,7 +255,8 @@ module _ {M : Type 1} (𝓤 : URA M) (H : Heap 𝓤) (A : Atoms 𝓤) (W : Given
     -- the locals' places
     module _ (l₀ l₁ l₂ l₃ l₄ l₅ l₆ l₇ l₈ l₉ l₁₀ l₁₁ l₁₂ l₁₃ l₁₄ : ℕ) where
       abbrev En : Env 𝓤 H
-      En = (ty 0, l₀) ∷ (ty 1, l₁) ∷ (ty 2, l₂) ∷ (ty 3, l₃) ∷ (ty 4, l₄) ∷ (ty 5, l₅) ∷ (ty 6, l₆) ∷ (ty 7, l₇) ∷ (ty 8, l₈) ∷ (ty 9, l₉) ∷ (ty 10, l₁₀) ∷ (ty 11, l₁₁) ∷ (ty 12, l₁₂) ∷ (ty 13, l₁₃) ∷ (ty 14, l₁₄) ∷ []
+      En = (ty 0, l₀) ∷ (ty 1, l₁) ∷ (ty 2, l₂) ∷ (ty 3, l₃) ∷ (ty 4, l₄) ∷ (ty 5, l₅) ∷ (ty 6, l₆) ∷ (ty 7, l₇) ∷ (ty 8, l₈) ∷ (ty 9, l₉) ∷ (ty 10, l₁₀)
+          ∷ (ty 11, l₁₁) ∷ (ty 12, l₁₂) ∷ (ty 13, l₁₃) ∷ (ty 14, l₁₄) ∷ []
 
       abbrev free : ℕ → ℕ → List (Item 𝓤) → List (Item 𝓤)
       free k l Γ = ‵ (froom (ty k) l 0) ∷ ‵ (fdies (ty k) l) ∷ Γ
@@ -275,8 +279,13 @@ module _ {M : Type 1} (𝓤 : URA M) (H : Heap 𝓤) (A : Atoms 𝓤) (W : Given
           → Took h x (p .now) (m .now) w e′ zs → (r : Receipt) (v : Val) → Is N.the-row r (v ∷ []) → (ys : List ℕ) → length ys ≡ length (m .now)
           → Gave x w e′ zs r ys → Sq W (Closed w₄ w₅ w₆ w₇ w₈ w₉ w₁₀ w₁₁ w₁₂ w₁₃ w₁₄ e′ v ys) (runs C Λ En return (atRet En Post))
       ends w₄ w₅ w₆ w₇ w₈ w₉ w₁₀ w₁₁ w₁₂ w₁₃ w₁₄ x saw w e′ zs took r v is ys l gave =
-          returns ! (look ! 33 refl) $ forget ! 5 refl $ forget ! 7 refl $ forget ! 9 refl $ forget ! 11 refl $ forget ! 13 refl $ forget ! 15 refl $ forget ! 17 refl $ forget ! 19 refl $ forget ! 21 refl $ forget ! 23 refl $ forget ! 25 refl $ forget ! 27 refl $ forget ! 29 refl $ forget ! 31 refl $ forget ! 33 refl $
-          move ! (33 ∷ 34 ∷ []) $ free1 ! $ move ! (31 ∷ 32 ∷ []) $ free1 ! $ move ! (29 ∷ 30 ∷ []) $ free1 ! $ move ! (27 ∷ 28 ∷ []) $ free1 ! $ move ! (25 ∷ 26 ∷ []) $ free1 ! $ move ! (23 ∷ 24 ∷ []) $ free1 ! $ move ! (21 ∷ 22 ∷ []) $ free1 ! $ move ! (19 ∷ 20 ∷ []) $ free1 ! $ move ! (17 ∷ 18 ∷ []) $ free1 ! $ move ! (15 ∷ 16 ∷ []) $ free1 ! $ move ! (13 ∷ 14 ∷ []) $ free1 ! $ move ! (11 ∷ 12 ∷ []) $ free1 ! $ move ! (9 ∷ 10 ∷ []) $ free1 ! $ move ! (7 ∷ 8 ∷ []) $ free1 ! $ move ! (5 ∷ 6 ∷ []) $ free1 ! $ free0 ! $ by ! (exits x saw w e′ zs took r v is ys l gave)
+          returns ! (look ! 33 refl) $ forget ! 5 refl $ forget ! 7 refl $ forget ! 9 refl $ forget ! 11 refl $ forget ! 13 refl $ forget ! 15 refl $
+          forget ! 17 refl $ forget ! 19 refl $ forget ! 21 refl $ forget ! 23 refl $ forget ! 25 refl $ forget ! 27 refl $ forget ! 29 refl $
+          forget ! 31 refl $ forget ! 33 refl $
+          move ! (33 ∷ 34 ∷ []) $ free1 ! $ move ! (31 ∷ 32 ∷ []) $ free1 ! $ move ! (29 ∷ 30 ∷ []) $ free1 ! $ move ! (27 ∷ 28 ∷ []) $ free1 ! $ move ! (25
+          ∷ 26 ∷ []) $ free1 ! $ move ! (23 ∷ 24 ∷ []) $ free1 ! $ move ! (21 ∷ 22 ∷ []) $ free1 ! $ move ! (19 ∷ 20 ∷ []) $ free1 ! $ move ! (17 ∷ 18
+          ∷ []) $ free1 ! $ move ! (15 ∷ 16 ∷ []) $ free1 ! $ move ! (13 ∷ 14 ∷ []) $ free1 ! $ move ! (11 ∷ 12 ∷ []) $ free1 ! $ move ! (9 ∷ 10 ∷ []) $
+          free1 ! $ move ! (7 ∷ 8 ∷ []) $ free1 ! $ move ! (5 ∷ 6 ∷ []) $ free1 ! $ free0 ! $ by ! (exits x saw w e′ zs took r v is ys l gave)
 
       -- behind `taken`
       abbrev Taken : (w₇ w₈ w₉ w₁₀ w₁₁ : Val) → Arrival → Offer → Endpoint → List ℕ → List (Item 𝓤)
@@ -374,7 +383,8 @@ module _ {M : Type 1} (𝓤 : URA M) (H : Heap 𝓤) (A : Atoms 𝓤) (W : Given
           rewrite ! 25 (λ (u : Val). ‵ (fat fullShare O′.mir l₆ 0 u)) (ap only (EL.tells O.the-type O′.the-laws w _ iv)) refl $
           split ! $ lft-end ! tt $ move ! (1 ∷ []) $ split ! $ move ! (1 ∷ []) $ split ! $ lft-end ! tt $
           -- [α₁ is over; true; κp's; α₀ is over; the memory's last bytes; true; the endpoint's last value; what is kept; what comes back; …]
-          move ! (0 ∷ 7 ∷ 4 ∷ []) $ use3 W (later (given (length (zs .1 .1 .1 .0) ≡ length (m .now)) (‵ (OwnM κm (m .name) (zs .1 .1 .1 .0)) ⊛ ‵ (flft κm qm))))
+          move ! (0 ∷ 7 ∷ 4 ∷ []) $
+          use3 W (later (given (length (zs .1 .1 .1 .0) ≡ length (m .now)) (‵ (OwnM κm (m .name) (zs .1 .1 .1 .0)) ⊛ ‵ (flft κm qm))))
           (comes-home 𝓤 H A W m κm qm (α₁ ∷ []) (named 2) g₁ (zs .1 .1 .1 .0)) $ await ! tt $ learn ! (λ lz. split ! $
           -- [memory; κm's; true; κp's; α₀ is over; true; the endpoint's last value; what comes back; …]
           move ! (4 ∷ 7 ∷ 6 ∷ []) $ use3 W (later (‵ (partAt T.the-row fullShare (zs .0) b o))) (ref-back 𝓤 H A W T.the-row (α₀ ∷ []) g₀ (zs .0) b o) $
@@ -394,7 +404,8 @@ module _ {M : Type 1} (𝓤 : URA M) (H : Heap 𝓤) (A : Atoms 𝓤) (W : Given
         use1 W (‵ OwnP ⊛ ‵ OwnP) (shr-slice-copy 𝓤 H A W (named 1) κp u8 .twice p (vp ∷ [])) $ split ! $ move ! (6 ∷ 7 ∷ 8 ∷ []) $
         -- [obs; the borrow; its token; packet; packet; packet; packet; memory; true; the other tokens]
         enter ! C Λ code.function (vptr b o ∷ vp ∷ vm ∷ []) _ $
-        alloc1 ! (λ l₀. alloc1 ! (λ l₁. alloc1 ! (λ l₂. alloc1 ! (λ l₃. alloc1 ! (λ l₄. alloc1 ! (λ l₅. alloc1 ! (λ l₆. alloc1 ! (λ l₇. alloc1 ! (λ l₈. alloc1 ! (λ l₉. alloc1 ! (λ l₁₀. alloc1 ! (λ l₁₁. alloc1 ! (λ l₁₂. alloc1 ! (λ l₁₃. alloc1 ! (λ l₁₄. alloc0 ! $ params1 ! $
+        alloc1 ! (λ l₀. alloc1 ! (λ l₁. alloc1 ! (λ l₂. alloc1 ! (λ l₃. alloc1 ! (λ l₄. alloc1 ! (λ l₅. alloc1 ! (λ l₆. alloc1 ! (λ l₇. alloc1 ! (λ l₈. alloc1 ! (λ l₉. alloc1 ! (λ l₁₀. alloc1 ! (λ l₁₁. alloc1 ! (λ l₁₂. alloc1 ! (λ l₁₃. alloc1 ! (λ l₁₄. alloc0 ! $
+        params1 ! $
         pass1 ! (init ! 26 refl (tt, tt)) $ pass1 ! (init ! 24 refl (shr-slice-lawful 𝓤 H A W (named 1) κp u8 .typed p (vp ∷ []) ip .0)) $ pass1 !
         (init ! 22 refl (mut-slice-lawful 𝓤 H A W (named 2) κm u8 .typed m (vm ∷ []) im .0)) $ pass0 ! $
         move ! (30 ∷ 31 ∷ 32 ∷ []) $ opens ! tt T.the-row {h = h} b o (λ vs.
@@ -424,7 +435,8 @@ module _ {M : Type 1} (𝓤 : URA M) (H : Heap 𝓤) (A : Atoms 𝓤) (W : Given
         split ! $ lft-end ! tt $ move ! (0 ∷ 4 ∷ []) $ lent-back ! tt $
         -- [the endpoint; κp's and true; κm's; true; the open borrow; obs; auth; _14; …; packet; packet; packet; memory; true]
         move ! (1 ∷ []) $ split ! $ move ! (2 ∷ 41 ∷ 0 ∷ 3 ∷ 5 ∷ 6 ∷ 7 ∷ []) $
-        keep ! (0 ∷ 1 ∷ 2 ∷ 3 ∷ 4 ∷ 5 ∷ 6 ∷ 9 ∷ 10 ∷ 11 ∷ 12 ∷ 13 ∷ 14 ∷ 15 ∷ 16 ∷ 17 ∷ 18 ∷ 19 ∷ 20 ∷ 21 ∷ 22 ∷ 23 ∷ 24 ∷ 25 ∷ 26 ∷ 27 ∷ 28 ∷ 29 ∷ 30 ∷ 31 ∷ 32 ∷ 33 ∷ 34 ∷ 35 ∷ 36 ∷ 37 ∷ 38 ∷ 39 ∷ 40 ∷ 41 ∷ []) $
+        keep ! (0 ∷ 1 ∷ 2 ∷ 3 ∷ 4 ∷ 5 ∷ 6 ∷ 9 ∷ 10 ∷ 11 ∷ 12 ∷ 13 ∷ 14 ∷ 15 ∷ 16 ∷ 17 ∷ 18 ∷ 19 ∷ 20 ∷ 21 ∷ 22 ∷ 23 ∷ 24 ∷ 25 ∷ 26 ∷ 27 ∷ 28 ∷ 29 ∷ 30 ∷ 31
+        ∷ 32 ∷ 33 ∷ 34 ∷ 35 ∷ 36 ∷ 37 ∷ 38 ∷ 39 ∷ 40 ∷ 41 ∷ []) $
         takes-on l₀ l₁ l₂ l₃ l₄ l₅ l₆ l₇ l₈ l₉ l₁₀ l₁₁ l₁₂ l₁₃ l₁₄ _ _ im x (subst (λ (u : List Val). Is S.the-row x u) (LL.tells S.the-type S′.the-laws x _ is) is) saw)))))))))))))))))))))))
 
 module _ {M : Type 1} (𝓤 : URA M) (H : Heap 𝓤) (A : Atoms 𝓤) (W : Given 𝓤 H A) (at-mem : Memory → SProp 𝓤) (run : Routine → Fun 𝓤) where

@@ -265,7 +265,8 @@ module _ {M : Type 1} (𝓤 : URA M) (H : Heap 𝓤) (A : Atoms 𝓤) (W : Given
     -- the locals' places
     module _ (l₀ l₁ l₂ l₃ l₄ l₅ l₆ l₇ l₈ l₉ l₁₀ l₁₁ l₁₂ l₁₃ l₁₄ l₁₅ l₁₆ l₁₇ : ℕ) where
       abbrev En : Env 𝓤 H
-      En = (ty 0, l₀) ∷ (ty 1, l₁) ∷ (ty 2, l₂) ∷ (ty 3, l₃) ∷ (ty 4, l₄) ∷ (ty 5, l₅) ∷ (ty 6, l₆) ∷ (ty 7, l₇) ∷ (ty 8, l₈) ∷ (ty 9, l₉) ∷ (ty 10, l₁₀) ∷ (ty 11, l₁₁) ∷ (ty 12, l₁₂) ∷ (ty 13, l₁₃) ∷ (ty 14, l₁₄) ∷ (ty 15, l₁₅) ∷ (ty 16, l₁₆) ∷ (ty 17, l₁₇) ∷ []
+      En = (ty 0, l₀) ∷ (ty 1, l₁) ∷ (ty 2, l₂) ∷ (ty 3, l₃) ∷ (ty 4, l₄) ∷ (ty 5, l₅) ∷ (ty 6, l₆) ∷ (ty 7, l₇) ∷ (ty 8, l₈) ∷ (ty 9, l₉) ∷ (ty 10, l₁₀)
+          ∷ (ty 11, l₁₁) ∷ (ty 12, l₁₂) ∷ (ty 13, l₁₃) ∷ (ty 14, l₁₄) ∷ (ty 15, l₁₅) ∷ (ty 16, l₁₆) ∷ (ty 17, l₁₇) ∷ []
 
       abbrev free : ℕ → ℕ → List (Item 𝓤) → List (Item 𝓤)
       free k l Γ = ‵ (froom (ty k) l 0) ∷ ‵ (fdies (ty k) l) ∷ Γ
@@ -275,7 +276,9 @@ module _ {M : Type 1} (𝓤 : URA M) (H : Heap 𝓤) (A : Atoms 𝓤) (W : Given
 
       -- all locals are free: what is left is given back
       freed : (r : Offer) (v : Val) → Is O.the-row r (v ∷ []) → (e′ : Endpoint) (zs : List ℕ) → length zs ≡ length (m .now)
-          → Took h x (p .now) (m .now) r e′ zs → Sq W (free 17 l₁₇ (free 16 l₁₆ (free 15 l₁₅ (free 14 l₁₄ (free 13 l₁₃ (free 12 l₁₂ (free 11 l₁₁ (free 10 l₁₀ (free 9 l₉ (free 8 l₈ (free 7 l₇ (free 6 l₆ (free 5 l₅ (free 4 l₄ (free 3 l₃ (free 2 l₂ (free 1 l₁ (free 0 l₀ (‵ (fobs γ (T.the-row .coded .code e′)) ∷ ‵ (fbor κe (Body (mem T.the-row) b o γ)) ∷ ‵ (flft κe qe)
+          → Took h x (p .now) (m .now) r e′ zs
+          → Sq W (free 17 l₁₇ (free 16 l₁₆ (free 15 l₁₅ (free 14 l₁₄ (free 13 l₁₃ (free 12 l₁₂ (free 11 l₁₁ (free 10 l₁₀ (free 9 l₉ (free 8 l₈ (free 7 l₇ (free 6 l₆ (free 5 l₅ (free 4 l₄ (free 3 l₃ (free 2 l₂ (free 1 l₁ (free 0 l₀ (‵ (fobs γ (T.the-row .coded .code e′))
+          ∷ ‵ (fbor κe (Body (mem T.the-row) b o γ)) ∷ ‵ (flft κe qe)
           ∷ Tokens ∷ ‵ (finally u8 (m .name) zs) ∷ ‵ OwnP ∷ []))))))))))))))))))) (frees En (prop (Post v)))
       freed r v is e′ zs l e =
           move ! (34 ∷ 35 ∷ []) $ free1 ! $ move ! (32 ∷ 33 ∷ []) $ free1 ! $ move ! (30 ∷ 31 ∷ []) $ free1 ! $ move ! (28 ∷ 29 ∷ []) $ free1 ! $ move ! (26
@@ -333,7 +336,8 @@ module _ {M : Type 1} (𝓤 : URA M) (H : Heap 𝓤) (A : Atoms 𝓤) (W : Given
       -- `take` gave r: its row is stored
       abbrev Given-back : (w₈ w₉ w₁₁ w₁₂ w₁₄ w₁₅ : Val) → Changed → Val → List ℕ → List (Item 𝓤)
       Given-back w₈ w₉ w₁₁ w₁₂ w₁₄ w₁₅ r v zs =
-          ‵ (G.the-row .own r (v ∷ [])) ∷ Tokens ∷ ‵ (finally u8 (m .name) zs) ∷ ‵ ftrue ∷ ‵ (cellAt fullShare (R.the-row .mir) (vrow ∷ []) b (rowPlace o (x .peer)))
+          ‵ (G.the-row .own r (v ∷ [])) ∷ Tokens ∷ ‵ (finally u8 (m .name) zs) ∷ ‵ ftrue ∷ ‵ (cellAt fullShare (R.the-row .mir) (vrow
+          ∷ []) b (rowPlace o (x .peer)))
           ∷ ‵ (R.the-row .own was (vrow ∷ [])) ∷ ‵ (Others 𝓤 H A W fullShare h (x .peer) b o) ∷ ‵ (Eight 𝓤 H A W fullShare h (x .peer) b o)
           ∷ (‵ (EndpointRest 𝓤 H A W fullShare h (x .peer) b o) ⊛ raw (EndpointBack 𝓤 H A W fullShare h (x .peer) b o))
           ∷ ‵ (fobor κe qe (Body (mem T.the-row) b o γ)) ∷ ‵ (fobs γ (T.the-row .coded .code h)) ∷ ‵ (fauth γ (T.the-row .coded .code h))
@@ -396,7 +400,8 @@ module _ {M : Type 1} (𝓤 : URA M) (H : Heap 𝓤) (A : Atoms 𝓤) (W : Given
           (ensured 𝓤 H A taking.ended (taking.clauses 𝓤 H A at-mem run) (κp, (κm, tt)) take-args tt r)))) (id⊢ 𝓤 _) $ await ! tt $ pick ! (λ r.
           split ! $ move ! (1 ∷ []) $ use1 W (some (λ (zs : Unit {0} × (Unit {0} × (Unit {0} × (List ℕ × Unit {0})))). ‵
           (lasts taking.ended (κp, (κm, tt)) take-args zs) ⊛ (raw (fact 𝓤 (Gave r)) ⊛ raw (fact 𝓤 (Left (zs .1 .1 .1 .0)))))) (id⊢ 𝓤 _) $ pick ! (λ zs.
-          split ! $ move ! (1 ∷ []) $ split ! $ heard ! (Gave r) (λ gave. heard ! (Left (zs .1 .1 .1 .0)) (λ left. fsplit3 ! $ drop ! $ drop ! $ fsplit ! $ drop ! $ fsplit ! $ fsplit ! $
+          split ! $ move ! (1 ∷ []) $ split ! $ heard ! (Gave r) (λ gave. heard ! (Left (zs .1 .1 .1 .0)) (λ left. fsplit3 ! $ drop ! $ drop ! $ fsplit ! $
+          drop ! $ fsplit ! $ fsplit ! $
           move ! (1 ∷ []) $ feqL ! (λ l.
           move ! (2 ∷ []) $ split ! $ move ! (1 ∷ []) $ peeks ! G.the-row (Is G.the-row) (shows 𝓤 H A G.the-row) r (v′ ∷ []) (λ is.
           -- [what the result owns; the tokens; the memory's last bytes; true; the row's cell; what it owns; the other rows; eight; the rest; the open borrow;
@@ -418,7 +423,8 @@ module _ {M : Type 1} (𝓤 : URA M) (H : Heap 𝓤) (A : Atoms 𝓤) (W : Given
           -- the borrow is opened; the row is reached, and read
           move ! (36 ∷ 37 ∷ 38 ∷ []) $ opens ! tt T.the-row {h = h} b o (λ vs.
           use2 W (‵ (partAt T.the-row fullShare h b o)) (lies-in 𝓤 H A W fullShare T.the-row h b o vs) $
-          use1 W (AtRow 𝓤 H A W fullShare h (x .peer) b o was) (reaches 𝓤 H A W fullShare h (x .peer) b o less) $ split ! $ split ! $ move ! (1 ∷ []) $ split ! $
+          use1 W (AtRow 𝓤 H A W fullShare h (x .peer) b o was) (reaches 𝓤 H A W fullShare h (x .peer) b o less) $ split ! $ split ! $ move ! (1 ∷ []) $
+          split ! $
           use1 W (some (λ (us : List Val). ‵ (cellAt fullShare (RowS .mir) us b (rowPlace o (x .peer))) ⊛ ‵ (RowS .own (into-row was) us)))
           (lies-out 𝓤 H A W fullShare RowS (into-row was) b (rowPlace o (x .peer))) $ pick ! (λ us. split ! $
           spelt ! R.the-row (Is R.the-row) (shows 𝓤 H A R.the-row) (LL.vals R.the-type R′.the-laws) (LL.tells R.the-type R′.the-laws) fullShare was us b
@@ -429,13 +435,15 @@ module _ {M : Type 1} (𝓤 : URA M) (H : Heap 𝓤) (A : Atoms 𝓤) (W : Given
     walk : Is (ShrSlice (named 1) κp u8) p (vp ∷ []) → Is (MutSlice (named 2) κm u8) m (vm ∷ [])
         → ent 𝓤 (onEntry 𝓤 H A f.signature κs qs a at) (WpFn 𝓤 H C Λ code.function (vptr b o ∷ vx ∷ vp ∷ vm ∷ []) Post)
     walk ip im =
-        qed W ((‵ (flft κe qe) ⊛ Tokens) ∷ ‵ (owns (MutRef (named 0) κe T.the-row ∷ S.the-row ∷ ShrSlice (named 1) κp u8 ∷ MutSlice (named 2) κm u8 ∷ []) a at)
+        qed W ((‵ (flft κe qe) ⊛ Tokens) ∷ ‵ (owns (MutRef (named 0) κe T.the-row ∷ S.the-row ∷ ShrSlice (named 1) κp u8 ∷ MutSlice (named 2) κm u8
+        ∷ []) a at)
         ∷ []) ∵
         split ! $ move ! (2 ∷ []) $ fsplit ! $ fsplit3 ! $ drop ! $ move ! (2 ∷ []) $ fsplit ! $ drop ! $ fsplit3 ! $
         use1 W (‵ OwnP ⊛ ‵ OwnP) (shr-slice-copy 𝓤 H A W (named 1) κp u8 .twice p (vp ∷ [])) $ split ! $ move ! (4 ∷ 5 ∷ 6 ∷ []) $
         -- [obs; the borrow; its token; packet; packet; memory; true; the other tokens]
         enter ! C Λ code.function (vptr b o ∷ vx ∷ vp ∷ vm ∷ []) _ $
-        alloc1 ! (λ l₀. alloc1 ! (λ l₁. alloc1 ! (λ l₂. alloc1 ! (λ l₃. alloc1 ! (λ l₄. alloc1 ! (λ l₅. alloc1 ! (λ l₆. alloc1 ! (λ l₇. alloc1 ! (λ l₈. alloc1 ! (λ l₉. alloc1 ! (λ l₁₀. alloc1 ! (λ l₁₁. alloc1 ! (λ l₁₂. alloc1 ! (λ l₁₃. alloc1 ! (λ l₁₄. alloc1 ! (λ l₁₅. alloc1 ! (λ l₁₆. alloc1 ! (λ l₁₇. alloc0 ! $ params1 ! $
+        alloc1 ! (λ l₀. alloc1 ! (λ l₁. alloc1 ! (λ l₂. alloc1 ! (λ l₃. alloc1 ! (λ l₄. alloc1 ! (λ l₅. alloc1 ! (λ l₆. alloc1 ! (λ l₇. alloc1 ! (λ l₈. alloc1 ! (λ l₉. alloc1 ! (λ l₁₀. alloc1 ! (λ l₁₁. alloc1 ! (λ l₁₂. alloc1 ! (λ l₁₃. alloc1 ! (λ l₁₄. alloc1 ! (λ l₁₅. alloc1 ! (λ l₁₆. alloc1 ! (λ l₁₇. alloc0 ! $
+        params1 ! $
         pass1 ! (init ! 32 refl (tt, tt)) $ pass1 ! (init ! 30 refl (LL.lawful S.the-type S′.the-laws 𝓤 H A W .typed x _ ix .0)) $
         pass1 ! (init ! 28 refl (shr-slice-lawful 𝓤 H A W (named 1) κp u8 .typed p (vp ∷ []) ip .0)) $
         pass1 ! (init ! 26 refl (mut-slice-lawful 𝓤 H A W (named 2) κm u8 .typed m (vm ∷ []) im .0)) $ pass0 ! $
@@ -452,7 +460,9 @@ module _ {M : Type 1} (𝓤 : URA M) (H : Heap 𝓤) (A : Atoms 𝓤) (W : Given
         assigns ! (un ! (load ! (from ! (stop !)) (look ! 18 refl)) tt) (from ! (stop !)) (init ! 16 refl (tt, tt)) $
         first ! $ branches ! (load ! (from ! (stop !)) (look ! 16 refl))
         (λ none. passes-on l₀ l₁ l₂ l₃ l₄ l₅ l₆ l₇ l₈ l₉ l₁₀ l₁₁ l₁₂ l₁₃ l₁₄ l₁₅ l₁₆ l₁₇ y brings none)
-        (λ some-segment. skips ! $ exec ! C Λ (En l₀ l₁ l₂ l₃ l₄ l₅ l₆ l₇ l₈ l₉ l₁₀ l₁₁ l₁₂ l₁₃ l₁₄ l₁₅ l₁₆ l₁₇) takes (atRet (En l₀ l₁ l₂ l₃ l₄ l₅ l₆ l₇ l₈ l₉ l₁₀ l₁₁ l₁₂ l₁₃ l₁₄ l₁₅ l₁₆ l₁₇) Post) $ takes-on l₀ l₁ l₂ l₃ l₄ l₅ l₆ l₇ l₈ l₉ l₁₀ l₁₁ l₁₂ l₁₃ l₁₄ l₁₅ l₁₆ l₁₇ im y)))))))))))))))))))))))
+        (λ some-segment. skips ! $
+        exec ! C Λ (En l₀ l₁ l₂ l₃ l₄ l₅ l₆ l₇ l₈ l₉ l₁₀ l₁₁ l₁₂ l₁₃ l₁₄ l₁₅ l₁₆ l₁₇) takes (atRet (En l₀ l₁ l₂ l₃ l₄ l₅ l₆ l₇ l₈ l₉ l₁₀ l₁₁ l₁₂ l₁₃ l₁₄ l₁₅ l₁₆ l₁₇) Post) $
+        takes-on l₀ l₁ l₂ l₃ l₄ l₅ l₆ l₇ l₈ l₉ l₁₀ l₁₁ l₁₂ l₁₃ l₁₄ l₁₅ l₁₆ l₁₇ im y)))))))))))))))))))))))
 
 module _ {M : Type 1} (𝓤 : URA M) (H : Heap 𝓤) (A : Atoms 𝓤) (W : Given 𝓤 H A) (at-mem : Memory → SProp 𝓤) (run : Routine → Fun 𝓤) where
   taken-walks : (C : Calls 𝓤 H) (Λ : Loops 𝓤 H) → FmC 𝓤 H (W .laws) C → Triple 𝓤 (C #asking) (Asks 𝓤 H A at-mem run)
