@@ -1,6 +1,6 @@
 -- DEMAND 1's words (document 00): the rule of each call: which numbers it answers, what it leaves, and that a refusal changes nothing, but for the one
 -- exception. `Demand1` (Demands.antt) says that every call keeps its rule, for every endpoint, memory, packet and number.
--- Only definitions; the rules are proved in Laws/Demand1, a receive's in Laws/Demand1Receive.
+-- Only definitions; the rules are proved in Laws/Demand1, a receive's in Laws/Demand1Receive, a configuration's in Laws/Configured.
 use Prim.Native.Nat.{ℕ, _+_, _-_, _/_, _^_, _<_, _≤_}
 use mathlib.Core.Path.{_≡_}
 use mathlib.Core.Logic.{_⊎_, _≢_}
@@ -185,6 +185,7 @@ pub record Stored (e : Endpoint) (m packet : List ℕ) (p s : ℕ) (g : Seg) (e�
   pub is-slot : s < 4
   pub carried : Bytes packet → CarriesSegment (configOf e) packet p g
   pub fits : Fits g
+  -- does it open a frame there, or is it a further one of the frame that is pending
   pub new : Bool
   pub opens : new ≡ true → OpensIn e p s g
   pub further : new ≡ false → FurtherIn e p s g
@@ -211,7 +212,7 @@ pub record Completed (e : Endpoint) (m packet : List ℕ) (p s : ℕ) (g : Seg) 
   pub complete : (i : ℕ) → i < g .frame-length → bitOf m′ (mapAt p s) i ≡ true
   pub freed : slotAt e′ p s .pending ≡ false
 
--- THE EXCEPTION: 11, 12 or 13, on the segment that makes its STT frame complete
+-- THE EXCEPTION: 11, 12 or 13, on the segment that makes its STT frame complete. It is stored all the same, and its slot given back
 pub record FoundBad (e : Endpoint) (m packet : List ℕ) (number : ℕ) (e′ : Endpoint) (m′ : List ℕ) : Type 0 where
   pub is : number among (11 ∷ 12 ∷ 13 ∷ []) ≡ true
   pub p : ℕ

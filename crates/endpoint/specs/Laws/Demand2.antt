@@ -200,7 +200,8 @@ module _ (e : Endpoint) (m k : List ℕ) (enough : 55296 ≤ length m) (packet :
         let whole : List ℕ = frameIn bytesOf (takeIn p (rowAt e p) m g .mem) (slotNo p s) (g .frame-length) in
         let x = spoken-good (judgeOf (configOf e) p (takeIn p (rowAt e p) m g .note) whole) (slotNo p s) (g .frame-length) whole t place
         (sym (ap (λ (y : Answer answers). y .reply) (complete-reply answers (judgeOf (configOf e)) bytesOf p g (takeIn p (rowAt e p) m g) s)) ∙ a) in
-        let same : viewOf k (takeIn p (rowAt e p) m g .mem) (record { inMemory = true; start = slotStart (slotNo p s) + 18; len = g .frame-length - 18 }) ≡ frame =
+        let at : Place = record { start = slotStart (slotNo p s) + 18; length = g .frame-length - 18; «in_memory» = true } in
+        let same : viewOf k (takeIn p (rowAt e p) m g .mem) (placeOf at) ≡ frame =
         ap (λ (y : Place). viewOf k (takeIn p (rowAt e p) m g .mem) (placeOf y)) (x .1) ∙ w in
         record {
           p = p;

@@ -111,7 +111,8 @@ module _ (p : ℕ) (row : List Slot) (m : List ℕ) (g : Seg) where
       touches = touches-further p t is-peer (w .is-slot) g (w .fits) m enough;
     }
 
-    stores-opens : (t : ℕ) → Fresh row g t → AtLowest row g (fresh t) → Stores p t true g row m (putAt (clearAt m (slotNo p t)) (slotNo p t) (g .offset) (g .bytes))
+    stores-opens : (t : ℕ) → Fresh row g t → AtLowest row g (fresh t)
+        → Stores p t true g row m (putAt (clearAt m (slotNo p t)) (slotNo p t) (g .offset) (g .bytes))
     stores-opens t w l = record {
       is-peer = is-peer;
       is-slot = w .is-slot;
