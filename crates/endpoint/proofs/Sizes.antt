@@ -1,5 +1,4 @@
 -- How many rows an endpoint has, from what owning it tells (`c .good` of a parameter).
--- Assumes nothing.
 use mathlib.Core.Path.{_≡_, _∙_, sym}
 use lib.ListN.{length, length-map}
 use denote.Laws.{Is}

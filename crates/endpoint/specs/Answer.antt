@@ -1,5 +1,4 @@
 -- Document 01's number and values for each answer ("The numbered answers").
--- Assumes nothing.
 use Prim.Native.Nat.{ℕ}
 use mathlib.Core.Option.{Option, none, some}
 use Rattle.wire.specs.Refusal as W
@@ -24,11 +23,11 @@ use Rattle.endpoint.specs.declared.answer.Wrapped.{Wrapped}
 use Rattle.endpoint.specs.declared.answer.Wrapped.the-variants as Y
 
 abbrev pub dropCode : Drop → ℕ
-dropCode D.Memory = 2
+dropCode D.MemoryTooSmall = 2
 dropCode (D.Format r) = W.codeOf r
-dropCode D.Destination = 6
-dropCode D.Peer = 7
-dropCode D.Binding = 12
+dropCode D.NotForUs = 6
+dropCode D.UnknownPeer = 7
+dropCode D.NoBinding = 12
 dropCode (D.Segment r) = rejectionCode r
 
 abbrev pub configCode : ConfigRefusal → ℕ
@@ -74,11 +73,11 @@ unfoldable pub tickCode : Tick → ℕ
 tickCode T.Done = 0
 
 abbrev pub wrapRefusalCode : WrapRefusal → ℕ
-wrapRefusalCode X.Binding = 23
-wrapRefusalCode X.Frame = 13
-wrapRefusalCode X.Mtu = 22
-wrapRefusalCode X.Segment = 23
-wrapRefusalCode X.Output = 21
+wrapRefusalCode X.NoBinding = 23
+wrapRefusalCode X.BadFrame = 13
+wrapRefusalCode X.ExceedsMtu = 22
+wrapRefusalCode X.NoSegment = 23
+wrapRefusalCode X.OutputTooShort = 21
 
 -- what writing gives back: its number, and the packet's length and the number of segments. A refusal carries 0 and 0
 pub record WrapValues : Type 0 where

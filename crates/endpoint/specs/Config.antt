@@ -1,5 +1,4 @@
 -- The configuration (document 01, "Listing and numbers"): settings, peers and bindings, and the calls that make it.
--- Assumes nothing.
 use Prim.Native.Nat.{ℕ, _+_, _/_, _^_, min}
 use mathlib.Core.Bool.{Bool, true, false, not, _&&_, _||_}
 use mathlib.Core.List.{List, [], _∷_, _++_, map}
@@ -194,7 +193,7 @@ addPeerOf e address =
     first (refusedAdd e) (addPeerChecks e address)
     (record { endpoint = withAddress e (e .«peer_count») address; answer = A.Number (e .«peer_count») })
 
--- the ids of a kind: VXLAN 0 to 16,777,215, NVGRE 4,096 to 16,777,214 (RFC 7637, 3.3), STT any 64-bit Context ID
+-- the ids of a kind: VXLAN 0 to 16,777,215, NVGRE 4,096 to 16,777,214 (RFC 7637, 3.4), STT any 64-bit Context ID
 unfoldable pub isNetwork : (kind network : ℕ) → Bool
 isNetwork kind network =
     (eqb kind 1 && ltb network 16777216)

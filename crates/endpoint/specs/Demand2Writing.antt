@@ -4,7 +4,6 @@
 -- How to read it: `Demand2Writing e b frame` is the statement for one binding and one frame; `whole` is the STT frame, the same for every segment. The theorem
 -- (`demand-two-writing` of Laws) asks that the endpoint came from the calls (`Reached`) and that the binding is listed; every other call of wrapping is
 -- refused, as `wrapOf` says.
--- Assumes nothing.
 use Prim.Native.Nat.{ℕ, zero, suc, _+_, _-_, _*_, _/_, _^_, _<_, _≤_, min}
 use mathlib.Core.Path.{_≡_}
 use mathlib.Core.Logic.{_⊎_}

@@ -1,7 +1,6 @@
 -- What the published formats, read as document 01 reads them, and our configuration say of a packet and of a complete STT frame. Definitions only: demand 2
 -- and demand 3
 -- are stated with them. Nothing here speaks of the receiver.
--- Assumes nothing.
 use Prim.Native.Nat.{ℕ, _<_}
 use mathlib.Core.Path.{_≡_}
 use mathlib.Core.Logic.{_≢_}

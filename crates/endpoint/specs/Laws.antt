@@ -20,6 +20,7 @@ pub mod Demand2Writing
 pub mod RoundTripLaws
 pub mod RoundTrip
 pub mod WorkedRoundTrip
+pub mod WorkedCases
 pub mod PossibleRun
 pub mod WorkedRun
 pub mod Possible

@@ -1,6 +1,5 @@
 -- An endpoint that came from the calls (document 01, "Listing and numbers": a promise may assume only that): a start, and then adding calls, receives and
 -- ticks in any order, refused ones too, each receive with any memory lent. Only definitions.
--- Assumes nothing.
 use Prim.Native.Nat.{ℕ, _^_, _<_}
 use mathlib.Core.Path.{_≡_}
 use mathlib.Core.List.{List, [], _∷_}

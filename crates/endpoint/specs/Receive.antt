@@ -1,5 +1,4 @@
 -- Receiving (document 01, "The numbered answers"): what the layers below make of a packet, what a complete STT frame is worth, and one receive, whole.
--- Assumes nothing.
 use Prim.Native.Nat.{ℕ, _+_}
 use mathlib.Core.Path.{refl}
 use mathlib.Core.Bool.{Bool, true, false, cond}
@@ -56,7 +55,7 @@ answers = record {
   Good = Target;
   place = λ a. valuesOf a .place;
   delivered = isDelivered;
-  tooSmall = R.Dropped D.Memory;
+  tooSmall = R.Dropped D.MemoryTooSmall;
   pending = R.Pending;
   rejected = λ r. R.Dropped (D.Segment r);
   refused = λ d. R.Dropped d;
@@ -80,7 +79,7 @@ byFrame F.Good t = good t
 byFrame (F.Refused r) t = bad (D.Format r)
 
 abbrev pub byBinding : (tenants : List ℕ) → Option ℕ → FrameRead → Verdict answers
-byBinding tenants none frame = bad D.Binding
+byBinding tenants none frame = bad D.NoBinding
 byBinding tenants (some b) frame = byFrame frame (record { tenant = getD tenants b 0; binding = b })
 
 -- a frame from this peer on this network
@@ -108,12 +107,12 @@ byPayload c p start end k (C.Tunnel t) = direct p (tunnelOf c p (t .kind) (t .ne
 byPayload c p start end k (C.Segment g) = segment p (segOf g (part k (start + g .start) end))
 
 abbrev pub byPeer : Config → Ipv4 → List ℕ → Option ℕ → Reading answers
-byPeer c h k none = otherSender (R.Dropped D.Peer)
+byPeer c h k none = otherSender (R.Dropped D.UnknownPeer)
 byPeer c h k (some p) = byPayload c p (h .start) (h .end) k (carriageOf (h .protocol) (h .source) (h .destination) (c .port) (part k (h .start) (h .end)))
 
 abbrev pub byDestination : Config → Ipv4 → List ℕ → Bool → Reading answers
 byDestination c h k true = byPeer c h k (findPeer c (h .source))
-byDestination c h k false = otherSender (R.Dropped D.Destination)
+byDestination c h k false = otherSender (R.Dropped D.NotForUs)
 
 abbrev pub byIpv4 : Config → List ℕ → Ipv4Read → Reading answers
 byIpv4 c k (I.Refused r) = otherSender (R.Dropped (D.Format r))
@@ -170,7 +169,7 @@ stepped e m (segment p g) =
     record { peer = p; row = o .row; answer = takeAnswer answers (judgeOf (configOf e)) bytesOf p g o (o .outcome) .reply; mem = o .mem }
 
 unfoldable pub stepOf : Endpoint → (memory packet : List ℕ) → Step
-stepOf e m k = cond (ltb (length m) 55296) (unchanged e 0 m (R.Dropped D.Memory)) (stepped e m (headerOf (configOf e) k))
+stepOf e m k = cond (ltb (length m) 55296) (unchanged e 0 m (R.Dropped D.MemoryTooSmall)) (stepped e m (headerOf (configOf e) k))
 
 -- peer p's row is this one
 abbrev pub withRow : Endpoint → ℕ → Peer → Endpoint

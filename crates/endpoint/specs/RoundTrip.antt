@@ -2,7 +2,6 @@
 -- wrapped frame once, under one identifier, in any order, with no tick between: at the last it delivers exactly the frame, to the binding and the tenant that
 -- it has for it, and at the others it answers 1.
 -- How to read it: `round-trip` (Laws/RoundTrip) says that `Wraps` and `Matches` give `RoundTrip`. Only definitions.
--- Assumes nothing.
 use Prim.Native.Nat.{ℕ, _+_, _<_, _≤_}
 use mathlib.Core.Path.{_≡_}
 use mathlib.Core.Bool.{cond}

@@ -1,5 +1,4 @@
 -- The lowest number below a bound that passes a test, as the code answers it.
--- Assumes nothing.
 use mathlib.Core.Option.{Option, none, some}
 use Prim.Native.Nat.{ℕ}
 use Rattle.endpoint.specs.declared.answer.Drop.{Drop}

@@ -1,6 +1,5 @@
 -- A receive in three stages, as the code makes it: a packet is opened, a segment is taken, a frame is delivered. `Laws/Receive.stages-step` says that they add
 -- up to `Receive.stepOf`.
--- Assumes nothing.
 use Prim.Native.Nat.{ℕ, _+_, _-_, _*_, _<_, _≤_, min}
 use mathlib.Core.Bool.{Bool, true, false, cond}
 use mathlib.Core.List.{List}
@@ -61,22 +60,22 @@ fromOther d = record { peer = 0; content = A.Refused d }
 -- one of which no listed peer is known to be the sender, by what its IPv4 header reads as
 abbrev pub unlistedOf : Ipv4Read → Arrival
 unlistedOf (I.Refused r) = fromOther (D.Format r)
-unlistedOf (I.Packet h) = fromOther D.Peer
+unlistedOf (I.Packet h) = fromOther D.UnknownPeer
 
 abbrev pub openPeer : Option ℕ → Content → Arrival
-openPeer none content = fromOther D.Peer
+openPeer none content = fromOther D.UnknownPeer
 openPeer (some p) content = record { peer = p; content = content }
 
 abbrev pub openHeader : (addresses : List ℕ) (own port peers : ℕ) → List ℕ → Ipv4 → Arrival
 openHeader addresses own port peers k h =
-    cond (eqb (h .destination) own) (openPeer (lowest (hasAddress addresses (h .source)) peers) (contentFrom port h k)) (fromOther D.Destination)
+    cond (eqb (h .destination) own) (openPeer (lowest (hasAddress addresses (h .source)) peers) (contentFrom port h k)) (fromOther D.NotForUs)
 
 abbrev pub openIp : Ipv4Read → (Ipv4 → Arrival) → Arrival
 openIp (I.Refused r) next = fromOther (D.Format r)
 openIp (I.Packet h) next = next h
 
 unfoldable pub openOf : (addresses : List ℕ) (own port peers : ℕ) → (packet : List ℕ) → (room : ℕ) → Arrival
-openOf addresses own port peers k room = cond (ltb room 55296) (fromOther D.Memory) (openIp (ipv4Of k) (openHeader addresses own port peers k))
+openOf addresses own port peers k room = cond (ltb room 55296) (fromOther D.MemoryTooSmall) (openIp (ipv4Of k) (openHeader addresses own port peers k))
 
 -- ---- a segment is taken: 14 to 17, then 11 where the frame is complete
 
@@ -92,7 +91,7 @@ offerAt at frame = sttOffer at (length frame) (sttOf frame)
 unfoldable pub offerOf : (peer : ℕ) → Outcome → (size : ℕ) → (memory : List ℕ) → Offer
 offerOf peer (O.Rejected r) size m = B.Refused (D.Segment r)
 offerOf peer O.Pending size m = B.Pending
-offerOf peer O.NoMemory size m = B.Refused D.Memory
+offerOf peer O.NoMemory size m = B.Refused D.MemoryTooSmall
 offerOf peer (O.Complete s) size m =
     let at : ℕ = (mostSlots * peer + s) * 1728 in
     offerAt at (part m at (at + size))

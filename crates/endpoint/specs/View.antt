@@ -1,6 +1,5 @@
 -- The view of a place (document 01, "Reassembly memory", last paragraph): which bytes are handed back, and where they lie. `ViewRule` says it one byte at a
 -- time.
--- Assumes nothing.
 use Prim.Native.Nat.{ℕ, _+_, _<_, _≤_}
 use mathlib.Core.Path.{_≡_}
 use mathlib.Core.Bool.{true, false, cond}

@@ -1,6 +1,5 @@
 -- Wrapping (document 01, "Wrapping"): which packet carries a frame out on a binding, its segments, and one call, whole. Packets are those of crate wire
 -- (specs/Write.antt).
--- Assumes nothing.
 use Prim.Native.Nat.{ℕ, _+_, _-_, _*_, _/_, _%_, min}
 use mathlib.Core.Bool.{Bool, true, false}
 use mathlib.Core.List.{List, [], _∷_}
@@ -81,12 +80,12 @@ packetAt e b frame segment identifier = packetOf (kindAt e b) (e .own) (peerAt e
 -- a binding's owner is one of the eight peers in every set-up (`Demand1.Configured`)
 unfoldable pub wrapChecks : Endpoint → (b : ℕ) (frame : List ℕ) (segment identifier : ℕ) (output : List ℕ) → List (Check WrapRefusal)
 wrapChecks e b frame segment identifier output =
-    (leb (configOf e .bindings) b ⇒ X.Binding)
-    ∷ (leb mostPeers (ownerAt e b) ⇒ X.Binding)
-    ∷ (isBad (frameOf frame) ⇒ X.Frame)
-    ∷ (exceeds (kindAt e b) (length frame) (e .mtu) ⇒ X.Mtu)
-    ∷ (leb (segmentsOf (kindAt e b) (length frame) (e .mtu)) segment ⇒ X.Segment)
-    ∷ (ltb (length output) (length (packetAt e b frame segment identifier)) ⇒ X.Output)
+    (leb (configOf e .bindings) b ⇒ X.NoBinding)
+    ∷ (leb mostPeers (ownerAt e b) ⇒ X.NoBinding)
+    ∷ (isBad (frameOf frame) ⇒ X.BadFrame)
+    ∷ (exceeds (kindAt e b) (length frame) (e .mtu) ⇒ X.ExceedsMtu)
+    ∷ (leb (segmentsOf (kindAt e b) (length frame) (e .mtu)) segment ⇒ X.NoSegment)
+    ∷ (ltb (length output) (length (packetAt e b frame segment identifier)) ⇒ X.OutputTooShort)
     ∷ []
 
 -- the answer, and the output that it leaves: the packet at its front, and nothing else changed; or the output as it came
@@ -114,10 +113,10 @@ packetOn t frame segment identifier = packetOf (t .kind) (t .own) (t .peer) (t .
 module _ (t : Route) (frame : List ℕ) (segment identifier : ℕ) (output : List ℕ) where
   unfoldable pub sendChecks : List (Check WrapRefusal)
   sendChecks =
-      (isBad (frameOf frame) ⇒ X.Frame)
-      ∷ (exceeds (t .kind) (length frame) (t .mtu) ⇒ X.Mtu)
-      ∷ (leb (segmentsOf (t .kind) (length frame) (t .mtu)) segment ⇒ X.Segment)
-      ∷ (ltb (length output) (length (packetOn t frame segment identifier)) ⇒ X.Output)
+      (isBad (frameOf frame) ⇒ X.BadFrame)
+      ∷ (exceeds (t .kind) (length frame) (t .mtu) ⇒ X.ExceedsMtu)
+      ∷ (leb (segmentsOf (t .kind) (length frame) (t .mtu)) segment ⇒ X.NoSegment)
+      ∷ (ltb (length output) (length (packetOn t frame segment identifier)) ⇒ X.OutputTooShort)
       ∷ []
 
   -- what is given where no check is met

@@ -20,15 +20,15 @@ pub struct Target {
 // Why a packet is dropped.
 pub enum Drop {
     // 2: the reassembly memory has under 55,296 bytes
-    Memory,
+    MemoryTooSmall,
     // 3 to 5, 8 to 11, 13: it breaks a format
     Format(Refusal),
     // 6: it is not for us
-    Destination,
+    NotForUs,
     // 7: no listed peer sent it
-    Peer,
+    UnknownPeer,
     // 12: no binding has its network
-    Binding,
+    NoBinding,
     // 14 to 17: its segment is not taken
     Segment(Rejection),
 }
@@ -65,15 +65,15 @@ pub enum Tick {
 // Why nothing is written.
 pub enum WrapRefusal {
     // 23: no such binding
-    Binding,
+    NoBinding,
     // 13: the inner frame breaks its rule
-    Frame,
+    BadFrame,
     // 22: the packet would exceed the MTU
-    Mtu,
+    ExceedsMtu,
     // 23: no such segment number
-    Segment,
+    NoSegment,
     // 21: the output is shorter than the packet
-    Output,
+    OutputTooShort,
 }
 
 // The length of the packet that was written, and how many segments its frame has.

@@ -13,11 +13,11 @@ pub fn drop_code(d: Drop) -> u8
     ensures { λ n. ⌜ n ≡ dropCode d ⌝ }
 {
     match d {
-        Drop::Memory => 2,
+        Drop::MemoryTooSmall => 2,
         Drop::Format(r) => wire::refusal::code(r),
-        Drop::Destination => 6,
-        Drop::Peer => 7,
-        Drop::Binding => 12,
+        Drop::NotForUs => 6,
+        Drop::UnknownPeer => 7,
+        Drop::NoBinding => 12,
         Drop::Segment(r) => reassembly::take::rejection_code(r),
     }
 }
@@ -72,10 +72,10 @@ pub fn wrap_code(r: WrapRefusal) -> u8
     ensures { λ n. ⌜ n ≡ wrapRefusalCode r ⌝ }
 {
     match r {
-        WrapRefusal::Binding => 23,
-        WrapRefusal::Frame => 13,
-        WrapRefusal::Mtu => 22,
-        WrapRefusal::Segment => 23,
-        WrapRefusal::Output => 21,
+        WrapRefusal::NoBinding => 23,
+        WrapRefusal::BadFrame => 13,
+        WrapRefusal::ExceedsMtu => 22,
+        WrapRefusal::NoSegment => 23,
+        WrapRefusal::OutputTooShort => 21,
     }
 }

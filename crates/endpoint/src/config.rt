@@ -11,14 +11,14 @@ use crate::answer::Start;
 use crate::number::BINDINGS;
 use crate::number::FIRST_BYTE;
 use crate::number::IDS;
-use crate::number::MTU_LEAST;
-use crate::number::MTU_MOST;
+use crate::number::MTU_MAX;
+use crate::number::MTU_MIN;
 use crate::number::MULTICAST;
 use crate::number::NVGRE;
-use crate::number::PORT_MOST;
 use crate::number::STT;
-use crate::number::TENANT_MOST;
-use crate::number::VSID_LEAST;
+use crate::number::STT_PORT_MAX;
+use crate::number::TENANT_MAX;
+use crate::number::VSID_MIN;
 use crate::number::VSID_RESERVED;
 use crate::number::VXLAN;
 use crate::search::Lookup;
@@ -102,13 +102,13 @@ pub fn start(own: u32, port: u32, mtu: u32) -> StartResult
     if port == 0 {
         return refused_start();
     }
-    if PORT_MOST < port {
+    if STT_PORT_MAX < port {
         return refused_start();
     }
-    if mtu < MTU_LEAST {
+    if mtu < MTU_MIN {
         return refused_start();
     }
-    if MTU_MOST < mtu {
+    if MTU_MAX < mtu {
         return refused_start();
     }
     StartResult {
@@ -174,7 +174,7 @@ pub fn add_peer(e: Endpoint, address: u32) -> AddResult
     }
 }
 
-// The ids of a kind: VXLAN has 24 bits, NVGRE (RFC 7637, 3.3) reserves the first 4,096 and the last of its 24 bits, STT has 64.
+// The ids of a kind: VXLAN has 24 bits, NVGRE (RFC 7637, 3.4) reserves the first 4,096 and the last of its 24 bits, STT has 64.
 fn is_network(kind: u32, network: u64) -> bool
     ensures { λ r. ⌜ r ≡ isNetwork kind network ⌝ }
 {
@@ -182,7 +182,7 @@ fn is_network(kind: u32, network: u64) -> bool
         return network < IDS;
     }
     if kind == NVGRE {
-        if network < VSID_LEAST {
+        if network < VSID_MIN {
             return false;
         }
         return network < VSID_RESERVED;
@@ -229,7 +229,7 @@ pub fn list_binding(
     if !is_network(kind, network) {
         return Added::Refused(ConfigRefusal::OutOfRange);
     }
-    if TENANT_MOST < tenant {
+    if TENANT_MAX < tenant {
         return Added::Refused(ConfigRefusal::OutOfRange);
     }
     let number = *count;

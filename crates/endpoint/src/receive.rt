@@ -101,7 +101,7 @@ fn unlisted(ip: Ipv4Read) -> Arrival
 {
     match ip {
         Ipv4Read::Refused(r) => other_sender(Drop::Format(r)),
-        Ipv4Read::Packet(_) => other_sender(Drop::Peer),
+        Ipv4Read::Packet(_) => other_sender(Drop::UnknownPeer),
     }
 }
 
@@ -153,14 +153,14 @@ pub fn open(
     ensures { λ r. ⌜ r ≡ openOf (now (addresses .entry)) own port (min «peer_count» mostPeers) (now (packet .entry)) room ⌝ }
 {
     if room < MEMORY_BYTES {
-        return other_sender(Drop::Memory);
+        return other_sender(Drop::MemoryTooSmall);
     }
     let ip = wire::ipv4::read(packet);
     let Ipv4Read::Packet(h) = ip else {
         return unlisted(ip);
     };
     if h.destination != own {
-        return other_sender(Drop::Destination);
+        return other_sender(Drop::NotForUs);
     }
     let sender = find_peer(addresses, least(peer_count as usize, PEERS), h.source);
     let Lookup::At(p) = sender else {
@@ -201,7 +201,7 @@ fn settled(peer: usize, outcome: Outcome, size: u16, memory: &[u8]) -> Offer
     match outcome {
         Outcome::Rejected(r) => Offer::Refused(Drop::Segment(r)),
         Outcome::Pending => Offer::Pending,
-        Outcome::NoMemory => Offer::Refused(Drop::Memory),
+        Outcome::NoMemory => Offer::Refused(Drop::MemoryTooSmall),
         Outcome::Complete(s) => {
             let at = (SLOTS * peer + s) * SLOT_BYTES;
             let end = at + size as usize;
@@ -295,7 +295,7 @@ pub fn deliver<'a, 'r>(
             let n = least(binding_count as usize, BINDINGS);
             let found = find_binding(networks, kinds, owners, n, peer, f.kind, f.network);
             let Lookup::At(b) = found else {
-                return Received::Dropped(Drop::Binding);
+                return Received::Dropped(Drop::NoBinding);
             };
             let place = f.place;
             let frame = view_one(packet, memory, place);

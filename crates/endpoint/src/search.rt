@@ -33,18 +33,18 @@ fn wide(x: u8) -> usize
 // turn takes three instructions.
 pub(crate) fn find_peer(addresses: &[u32; PEERS], n: usize, address: u32) -> Lookup
     requires { ⌜ n ≤ mostPeers ⌝ }
-    ensures { λ r. ⌜ r ≡ foundOf D.Peer (lowest (hasAddress (now (addresses .entry)) address) n) ⌝ }
+    ensures { λ r. ⌜ r ≡ foundOf D.UnknownPeer (lowest (hasAddress (now (addresses .entry)) address) n) ⌝ }
 {
     let mut i: usize = 0;
     let found = loop {
         if PEERS <= i {
-            break Lookup::Refused(Drop::Peer);
+            break Lookup::Refused(Drop::UnknownPeer);
         }
         if addresses[i] == address {
             if i < n {
                 break Lookup::At(i);
             }
-            break Lookup::Refused(Drop::Peer);
+            break Lookup::Refused(Drop::UnknownPeer);
         }
         i += 1;
     };
@@ -85,12 +85,12 @@ pub(crate) fn find_binding<'a>(
     network: u64,
 ) -> Lookup
     requires { ⌜ n ≤ mostBindings ⌝ }
-    ensures { λ r. ⌜ r ≡ foundOf D.Binding (lowest (binds (now (networks .entry)) (now (kinds .entry)) (now (owners .entry)) peer kind network) n) ⌝ }
+    ensures { λ r. ⌜ r ≡ foundOf D.NoBinding (lowest (binds (now (networks .entry)) (now (kinds .entry)) (now (owners .entry)) peer kind network) n) ⌝ }
 {
     let mut i: usize = 0;
     let found = loop {
         if n <= i {
-            break Lookup::Refused(Drop::Binding);
+            break Lookup::Refused(Drop::NoBinding);
         }
         if is_binding(networks, kinds, owners, i, peer, kind, network) {
             break Lookup::At(i);
@@ -100,7 +100,7 @@ pub(crate) fn find_binding<'a>(
             if next < n {
                 break Lookup::At(next);
             }
-            break Lookup::Refused(Drop::Binding);
+            break Lookup::Refused(Drop::NoBinding);
         }
         i += 2;
     };

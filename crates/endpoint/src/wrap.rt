@@ -146,19 +146,19 @@ fn send(route: Route, frame: &[u8], segment: usize, identifier: u32, output: &mu
 {
     let read = wire::frame::read(frame);
     let FrameRead::Good = read else {
-        return Wrapped::Refused(WrapRefusal::Frame);
+        return Wrapped::Refused(WrapRefusal::BadFrame);
     };
     let n = frame.len();
     if exceeds(route.kind, n, route.mtu) {
-        return Wrapped::Refused(WrapRefusal::Mtu);
+        return Wrapped::Refused(WrapRefusal::ExceedsMtu);
     }
     let segments = segments_of(route.kind, n, route.mtu);
     if segments <= segment {
-        return Wrapped::Refused(WrapRefusal::Segment);
+        return Wrapped::Refused(WrapRefusal::NoSegment);
     }
     let length = put_packet(output, route, segment, segments, identifier, frame);
     if length == 0 {
-        return Wrapped::Refused(WrapRefusal::Output);
+        return Wrapped::Refused(WrapRefusal::OutputTooShort);
     }
     Wrapped::Written(Packet {
         length: length,
@@ -190,11 +190,11 @@ pub fn wrap_on<'a>(
 {
     let b = binding as usize;
     if least(binding_count as usize, BINDINGS) <= b {
-        return Wrapped::Refused(WrapRefusal::Binding);
+        return Wrapped::Refused(WrapRefusal::NoBinding);
     }
     let owner = owners[b];
     if OWNERS <= owner {
-        return Wrapped::Refused(WrapRefusal::Binding);
+        return Wrapped::Refused(WrapRefusal::NoBinding);
     }
     let p = owner as usize;
     let route = Route {

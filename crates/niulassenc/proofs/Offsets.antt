@@ -1,6 +1,5 @@
 -- An endpoint's fields in memory: the types of its columns, and where each field lies, in bytes from the endpoint's start: `#[repr(C)]`, each behind the one
 -- before it.
--- Assumes nothing.
 use Prim.Native.Nat.{ℕ, _+_, _*_}
 use denote.RattleType.{RattleType}
 use denote.Builtin.{u8, u16, u32, u64}

@@ -1,5 +1,4 @@
 -- The parts of a function's code and the types of its locals, for a walk that is cut into pieces.
--- Assumes nothing.
 use Prim.Native.Nat.{ℕ, zero, suc}
 use mathlib.Core.List.{List, [], _∷_}
 use mir.Syntax.{Ty, Body, Local, local, skip, seq, assign, block, loop, cond, switch, exit, return, call, tyBool}

@@ -1,5 +1,4 @@
 -- The version, and the size of an endpoint in memory.
--- Assumes nothing.
 use Prim.Native.Nat.{ℕ, _+_, _*_}
 
 abbrev pub versionOf : (major minor patch : ℕ) → ℕ

@@ -1,5 +1,4 @@
 -- The endpoint's answers as they cross to C: document 01's numbers and values (`valuesOf`, `configCode` .. of the endpoint), in flat structs.
--- Assumes nothing.
 use Prim.Native.Nat.{ℕ}
 use mathlib.Core.Bool.{false}
 use mathlib.Core.Option.{Option, none, some}

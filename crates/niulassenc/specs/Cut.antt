@@ -1,5 +1,4 @@
 -- The part that a place names, as numbers that cross to C: the endpoint's own cut (crate endpoint, specs/View.antt), which is the part that its view gives.
--- Assumes nothing.
 use Prim.Native.Nat.{ℕ}
 use mathlib.Core.Bool.{Bool}
 use Rattle.endpoint.specs.View.{cutOf}

@@ -2,3 +2,4 @@
 pub mod Config
 pub mod Receive
 pub mod Wrap
+pub mod WorkedAnswers

@@ -8,6 +8,9 @@ use endpoint::answer::Received;
 use endpoint::answer::Wrapped;
 use endpoint::code;
 
+// No tenant, no binding, no entry.
+pub const NONE: u16 = 0xFFFF;
+
 // A receive's answer. `code` is document 01's number. Where it is not 0 there is no tenant and no binding (both are 0xFFFF), and the place is empty.
 #[repr(C)]
 pub struct Receipt {
@@ -41,8 +44,8 @@ fn empty(code: u8) -> Receipt
     Receipt {
         start: 0,
         length: 0,
-        tenant: 65535,
-        binding: 65535,
+        tenant: NONE,
+        binding: NONE,
         code: code,
         in_memory: false,
     }
@@ -73,7 +76,7 @@ pub(crate) fn flat_added(answer: Added) -> Addition
     match answer {
         Added::Number(n) => Addition { number: n, code: 0 },
         Added::Refused(r) => Addition {
-            number: 65535,
+            number: NONE,
             code: code::config_code(r),
         },
     }

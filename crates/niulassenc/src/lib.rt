@@ -1,4 +1,4 @@
-// The endpoint for C and Rust: what host/include/niulassenc.h declares. An enum cannot cross that boundary: its numbers do.
+// The endpoint for C and Rust: what include/niulassenc.h declares. An enum cannot cross that boundary: its numbers do.
 pub mod about;
 pub mod answer;
 pub mod config;

@@ -1,5 +1,4 @@
 -- A part of the memory from a place to the end, lent and put back: what the leaves leave in it is what the definitions of `Store` say of the whole.
--- Assumes nothing.
 use Prim.Native.Nat.{ℕ, _≤_, _<_, _+_, _*_, _-_, _/_, _%_}
 use mathlib.Core.Path.{_≡_, sym, ap, _∙_}
 use mathlib.Core.List.{List, _++_, append-nil, append-assoc}

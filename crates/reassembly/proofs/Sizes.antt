@@ -1,5 +1,4 @@
 -- How many slots a row has, from what owning it tells (`c .good` of a parameter, `.ok` of a call's result).
--- Assumes nothing.
 use mathlib.Core.Path.{_≡_, refl, _∙_, sym}
 use mathlib.Core.List.{List, [], _∷_}
 use native.Mathlib.Omega.{arith}

@@ -14,7 +14,7 @@ use Prim.Native.Nat.{ℕ, _+_, _*_, _/_, _%_, _^_, _≤_, _<_}
 use lib.ListN.{length, getD}
 use lib.Dec.{eqb}
 use Rattle.reassembly.specs.Slots.{Slot, noRow, free}
-use Rattle.reassembly.specs.Take.{Seg, Fits, Rejection, rejectionCode, Outcome, Rejected, Pending, Complete, OtherLength, AlreadyReceived, NoSlot}
+use Rattle.reassembly.specs.Take.{Seg, Fits, Rejection, rejectionCode, Outcome, Rejected, Pending, Complete, LengthDiffers, AlreadyReceived, NoSlot}
 use Rattle.reassembly.specs.Store.{bytesOf}
 use Rattle.reassembly.specs.Receive.{Answers, segment, Event, receive, tick, takeAnswer}
 use Rattle.reassembly.specs.SetUp.{Layers, Endpoint, World, receives, runs}
@@ -72,7 +72,7 @@ pub record IfAndOnlyIf (A B : Type 0) : Type 0 where
 
 -- ---- the rules for a segment g that passes 14, of which taking tells o
 pub record Ruled (p : ℕ) (g : Seg) (h h′ : History) (o : Outcome) (m m′ : List ℕ) : Type 0 where
-  pub fifteen : IfAndOnlyIf (o ≡ Rejected OtherLength) (Fifteen h g)
+  pub fifteen : IfAndOnlyIf (o ≡ Rejected LengthDiffers) (Fifteen h g)
   pub sixteen : IfAndOnlyIf (o ≡ Rejected AlreadyReceived) (Sixteen h g)
   pub seventeen : IfAndOnlyIf (o ≡ Rejected NoSlot) (Seventeen h g)
   -- a frame's further segment is added to it, and its ticks go on; a segment that opens a frame is its first, and ticks count from it

@@ -1,4 +1,4 @@
--- One receive, one tick, and a run of them, over any memory that is asked as `Ops` says.
+-- What an answer is and what is answered to a segment, over any memory that is asked as `Ops` says; a receive, a tick and a run stand in SetUp.antt.
 -- Parameters: what an answer is and carries (`Answers`); the header layer, which says whose packet it is and what it carries; and the judgement of a
 -- complete frame, which is applied here, above taking.
 use mathlib.Core.Path.{_≡_}

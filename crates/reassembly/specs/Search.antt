@@ -1,5 +1,4 @@
 -- The lowest number below a bound that passes a test (document 01, "Listing and numbers": the lowest-numbered one that matches is the answer).
--- Assumes nothing.
 use mathlib.Core.Path.{_≡_}
 use mathlib.Core.Bool.{Bool, true, false, cond}
 use mathlib.Core.Option.{Option, none, some}

@@ -3,7 +3,6 @@
 -- The endpoint's page (crate endpoint, specs/Table.antt) joins these rows with its own.
 -- `Table` is THE STATEMENT: the number of what taking gives is that of the first row that applies, and where none does, the frame is complete and has
 -- the bytes named here. Laws/Table.antt proves it (`reassembly-table`).
--- Assumes nothing.
 use Prim.Native.Nat.{ℕ, _+_, _-_, _*_, _/_, _%_, _^_, _<_, _≤_}
 use mathlib.Core.Path.{_≡_}
 use mathlib.Core.Bool.{Bool, not, cond, _&&_, _||_}

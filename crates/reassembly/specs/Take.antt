@@ -9,7 +9,7 @@ use lib.ListN.{length, getD, set}
 use lib.Dec.{ltb, eqb}
 use Rattle.wire.specs.declared.segment.Segment.{Segment}
 pub use Rattle.reassembly.specs.declared.take.Rejection.{Rejection}
-pub use Rattle.reassembly.specs.declared.take.Rejection.the-variants.{Empty, FrameLength, PastEnd, OtherLength, AlreadyReceived, NoSlot}
+pub use Rattle.reassembly.specs.declared.take.Rejection.the-variants.{Empty, FrameLength, PastEnd, LengthDiffers, AlreadyReceived, NoSlot}
 pub use Rattle.reassembly.specs.declared.take.Outcome.{Outcome}
 pub use Rattle.reassembly.specs.declared.take.Outcome.the-variants.{Rejected, Pending, Complete, NoMemory}
 use Rattle.reassembly.specs.Base.{someBelow, allBelow, table}
@@ -34,7 +34,7 @@ unfoldable pub rejectionCode : Rejection → ℕ
 rejectionCode Empty = 14
 rejectionCode FrameLength = 14
 rejectionCode PastEnd = 14
-rejectionCode OtherLength = 15
+rejectionCode LengthDiffers = 15
 rejectionCode AlreadyReceived = 16
 rejectionCode NoSlot = 17
 
@@ -75,7 +75,7 @@ chooseNew (some s) = fresh s
 
 abbrev pub choose : List Slot → Seg → Option ℕ → Choice
 choose row g none = chooseNew (first isFree row)
-choose row g (some s) = cond (eqb (getD row s free .«frame_length») (g .frame-length)) (old s) (reject OtherLength)
+choose row g (some s) = cond (eqb (getD row s free .«frame_length») (g .frame-length)) (old s) (reject LengthDiffers)
 
 -- 14 in its three causes, then 15 or 17
 unfoldable pub chosen : List Slot → Seg → Choice
@@ -98,7 +98,7 @@ pub record Fresh (row : List Slot) (g : Seg) (s : ℕ) : Type 0 where
   pub fits : Fits g
   pub is-slot : s < mostSlots
   pub is-free : getD row s free .pending ≡ false
-  pub strange : (t : ℕ) → t < mostSlots → bears (g .identifier) (getD row t free) ≡ false
+  pub no-bearer : (t : ℕ) → t < mostSlots → bears (g .identifier) (getD row t free) ≡ false
 
 -- the code's own words for a decision
 unfoldable pub decisionOf : Choice → Decision

@@ -16,11 +16,11 @@ pub const SLOT_BYTES: usize = FRAME_BYTES + MAP_BYTES;
 pub const MEMORY_BYTES: usize = PEERS * SLOTS * SLOT_BYTES;
 
 // An STT frame's bounds (check 14).
-pub const LENGTH_LEAST: u16 = 32;
+pub const STT_FRAME_MIN: u16 = 32;
 
-pub const LENGTH_MOST: u16 = 1532;
+pub const STT_FRAME_MAX: u16 = 1532;
 
 // The age at which a pending frame is given up, in ticks, and the oldest that it grows.
 pub const LIFETIME: u8 = 4;
 
-pub const AGE_MOST: u8 = LIFETIME - 1;
+pub const AGE_MAX: u8 = LIFETIME - 1;

@@ -7,23 +7,23 @@ ghost use Rattle.reassembly.specs.Slots.{mostPeers, mostSlots};
 ghost use Rattle.reassembly.specs.Take.{rejectionCode, segOf, chosen, placed, old, fresh, Old, Fresh, decisionOf};
 ghost use Rattle.reassembly.specs.Store.{bytesOf, takeIn, takenOf, finished};
 use crate::memory;
-use crate::number::LENGTH_LEAST;
-use crate::number::LENGTH_MOST;
 use crate::number::MEMORY_BYTES;
 use crate::number::PEERS;
 use crate::number::SLOTS;
+use crate::number::STT_FRAME_MAX;
+use crate::number::STT_FRAME_MIN;
 use crate::slot;
 use crate::slot::FoundSlot;
 use crate::slot::Peer;
 use crate::slot::Slot;
 use wire::segment::Segment;
 
-// Why a segment is not taken: 14 (Empty, FrameLength, PastEnd), 15 (OtherLength), 16 (AlreadyReceived), 17 (NoSlot).
+// Why a segment is not taken: 14 (Empty, FrameLength, PastEnd), 15 (LengthDiffers), 16 (AlreadyReceived), 17 (NoSlot).
 pub enum Rejection {
     Empty,
     FrameLength,
     PastEnd,
-    OtherLength,
+    LengthDiffers,
     AlreadyReceived,
     NoSlot,
 }
@@ -36,7 +36,7 @@ pub fn rejection_code(r: Rejection) -> u8
         Rejection::Empty => 14,
         Rejection::FrameLength => 14,
         Rejection::PastEnd => 14,
-        Rejection::OtherLength => 15,
+        Rejection::LengthDiffers => 15,
         Rejection::AlreadyReceived => 16,
         Rejection::NoSlot => 17,
     }
@@ -110,10 +110,10 @@ pub(crate) fn decide(row: Peer, segment: Segment, bytes: &[u8]) -> Decision
     if bytes.len() == 0 {
         return Decision::Reject(Rejection::Empty);
     }
-    if segment.frame_length < LENGTH_LEAST {
+    if segment.frame_length < STT_FRAME_MIN {
         return Decision::Reject(Rejection::FrameLength);
     }
-    if LENGTH_MOST < segment.frame_length {
+    if STT_FRAME_MAX < segment.frame_length {
         return Decision::Reject(Rejection::FrameLength);
     }
     let end = end_of(segment.offset, bytes);
@@ -124,7 +124,7 @@ pub(crate) fn decide(row: Peer, segment: Segment, bytes: &[u8]) -> Decision
     if let FoundSlot::At(s) = pending {
         let frame = row.slots[s];
         if frame.frame_length != segment.frame_length {
-            return Decision::Reject(Rejection::OtherLength);
+            return Decision::Reject(Rejection::LengthDiffers);
         }
         return Decision::Further(s);
     }

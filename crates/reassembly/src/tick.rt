@@ -1,7 +1,7 @@
 // Ageing (document 01, "Reassembly memory"): a tick adds 1 to the age of every pending frame and frees those that reach 4. It touches no memory.
 ghost use mathlib.Core.Path.{_≡_};
 ghost use Rattle.reassembly.specs.Slots.{older, olderRow};
-use crate::number::AGE_MOST;
+use crate::number::AGE_MAX;
 use crate::slot;
 use crate::slot::Peer;
 use crate::slot::Slot;
@@ -12,7 +12,7 @@ pub fn older_slot(slot: Slot) -> Slot
     if !slot.pending {
         return slot;
     }
-    if AGE_MOST <= slot.age {
+    if AGE_MAX <= slot.age {
         return slot::free_slot();
     }
     Slot {

@@ -2,7 +2,7 @@
 use crate::line;
 use crate::number;
 use crate::record;
-use crate::record::PAYLOAD_MOST;
+use crate::record::PAYLOAD_MAX;
 use endpoint::answer::Place;
 use endpoint::config;
 use endpoint::config::Endpoint;
@@ -189,8 +189,8 @@ fn wrap_read(state: State, length: usize, payload: &mut [u8], output: &mut [u8])
 
 // It is read to a place of its own: the last packet stays, for the views after it.
 pub(crate) fn wrap(state: State, length: usize) -> State {
-    let mut payload = [0u8; PAYLOAD_MOST];
-    let mut output = [0u8; PAYLOAD_MOST];
+    let mut payload = [0u8; PAYLOAD_MAX];
+    let mut output = [0u8; PAYLOAD_MAX];
     wrap_read(state, length, &mut payload, &mut output)
 }
 

@@ -6,10 +6,10 @@ mod number;
 mod record;
 
 use call::State;
-use record::FIELDS_MOST;
+use record::FIELDS_MAX;
 use record::Head;
-use record::LENT_MOST;
-use record::PAYLOAD_MOST;
+use record::LENT_MAX;
+use record::PAYLOAD_MAX;
 
 // Makes the call of one record. A packet stays where it was read, for the views after it; other calls have short payloads of fields.
 fn turn(state: State, memory: &mut [u8], packet: &mut [u8]) -> State {
@@ -25,7 +25,7 @@ fn turn(state: State, memory: &mut [u8], packet: &mut [u8]) -> State {
             if op == record::WRAP {
                 return call::wrap(state, length);
             }
-            let mut fields = [0u8; FIELDS_MOST];
+            let mut fields = [0u8; FIELDS_MAX];
             if !record::read_fields(op, length, &mut fields) {
                 return call::broken(state);
             }
@@ -48,7 +48,7 @@ fn run(memory: &mut [u8], packet: &mut [u8]) {
 }
 
 fn main() {
-    let mut memory = [0u8; LENT_MOST];
-    let mut packet = [0u8; PAYLOAD_MOST];
+    let mut memory = [0u8; LENT_MAX];
+    let mut packet = [0u8; PAYLOAD_MAX];
     run(&mut memory, &mut packet);
 }

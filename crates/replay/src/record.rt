@@ -20,12 +20,12 @@ pub(crate) const VIEW: u8 = 7;
 pub(crate) const WRAP: u8 = 8;
 
 // The longest payload, and the longest one that is neither a packet nor a frame.
-pub(crate) const PAYLOAD_MOST: usize = 2000;
+pub(crate) const PAYLOAD_MAX: usize = 2000;
 
-pub(crate) const FIELDS_MOST: usize = 17;
+pub(crate) const FIELDS_MAX: usize = 17;
 
 // The most memory that a record lends.
-pub(crate) const LENT_MOST: usize = 60000;
+pub(crate) const LENT_MAX: usize = 60000;
 
 // What the next record is, if there is one.
 pub(crate) enum Head {
@@ -55,7 +55,7 @@ fn fields_length(op: u8) -> usize {
         ADD_BINDING => 13,
         LEND => 8,
         TICK => 0,
-        VIEW => FIELDS_MOST,
+        VIEW => FIELDS_MAX,
         _ => 65536,
     }
 }

@@ -6,8 +6,8 @@ mod tally;
 
 use endpoint::config;
 use endpoint::config::Endpoint;
-use endpoint::number::MTU_LEAST;
-use endpoint::number::MTU_MOST;
+use endpoint::number::MTU_MAX;
+use endpoint::number::MTU_MIN;
 use endpoint::number::NVGRE;
 use endpoint::number::STT;
 use endpoint::number::VXLAN;
@@ -22,12 +22,12 @@ const SENDER: u32 = 0x0a000001;
 const RECEIVER: u32 = 0x0a000002;
 
 // The smallest and the largest frame.
-const FRAME_LEAST: usize = 14;
+const FRAME_MIN: usize = 14;
 
-const FRAME_MOST: usize = 1514;
+const FRAME_MAX: usize = 1514;
 
 // The bytes of the largest packet.
-const PACKET_MOST: usize = MTU_MOST as usize;
+const PACKET_MAX: usize = MTU_MAX as usize;
 
 // An endpoint at `own` with one peer, whose networks VXLAN 22, NVGRE 4,096 and STT 77 are bindings 0, 1 and 2.
 fn set_up(own: u32, peer: u32, mtu: u32) -> Endpoint {
@@ -77,8 +77,8 @@ fn one_size(
 fn sizes(mtu: u32, binding: u32, frame: &mut [u8], out: &mut [u8], memory: &mut [u8]) {
     let sender = set_up(SENDER, RECEIVER, mtu);
     let mut t = tally::begin(set_up(RECEIVER, SENDER, mtu));
-    let mut size: usize = FRAME_LEAST;
-    while size <= FRAME_MOST {
+    let mut size: usize = FRAME_MIN;
+    while size <= FRAME_MAX {
         if frame.len() < size {
             return;
         }
@@ -98,9 +98,9 @@ fn kinds(mtu: u32, frame: &mut [u8], out: &mut [u8], memory: &mut [u8]) {
 // The memory may contain anything at first: here no byte of it is 0.
 fn main() {
     let mut memory = [0xA5u8; MEMORY_BYTES];
-    let mut frame = [0u8; FRAME_MOST];
-    let mut out = [0u8; PACKET_MOST];
-    kinds(MTU_LEAST, &mut frame, &mut out, &mut memory);
+    let mut frame = [0u8; FRAME_MAX];
+    let mut out = [0u8; PACKET_MAX];
+    kinds(MTU_MIN, &mut frame, &mut out, &mut memory);
     kinds(1500, &mut frame, &mut out, &mut memory);
-    kinds(MTU_MOST, &mut frame, &mut out, &mut memory);
+    kinds(MTU_MAX, &mut frame, &mut out, &mut memory);
 }

@@ -1,5 +1,4 @@
 -- What an IP payload carries (document 01, "Carriage and tunnel headers"): a frame on a VXLAN or NVGRE network, or a segment of an STT frame.
--- Assumes nothing.
 use Prim.Native.Nat.{ℕ, _+_, _/_, _%_, _≤_}
 use mathlib.Core.Path.{_≡_}
 use mathlib.Core.Logic.{_⊎_}

@@ -1,5 +1,4 @@
 -- The inner frame: Ethernet (IEEE 802.3) with no check sequence and no VLAN tag.
--- Assumes nothing.
 use Prim.Native.Nat.{ℕ, _≤_}
 use mathlib.Core.Path.{_≡_}
 use mathlib.Core.Logic.{_≢_}

@@ -1,5 +1,4 @@
 -- IPv4 (RFC 791, 3.1): what a packet is, and what the reader answers.
--- Assumes nothing.
 use Prim.Native.Nat.{ℕ, _+_, _*_, _/_, _%_, _^_, _<_, _≤_}
 use mathlib.Core.Path.{_≡_}
 use mathlib.Core.Bool.{not}
@@ -67,7 +66,7 @@ pub record IsIpv4 (source destination protocol : ℕ) (payload packet : List ℕ
   pub trailing : List ℕ
   pub whole : packet ≡ header f ++ (payload ++ trailing)
   pub size : f .size ≡ length (header f) + length payload
-  pub checksum : ones (total (header f)) ≡ 65535
+  pub checksum : ones (total (header f)) ≡ 0xFFFF
   pub last : f .flags % 2 ≡ 0
   pub offset : f .offset ≡ 0
   pub source-is : f .source ≡ source
@@ -95,7 +94,7 @@ ipv4Checks s =
     ∷ (ltb (wordsAt s) 5 ⇒ R.HeaderLength)
     ∷ (ltb (sizeAt s) (4 * wordsAt s) ⇒ R.TotalLength)
     ∷ (ltb (length s) (sizeAt s) ⇒ R.TotalLength)
-    ∷ (not (eqb (ones (total (take (4 * wordsAt s) s))) 65535) ⇒ R.HeaderChecksum)
+    ∷ (not (eqb (ones (total (take (4 * wordsAt s) s))) 0xFFFF) ⇒ R.HeaderChecksum)
     ∷ (not (eqb (beAt s 6 2 % 2 ^ 14) 0) ⇒ R.Fragment)
     ∷ []
 

@@ -1,6 +1,5 @@
 -- The layout of every packet that we write (document 01, "Wrapping" and "Carriage and tunnel headers"): each field of its headers in the order of the RFCs'
 -- pictures, by its place, its width in bytes and its value, and then what is carried. It is held against the bytes, whatever built them.
--- Assumes nothing.
 use Prim.Native.Nat.{ℕ, _+_, _%_, _^_, _<_, _≤_}
 use mathlib.Core.Path.{_≡_}
 use mathlib.Core.Bool.{Bool, cond}

@@ -1,5 +1,4 @@
 -- NVGRE (RFC 7637, 3.2; GRE with a key, RFC 2890): what carries a frame, and what the reader answers.
--- Assumes nothing.
 use Prim.Native.Nat.{ℕ, _+_, _*_, _%_, _^_, _<_}
 use mathlib.Core.Path.{_≡_}
 use mathlib.Core.Bool.{not}
@@ -14,7 +13,7 @@ use Rattle.wire.specs.declared.carriage.Tunnel.{Tunnel}
 use Rattle.wire.specs.declared.carriage.Carried.{Carried}
 use Rattle.wire.specs.declared.carriage.Carried.the-variants as C
 
--- Checksum and sequence bits 0, key bit 1, version 0, protocol type 0x6558. Of the reserved bits those that a receiver ignores (6 to 12, RFC 2784, 2.1) stand
+-- Checksum and sequence bits 0, key bit 1, version 0, protocol type 0x6558. Of the reserved bits those that a receiver ignores (6 to 12, RFC 2784, 2.3) stand
 -- on both sides of a byte's end: `high` and `low`. The key is the VSID and the FlowID (RFC 7637, 3.2).
 unfoldable pub gre : (high low vsid flow : ℕ) → List ℕ → List ℕ
 gre high low vsid flow frame = be 1 (2 * 16 + high) then be 1 (low * 8) then be 2 0x6558 then be 3 vsid then be 1 flow then frame

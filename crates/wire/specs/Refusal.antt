@@ -1,5 +1,4 @@
 -- The numbers of document 01's table for the causes that a format knows.
--- Assumes nothing.
 use Prim.Native.Nat.{ℕ}
 use Rattle.wire.specs.declared.refusal.Refusal.{Refusal}
 use Rattle.wire.specs.declared.refusal.Refusal.the-variants as R

@@ -1,5 +1,4 @@
 -- A segment of STT (draft-davie-stt-06, 3.2): what it is, and what the reader answers.
--- Assumes nothing.
 use Prim.Native.Nat.{ℕ, _+_, _-_, _*_, _/_, _^_, _<_}
 use mathlib.Core.Path.{_≡_}
 use mathlib.Core.Bool.{not}
@@ -60,7 +59,7 @@ pub record IsSegment (source destination port frameLength offset identifier : �
   pub fits : Fits f
   pub whole : payload ≡ header f ++ bytes
   pub short : length payload < 256 ^ 2  -- the pseudo header can tell its length
-  pub checksum : ones (total (pseudo source destination 6 (length payload) ++ payload)) ≡ 65535
+  pub checksum : ones (total (pseudo source destination 6 (length payload) ++ payload)) ≡ 0xFFFF
   pub port-is : f .to ≡ port
   pub frame-length-is : f .frame-length ≡ frameLength
   pub offset-is : f .offset ≡ offset
@@ -77,7 +76,7 @@ segmentChecks source destination port s =
     ∷ (ltb 65535 (length s) ⇒ R.TcpLength)
     ∷ (ltb (wordsAt s) 5 ⇒ R.DataOffset)
     ∷ (ltb (length s) (4 * wordsAt s) ⇒ R.DataOffset)
-    ∷ (not (eqb (ones (total (pseudo source destination 6 (length s) ++ s))) 65535) ⇒ R.TcpChecksum)
+    ∷ (not (eqb (ones (total (pseudo source destination 6 (length s) ++ s))) 0xFFFF) ⇒ R.TcpChecksum)
     ∷ []
 
 unfoldable pub segmentAt : List ℕ → Segment

@@ -1,5 +1,4 @@
 -- An STT frame (draft-davie-stt-06, 3.1): what it is, and what the reader of a complete one answers.
--- Assumes nothing.
 use Prim.Native.Nat.{ℕ, _%_, _^_, _<_, _≤_}
 use mathlib.Core.Path.{_≡_}
 use mathlib.Core.Logic.{_≢_}

@@ -1,5 +1,4 @@
 -- The ones' complement sum (RFC 1071), over lists of bytes. A checksum is right exactly when the sum over everything, its field included, is 0xFFFF.
--- Assumes nothing.
 use Prim.Native.Nat.{ℕ, zero, suc, _+_, _-_, _*_, _%_}
 use mathlib.Core.List.{List, [], _∷_}
 use Rattle.wire.specs.Bytes.{be, _then_}
@@ -13,7 +12,7 @@ total (a ∷ b ∷ s) = a * 256 + b + total s
 -- a number folded to 16 bits by end-around carries: 0 only for 0, and else the one of 1 to 65,535 that leaves the same rest by 65,535
 unfoldable pub ones : ℕ → ℕ
 ones zero = 0
-ones (suc n) = n % 65535 + 1
+ones (suc n) = n % 0xFFFF + 1
 
 -- What is summed in front of a UDP datagram (RFC 768) or of a TCP segment (RFC 793, 3.1).
 unfoldable pub pseudo : (source destination protocol size : ℕ) → List ℕ
@@ -22,4 +21,4 @@ pseudo source destination protocol size =
 
 -- What a writer puts into a checksum's field: the complement of the sum over all else.
 unfoldable pub complement : List ℕ → ℕ
-complement s = 65535 - ones (total s)
+complement s = 0xFFFF - ones (total s)

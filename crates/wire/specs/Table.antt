@@ -2,7 +2,6 @@
 -- The endpoint's page (crate endpoint, specs/Table.antt) joins them with its own; compare them with the paper line by line.
 -- No reader stands here but in `Table`, THE STATEMENT: the number of what a reader answers is that of the first row that applies, and where none does,
 -- the fields that it read are those named there. Laws/Table.antt proves it (`wire-table`).
--- Assumes nothing.
 use Prim.Native.Nat.{ℕ, _*_, _/_, _%_, _^_, _≤_}
 use mathlib.Core.Path.{_≡_}
 use mathlib.Core.Bool.{Bool, not, cond, _&&_, _||_}

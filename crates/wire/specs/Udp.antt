@@ -1,5 +1,4 @@
 -- UDP (RFC 768): what a datagram is, and what the reader answers.
--- Assumes nothing.
 use Prim.Native.Nat.{ℕ, _+_, _^_, _<_}
 use mathlib.Core.Path.{_≡_}
 use mathlib.Core.Bool.{not}
@@ -24,7 +23,7 @@ pub record IsUdp (source destination port : ℕ) (payload datagram : List ℕ) :
   pub from : ℕ
   pub checksum : ℕ
   pub whole : datagram ≡ udp from port (8 + length payload) checksum payload
-  pub right : (checksum ≡ 0) ⊎ (ones (total (pseudo source destination 17 (length datagram) ++ datagram)) ≡ 65535)
+  pub right : (checksum ≡ 0) ⊎ (ones (total (pseudo source destination 17 (length datagram) ++ datagram)) ≡ 0xFFFF)
   pub from-fits : from < 256 ^ 2
   pub port-fits : port < 256 ^ 2
   pub size-fits : 8 + length payload < 256 ^ 2
@@ -33,7 +32,7 @@ pub record IsUdp (source destination port : ℕ) (payload datagram : List ℕ) :
 -- The sum by which a datagram is judged: all ones where there is no checksum.
 unfoldable pub udpSum : (source destination : ℕ) → List ℕ → ℕ
 udpSum source destination s =
-    pick (eqb (beAt s 6 2) 0) 65535 (ones (total (pseudo source destination 17 (length s) ++ s)))
+    pick (eqb (beAt s 6 2) 0) 0xFFFF (ones (total (pseudo source destination 17 (length s) ++ s)))
 
 -- The checks of document 01 in their order: 9 (short), 8 (port), 9 (length; no room for a tunnel header), 10.
 unfoldable pub udpChecks : (source destination : ℕ) → List ℕ → List (Check Refusal)
@@ -42,7 +41,7 @@ udpChecks source destination s =
     ∷ (not (eqb (beAt s 2 2) 4789) ⇒ R.Port)
     ∷ (not (eqb (beAt s 4 2) (length s)) ⇒ R.UdpLength)
     ∷ (ltb (length s) 16 ⇒ R.UdpLength)
-    ∷ (not (eqb (udpSum source destination s) 65535) ⇒ R.UdpChecksum)
+    ∷ (not (eqb (udpSum source destination s) 0xFFFF) ⇒ R.UdpChecksum)
     ∷ []
 
 -- What is accepted is what VXLAN's reader answers to the payload.

@@ -1,5 +1,4 @@
 -- VXLAN (RFC 7348, 5): what the header in front of a frame is, and what the reader answers.
--- Assumes nothing.
 use Prim.Native.Nat.{ℕ, _/_, _%_, _^_, _<_}
 use mathlib.Core.Path.{_≡_}
 use mathlib.Core.Bool.{not}

@@ -1,5 +1,4 @@
 -- What we write (document 01, "Wrapping"), by the same functions of fields to bytes that the readers are proved against.
--- Assumes nothing.
 use Prim.Native.Nat.{ℕ, _+_, _%_}
 use mathlib.Core.Path.{_≡_}
 use mathlib.Core.Bool.{Bool, true, false}

@@ -2,8 +2,8 @@
 ghost use mathlib.Core.Path.{_≡_};
 ghost use Rattle.wire.specs.Frame.{frameOf};
 use crate::be::be16;
-use crate::number::FRAME_LEAST;
-use crate::number::FRAME_MOST;
+use crate::number::FRAME_MAX;
+use crate::number::FRAME_MIN;
 use crate::number::TYPE_SERVICE_VLAN;
 use crate::number::TYPE_VLAN;
 use crate::refusal::Refusal;
@@ -16,10 +16,10 @@ pub enum FrameRead {
 pub fn read(s: &[u8]) -> FrameRead
     ensures { λ r. ⌜ r ≡ frameOf (now (s .entry)) ⌝ }
 {
-    if s.len() < FRAME_LEAST {
+    if s.len() < FRAME_MIN {
         return FrameRead::Refused(Refusal::FrameLength);
     }
-    if FRAME_MOST < s.len() {
+    if FRAME_MAX < s.len() {
         return FrameRead::Refused(Refusal::FrameLength);
     }
     let kind = be16(s, 12);

@@ -7,8 +7,12 @@ ghost use Rattle.wire.specs.Udp.{udp};
 ghost use Rattle.wire.specs.Vxlan.{vxlan};
 ghost use Rattle.wire.specs.Nvgre.{gre};
 ghost use Rattle.wire.specs.Write.{ipv4With, ipv4Head, tcpWith, sttFrame};
+use crate::number::ALL_ONES;
+use crate::number::GRE_KEY;
 use crate::number::GRE_TYPE_HIGH;
 use crate::number::GRE_TYPE_LOW;
+use crate::number::IPV4_VERSION_IHL;
+use crate::number::TCP_DATA_OFFSET;
 use crate::number::TIME_TO_LIVE;
 use crate::number::VXLAN_FLAG;
 use crate::sum::sum;
@@ -45,12 +49,12 @@ fn above(x: u64) -> u64
     x / 256 / 256 / 256 / 256
 }
 
-// IPv4 (RFC 791, 3.1): no options (0x45), don't fragment (0x4000).
+// IPv4 (RFC 791, 3.1): no options, don't fragment (0x4000).
 fn ipv4_with(protocol: u8, size: u64, source: u64, destination: u64, checksum: u64) -> [u8; 20]
     ensures { λ r. ⌜ r ≡ ipv4With protocol size source destination checksum ⌝ }
 {
     [
-        0x45,
+        IPV4_VERSION_IHL,
         0,
         b1(size),
         b0(size),
@@ -78,7 +82,7 @@ pub(crate) fn ipv4(protocol: u8, size: u64, source: u64, destination: u64) -> [u
     ensures { λ r. ⌜ r ≡ ipv4Head protocol size source destination ⌝ }
 {
     let blank = ipv4_with(protocol, size, source, destination, 0);
-    let checksum = 0xFFFF - sum(0, &blank) as u64;
+    let checksum = ALL_ONES as u64 - sum(0, &blank) as u64;
     ipv4_with(protocol, size, source, destination, checksum)
 }
 
@@ -106,12 +110,12 @@ pub(crate) fn vxlan(port: u64, size: u64, vni: u64) -> [u8; 16]
     ]
 }
 
-// GRE with the network's key (RFC 7637, 3.2), whose flag is 0x20.
+// GRE with the network's key (RFC 7637, 3.2).
 pub(crate) fn nvgre(vsid: u64) -> [u8; 8]
     ensures { λ r. ⌜ r ≡ gre 0 0 vsid 0 [] ⌝ }
 {
     [
-        0x20,
+        GRE_KEY,
         0,
         GRE_TYPE_HIGH,
         GRE_TYPE_LOW,
@@ -173,7 +177,7 @@ pub(crate) fn segment(
         b2(identifier),
         b1(identifier),
         b0(identifier),
-        0x50,
+        TCP_DATA_OFFSET,
         flags,
         0,
         0,

@@ -22,6 +22,15 @@ pub const TCP_PSH_ACK: u8 = 0x18;
 
 pub const TIME_TO_LIVE: u8 = 64;
 
+// The first byte of an IPv4 header that we write: version 4 and five words (RFC 791, 3.1).
+pub const IPV4_VERSION_IHL: u8 = 0x45;
+
+// The byte of a TCP-shaped header that we write with the data offset in its upper half: five words (RFC 793, 3.1).
+pub const TCP_DATA_OFFSET: u8 = 0x50;
+
+// GRE's key bit in its first byte (RFC 2890, 2).
+pub const GRE_KEY: u8 = 0x20;
+
 // The kinds of a network (document 01, "Listing and numbers").
 pub const KIND_VXLAN: u8 = 1;
 
@@ -65,17 +74,17 @@ pub const TYPE_VLAN: u16 = 0x8100;
 pub const TYPE_SERVICE_VLAN: u16 = 0x88A8;
 
 // An inner frame's bounds.
-pub const FRAME_LEAST: usize = 14;
+pub const FRAME_MIN: usize = 14;
 
-pub const FRAME_MOST: usize = 1514;
+pub const FRAME_MAX: usize = 1514;
 
-// The largest length that a 16-bit field tells.
-pub const LENGTH_MOST: usize = 65535;
+// The longest payload that a 16-bit length field can give.
+pub const PAYLOAD_MAX: usize = 65535;
 
 // The source ports of VXLAN and STT (document 01, "Wrapping"): the first one, and how many there are.
-pub const PORT_LEAST: u64 = 49152;
+pub const SOURCE_PORT_FIRST: u64 = 49152;
 
-pub const PORTS: u64 = 16384;
+pub const SOURCE_PORTS: u64 = 16384;
 
 // A ones' complement sum with its checksum in it (RFC 1071): all ones.
 pub const ALL_ONES: u16 = 0xFFFF;

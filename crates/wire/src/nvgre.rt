@@ -8,19 +8,20 @@ use crate::bits::low3;
 use crate::carriage::Carried;
 use crate::carriage::Tunnel;
 use crate::number::GRE_HEADER;
+use crate::number::GRE_KEY;
 use crate::number::GRE_TYPE_HIGH;
 use crate::number::GRE_TYPE_LOW;
 use crate::number::KIND_NVGRE;
 use crate::refusal::Refusal;
 
-// Of the first byte, the two lowest bits are reserved and ignored (RFC 2784, 2.1); of the others, the key's alone is set: 0x20.
+// Of the first byte, the two lowest bits are reserved and ignored (RFC 2784, 2.3); of the others, the key's alone is set.
 pub fn read(s: &[u8]) -> Carried
     ensures { λ r. ⌜ r ≡ nvgreOf (now (s .entry)) ⌝ }
 {
     if s.len() < GRE_HEADER {
         return Carried::Refused(Refusal::Short);
     }
-    if high6(be8(s, 0)) != 0x20 {
+    if high6(be8(s, 0)) != GRE_KEY {
         return Carried::Refused(Refusal::GreFlags);
     }
     if low3(be8(s, 1)) != 0 {

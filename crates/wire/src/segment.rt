@@ -7,7 +7,7 @@ use crate::be::be32;
 use crate::bits::high4;
 use crate::carriage::Carried;
 use crate::number::ALL_ONES;
-use crate::number::LENGTH_MOST;
+use crate::number::PAYLOAD_MAX;
 use crate::number::PROTOCOL_TCP;
 use crate::number::TCP_HEADER;
 use crate::refusal::Refusal;
@@ -32,7 +32,7 @@ pub fn read(source: u32, destination: u32, port: u16, s: &[u8]) -> Carried
     if be16(s, 2) != port {
         return Carried::Refused(Refusal::Port);
     }
-    if LENGTH_MOST < s.len() {
+    if PAYLOAD_MAX < s.len() {
         return Carried::Refused(Refusal::TcpLength);
     }
     let words = high4(be8(s, 12)) as usize;

@@ -9,16 +9,17 @@ ghost use Rattle.wire.specs.Sum.{pseudo, complement};
 ghost use Rattle.wire.specs.Write.{sourcePort, flagsOf, fits, segmentFits, segmentBytes, segmentBody, vxlanPacket, nvgrePacket, segmentPacket, Written};
 use crate::be::be16;
 use crate::head;
-use crate::number::FRAME_LEAST;
+use crate::number::ALL_ONES;
+use crate::number::FRAME_MIN;
 use crate::number::IPV4_HEADER;
-use crate::number::LENGTH_MOST;
 use crate::number::NVGRE_OVERHEAD;
-use crate::number::PORT_LEAST;
-use crate::number::PORTS;
+use crate::number::PAYLOAD_MAX;
 use crate::number::PROTOCOL_GRE;
 use crate::number::PROTOCOL_TCP;
 use crate::number::PROTOCOL_UDP;
 use crate::number::SEGMENT_OVERHEAD;
+use crate::number::SOURCE_PORT_FIRST;
+use crate::number::SOURCE_PORTS;
 use crate::number::STT_HEADER;
 use crate::number::TCP_ACK;
 use crate::number::TCP_CHECKSUM;
@@ -40,7 +41,7 @@ fn source_port(frame: &[u8]) -> u64
         + be16(frame, 4) as u64
         + be16(frame, 6) as u64;
     let b = be16(frame, 8) as u64 + be16(frame, 10) as u64 + be16(frame, 12) as u64;
-    PORT_LEAST + (a + b) % PORTS
+    SOURCE_PORT_FIRST + (a + b) % SOURCE_PORTS
 }
 
 // Do a frame of n bytes and the headers in front of it make a packet, and does the output have room for it?
@@ -48,13 +49,13 @@ fn frame_fits(headers: usize, n: usize, room: usize) -> bool
     requires { ⌜ headers ≤ 100 ⌝ }
     ensures { λ r. ⌜ r ≡ fits headers n room ⌝ }
 {
-    if n < FRAME_LEAST {
+    if n < FRAME_MIN {
         return false;
     }
-    if LENGTH_MOST < n {
+    if PAYLOAD_MAX < n {
         return false;
     }
-    if LENGTH_MOST < headers + n {
+    if PAYLOAD_MAX < headers + n {
         return false;
     }
     if room < headers + n {
@@ -127,10 +128,10 @@ pub fn nvgre(out: &mut [u8], source: u32, destination: u32, vsid: u32, frame: &[
 fn segment_fits(n: usize, offset: usize, count: usize, room: usize) -> bool
     ensures { λ r. ⌜ r ≡ segmentFits n offset count room ⌝ }
 {
-    if n < FRAME_LEAST {
+    if n < FRAME_MIN {
         return false;
     }
-    if LENGTH_MOST - STT_HEADER < n {
+    if PAYLOAD_MAX - STT_HEADER < n {
         return false;
     }
     if STT_HEADER + n < offset {
@@ -139,7 +140,7 @@ fn segment_fits(n: usize, offset: usize, count: usize, room: usize) -> bool
     if STT_HEADER + n - offset < count {
         return false;
     }
-    if LENGTH_MOST < SEGMENT_OVERHEAD + count {
+    if PAYLOAD_MAX < SEGMENT_OVERHEAD + count {
         return false;
     }
     if room < SEGMENT_OVERHEAD + count {
@@ -202,7 +203,7 @@ fn seal(s: &mut [u8], source: u32, destination: u32)
     ensures { λ _. ⌜ now (s .exit) ≡ laid (now (s .entry)) 16 (be 2 (complement (pseudo source destination 6 (length (now (s .entry))) ++ now (s .entry)))) ⌝ }
 {
     let sum = sum_behind(source, destination, PROTOCOL_TCP, &s[..]);
-    let field = head::checksum(0xFFFF - sum as u64);
+    let field = head::checksum(ALL_ONES as u64 - sum as u64);
     put(s, TCP_CHECKSUM, &field);
 }
 

@@ -65,7 +65,7 @@ impl Kind {
     fn allows(self, network_id: u64) -> bool {
         match self {
             Kind::Vxlan => network_id <= 0xFF_FFFF,
-            // RFC 7637, section 3.2: 0 to 0xFFF and 0xFFFFFF are reserved.
+            // RFC 7637, section 3.4: 0 to 0xFFF and 0xFFFFFF are reserved.
             Kind::Nvgre => (0x1000..=0xFF_FFFE).contains(&network_id),
             Kind::Stt => true,
         }

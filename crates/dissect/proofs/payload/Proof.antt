@@ -1,5 +1,4 @@
 -- `dissect::payload` is safe: the inner frame lies in the payload.
--- Assumes nothing.
 use mathlib.Core.Path.{_∙_, sym}
 use native.Mathlib.Omega.{arith}
 use Rattle.wire.specs.Laws.Carriage.{tunnel-within}

@@ -1,5 +1,4 @@
 -- `dissect::show` is safe: the payload lies in the packet.
--- Assumes nothing.
 use mathlib.Core.Path.{_∙_, sym}
 use native.Mathlib.Omega.{arith}
 use lib.ListN.{length-take, length-drop}

@@ -1,5 +1,4 @@
 -- Document 01's number and values of an answer, case by case: what a crate above knows of `addedCode`, `tickCode` and `wrapValuesOf`.
--- Assumes nothing.
 use Prim.Native.Nat.{ℕ}
 use mathlib.Core.Path.{_≡_, refl}
 use Rattle.endpoint.specs.declared.answer.ConfigRefusal.{ConfigRefusal}

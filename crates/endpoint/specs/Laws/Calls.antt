@@ -1,7 +1,6 @@
 -- The calls, as their contracts give them, are the steps of the theory of runs: a receive is `receives`, a tick is `next .. tick`, a set-up has every slot
 -- free.
 -- So what is proved of `runs` is proved of every list of these calls, each given the endpoint and the memory that the last one left.
--- Assumes nothing.
 use Prim.Native.Nat.{ℕ}
 use mathlib.Core.Path.{_≡_, refl, sym, ap, _∙_}
 use mathlib.Core.List.{List, [], _∷_}
@@ -66,7 +65,7 @@ pub receive-is : (e : Endpoint) (m k : List ℕ) → afterStep e (stepOf e m k) 
 unfolding stepOf
 receive-is e m k =
     caseB (ltb (length m) 55296)
-    (λ b. rw b (ap (λ (w : World Config). record { reply = R.Dropped D.Memory; world = w }) (same-world e 0 m)
+    (λ b. rw b (ap (λ (w : World Config). record { reply = R.Dropped D.MemoryTooSmall; world = w }) (same-world e 0 m)
     ∙ sym (receives-small answers Config layers (worldOf e m) k (ltb-true (length m) 55296 b))))
     (λ b. rw b (stepped-is e m (headerOf (configOf e) k) ∙ sym (receives-by answers Config layers (worldOf e m) k (ltb-false (length m) 55296 b))))
 

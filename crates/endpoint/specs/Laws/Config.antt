@@ -1,5 +1,4 @@
 -- Laws of the configuration: what the calls and a tick leave of the rows, what the lookups find, and what holds of every set-up.
--- Assumes nothing.
 use mathlib.Core.Path.{_≡_, refl, sym, ap, subst, _∙_}
 use mathlib.Core.Bool.{true, false}
 use mathlib.Core.List.{List, [], _∷_, map}

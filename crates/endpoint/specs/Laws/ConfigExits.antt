@@ -1,5 +1,4 @@
 -- The calls that make the configuration, as the proofs of the code cite them: exit by exit, lookup and range.
--- Assumes nothing.
 use mathlib.Core.Path.{_≡_, refl, sym, ap, subst⁻¹, _∙_}
 use mathlib.Core.Bool.{Bool, true, false, not, _||_}
 use mathlib.Core.List.{List, [], _∷_}
@@ -123,11 +122,11 @@ add-peer-out e address a xs n w =
     (addPeerChecks s address) (peerAdded s address))
 
 module _ (networks kinds owners tenants : List ℕ) (peers count peer kind network tenant : ℕ) where
-  abbrev Told : Endpoint
-  Told = bindingsOf networks kinds owners tenants peers count
+  abbrev Rebuilt : Endpoint
+  Rebuilt = bindingsOf networks kinds owners tenants peers count
 
   abbrev BindingsAfter : AddResult
-  BindingsAfter = addBindingOf Told peer kind network tenant
+  BindingsAfter = addBindingOf Rebuilt peer kind network tenant
 
   abbrev pub ListedBinding : Added → (ns ks os ts : List ℕ) → ℕ → Type 0
   ListedBinding a ns ks os ts n =
@@ -136,11 +135,11 @@ module _ (networks kinds owners tenants : List ℕ) (peers count peer kind netwo
       × ((ks ≡ BindingsAfter .endpoint .kinds)
       × ((os ≡ BindingsAfter .endpoint .owners) × ((ts ≡ BindingsAfter .endpoint .tenants) × (n ≡ BindingsAfter .endpoint .«binding_count»)))))
 
-  pub list-binding-exit : (n : ℕ) → At (addBindingChecks Told peer kind network tenant) n
-      → let c = given (refusedAdd Told) (addBindingChecks Told peer kind network tenant) (bindingAdded Told peer kind network tenant) n in
+  pub list-binding-exit : (n : ℕ) → At (addBindingChecks Rebuilt peer kind network tenant) n
+      → let c = given (refusedAdd Rebuilt) (addBindingChecks Rebuilt peer kind network tenant) (bindingAdded Rebuilt peer kind network tenant) n in
       ListedBinding (c .answer) (c .endpoint .networks) (c .endpoint .kinds) (c .endpoint .owners) (c .endpoint .tenants) (c .endpoint .«binding_count»)
   list-binding-exit n p =
-      let q = sym (add-binding-exit Told peer kind network tenant n p) in (
+      let q = sym (add-binding-exit Rebuilt peer kind network tenant n p) in (
         ap (λ (c : AddResult). c .answer) q,
         (
           ap (λ (c : AddResult). c .endpoint .networks) q,
@@ -181,20 +180,20 @@ is-found d none = refl
 is-found d (some i) = refl
 
 pub peer-found : (e : Endpoint) (address n : ℕ) (f : Lookup) → n ≡ min (e .«peer_count») mostPeers
-    → f ≡ foundOf D.Peer (lowest (hasAddress (e .addresses) address) n) → isSome (findPeer (configOf e) address) ≡ isFound f
+    → f ≡ foundOf D.UnknownPeer (lowest (hasAddress (e .addresses) address) n) → isSome (findPeer (configOf e) address) ≡ isFound f
 unfolding findPeer configOf
 peer-found e address n f k r =
-    sym (is-found D.Peer (lowest (hasAddress (e .addresses) address) (min (e .«peer_count») mostPeers)))
-    ∙ ap (λ (k : ℕ). isFound (foundOf D.Peer (lowest (hasAddress (e .addresses) address) k))) (sym k)
+    sym (is-found D.UnknownPeer (lowest (hasAddress (e .addresses) address) (min (e .«peer_count») mostPeers)))
+    ∙ ap (λ (k : ℕ). isFound (foundOf D.UnknownPeer (lowest (hasAddress (e .addresses) address) k))) (sym k)
     ∙ ap isFound (sym r)
 
 pub binding-found : (e : Endpoint) (peer kind network n : ℕ) (f : Lookup) → n ≡ min (e .«binding_count») mostBindings
-    → f ≡ foundOf D.Binding (lowest (binds (e .networks) (e .kinds) (e .owners) peer kind network) n)
+    → f ≡ foundOf D.NoBinding (lowest (binds (e .networks) (e .kinds) (e .owners) peer kind network) n)
     → isSome (findBinding (configOf e) peer kind network) ≡ isFound f
 unfolding findBinding configOf
 binding-found e peer kind network n f k r =
-    sym (is-found D.Binding (lowest (binds (e .networks) (e .kinds) (e .owners) peer kind network) (min (e .«binding_count») mostBindings)))
-    ∙ ap (λ (k : ℕ). isFound (foundOf D.Binding (lowest (binds (e .networks) (e .kinds) (e .owners) peer kind network) k))) (sym k)
+    sym (is-found D.NoBinding (lowest (binds (e .networks) (e .kinds) (e .owners) peer kind network) (min (e .«binding_count») mostBindings)))
+    ∙ ap (λ (k : ℕ). isFound (foundOf D.NoBinding (lowest (binds (e .networks) (e .kinds) (e .owners) peer kind network) k))) (sym k)
     ∙ ap isFound (sym r)
 
 -- ---- the ids of a kind

@@ -1,5 +1,4 @@
 -- Every set-up, and every endpoint that came from the calls, keeps the rules of a configuration (Demand1.antt, `Configured`).
--- Assumes nothing.
 use Prim.Native.Nat.{ℕ, zero, suc, _/_, _^_, _<_}
 use mathlib.Core.Path.{_≡_, refl, sym, ap, ap₂, subst, _∙_}
 use mathlib.Core.Logic.{inl, inr, _≢_}

@@ -1,5 +1,4 @@
 -- Demand 1 holds (Demand1.antt), of every call but a receive (Demand1Receive).
--- Assumes nothing.
 use Prim.Native.Nat.{ℕ, _+_, _-_, _≤_}
 use mathlib.Core.Path.{_≡_, refl, sym, ap, _∙_}
 use mathlib.Core.Logic.{_≢_}
@@ -153,11 +152,11 @@ tick-rule e = record {
 -- ---- wrap
 
 wrap-among : (r : WrapRefusal) → wrapRefusalCode r among (0 ∷ 13 ∷ 21 ∷ 22 ∷ 23 ∷ []) ≡ true
-wrap-among X.Binding = refl
-wrap-among X.Frame = refl
-wrap-among X.Mtu = refl
-wrap-among X.Segment = refl
-wrap-among X.Output = refl
+wrap-among X.NoBinding = refl
+wrap-among X.BadFrame = refl
+wrap-among X.ExceedsMtu = refl
+wrap-among X.NoSegment = refl
+wrap-among X.OutputTooShort = refl
 
 wrote-beyond : (output a : List ℕ) (i : ℕ) → length a ≤ i → getD (wrote output a) i 0 ≡ getD output i 0
 wrote-beyond output a i l =

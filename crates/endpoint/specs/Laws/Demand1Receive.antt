@@ -1,5 +1,4 @@
 -- Demand 1 holds of a receive (Demand1.antt, `ReceiveRule`): its numbers, what a refusal leaves, and what 0 and 1 do.
--- Assumes nothing.
 use Prim.Native.Nat.{ℕ, zero, suc, _+_, _-_, _<_, _≤_}
 use mathlib.Core.Path.{_≡_, refl, sym, ap, subst, _∙_}
 use mathlib.Core.Logic.{_⊎_, inl, inr, _≢_}
@@ -45,7 +44,7 @@ use Rattle.endpoint.specs.Receive.{answers, byBinding, innerFrom, byStt,
 use Rattle.endpoint.specs.Laws.Receive.{header-kept, config-few, Spoken, header-spoken}
 use Rattle.endpoint.specs.Formats.{CarriesFrame, GoodFrame}
 use Rattle.endpoint.specs.Laws.Formats.{segment-sound, segment-complete, frame-sound}
-use Rattle.endpoint.specs.Laws.Demand2.{SegBytes, header-bytes, lies-view, spoken-good, after-inside, judged-good}
+use Rattle.endpoint.specs.Laws.Demand2.{SegBytes, header-bytes, lies-view, verdict-good, after-inside, judged-good}
 use Rattle.endpoint.specs.declared.answer.Place.{Place}
 use Rattle.endpoint.specs.declared.answer.Target.{Target}
 use Rattle.endpoint.specs.declared.answer.Drop.{Drop}
@@ -60,11 +59,11 @@ use Rattle.endpoint.specs.Demand1.{FromPacket, FromMemory, Delivered, Re
 
 -- a refusal's number is one of 2 to 17
 drop-codes : (d : Drop) → (2 ≤ dropCode d) × (dropCode d ≤ 17)
-drop-codes D.Memory = (omega arith, omega arith)
+drop-codes D.MemoryTooSmall = (omega arith, omega arith)
 drop-codes (D.Format r) = let c = refusal-codes r in (omega (arith, c .0), omega (arith, c .1))
-drop-codes D.Destination = (omega arith, omega arith)
-drop-codes D.Peer = (omega arith, omega arith)
-drop-codes D.Binding = (omega arith, omega arith)
+drop-codes D.NotForUs = (omega arith, omega arith)
+drop-codes D.UnknownPeer = (omega arith, omega arith)
+drop-codes D.NoBinding = (omega arith, omega arith)
 drop-codes (D.Segment r) = let c = rejection-codes r in (omega (arith, c .0), c .1)
 
 number-most : (a : Received) → valuesOf a .number ≤ 17
@@ -81,7 +80,7 @@ empties (R.Dropped x) d = record { no-tenant = refl; no-binding = refl; start = 
 
 bound-bad : (tenants : List ℕ) (o : Option ℕ) (frame : List ℕ) (r : FrameRead) → frameOf frame ≡ r → (d : Drop) → byBinding tenants o r ≡ bad d
     → dropCode d among (11 ∷ 12 ∷ 13 ∷ []) ≡ true
-bound-bad tenants none frame r q d e = let z : D.Binding ≡ d = cc (e) in rw (← z)
+bound-bad tenants none frame r q d e = let z : D.NoBinding ≡ d = cc (e) in rw (← z)
 bound-bad tenants (some b) frame I.Good q d e = clash (cc (e))
 bound-bad tenants (some b) frame (I.Refused r) q d e = let z : D.Format r ≡ d = cc (e) in rw (← z, frame-code frame r q)
 
@@ -103,9 +102,9 @@ judge-bad c p note frame d l e = by (sttOf frame) refl e
     by (H.Refused r) q e = let z : D.Format r ≡ d = cc (e) in rw (← z, stt-code frame r l q)
     by (H.Header context) q e = inner-bad (c .networks) (c .kinds) (c .owners) (c .tenants) (c .bindings) p 3 context (drop 18 frame) d e
 
-spoken-bad : (x : Verdict answers) (i n : ℕ) (frame : List ℕ) (d : Drop) → frameAnswer answers x i n frame .reply ≡ R.Dropped d → x ≡ bad d
-spoken-bad (bad b) i n frame d e = let z : R.Dropped b ≡ R.Dropped d = sym (bad-reply answers b i n frame) ∙ e in cc
-spoken-bad (good t) i n frame d e =
+verdict-bad : (x : Verdict answers) (i n : ℕ) (frame : List ℕ) (d : Drop) → frameAnswer answers x i n frame .reply ≡ R.Dropped d → x ≡ bad d
+verdict-bad (bad b) i n frame d e = let z : R.Dropped b ≡ R.Dropped d = sym (bad-reply answers b i n frame) ∙ e in cc
+verdict-bad (good t) i n frame d e =
     let z : R.Delivered t (record { start = slotStart i + 18; length = n - 18; «in_memory» = true }) ≡ R.Dropped d = sym (good-reply answers t i n frame) ∙ e in
     clash (cc (z))
 
@@ -158,7 +157,7 @@ slot-freed (x ∷ rows) (suc p) s row q = slot-freed rows p s row q
 
 opens-in : (e : Endpoint) (p s : ℕ) (g : Seg) → Fresh (rowAt e p .slots) g s → ((t : ℕ) → t < s → slotAt e p t .pending ≡ true) → OpensIn e p s g
 opens-in e p s g w lowest = record {
-  none-pending = λ t l x. clash (cc (w .strange t l, bears-is (g .identifier) (slotAt e p t) (x .pending) (x .is)));
+  none-pending = λ t l x. clash (cc (w .no-bearer t l, bears-is (g .identifier) (slotAt e p t) (x .pending) (x .is)));
   idle = w .is-free;
   below = lowest;
 }
@@ -251,7 +250,7 @@ module _ (e : Endpoint) (m k : List ℕ) (p : ℕ) (g : Seg) (h : headerOf (conf
 -- ---- a refusal
 
 -- too little memory, or what the layers make of the packet
-step-cases : (e : Endpoint) (m k : List ℕ) {a : Received} (P : Step → Type 0) → (R.Dropped D.Memory ≡ a → P (unchanged e 0 m (R.Dropped D.Memory)))
+step-cases : (e : Endpoint) (m k : List ℕ) {a : Received} (P : Step → Type 0) → (R.Dropped D.MemoryTooSmall ≡ a → P (unchanged e 0 m (R.Dropped D.MemoryTooSmall)))
     → ((x : Reading answers) → headerOf (configOf e) k ≡ x → stepped e m x .answer ≡ a → P (stepped e m x)) → stepOf e m k .answer ≡ a → P (stepOf e m k)
 unfolding stepOf
 step-cases e m k P f g q = caseB (ltb (length m) 55296) (λ b. rw b (f (rw b at q))) (λ b. rw b (g (headerOf (configOf e) k) refl (rw b at q)))
@@ -268,7 +267,7 @@ module _ (e : Endpoint) (m k : List ℕ) (d : Drop) where
   taken p g h (O.Rejected r) q t = let x = take-refused p (rowAt e p) m g r q in same p _ _ (R.Dropped d) (x .0) (x .1)
   taken p g h O.NoMemory q t = let x = take-no-memory p (rowAt e p) m g q in same p _ _ (R.Dropped d) (x .0) (x .1)
   taken p g h O.Pending q t = let z : R.Pending ≡ R.Dropped d = sym (pending-reply answers (judgeOf (configOf e)) bytesOf p g (takeIn p (rowAt e p) m g)) ∙ t in clash (cc (z))
-  taken p g h (O.Complete s) q t = inr (found-bad e m k p g h s q d (spoken-bad _ _ _ _ d
+  taken p g h (O.Complete s) q t = inr (found-bad e m k p g h s q d (verdict-bad _ _ _ _ d
       (sym (ap (λ (a : Answer answers). a .reply) (complete-reply answers (judgeOf (configOf e)) bytesOf p g (takeIn p (rowAt e p) m g) s)) ∙ t)))
 
   seen : (x : Reading answers) → headerOf (configOf e) k ≡ x → stepped e m x .answer ≡ R.Dropped d → Refused (stepped e m x)
@@ -277,7 +276,7 @@ module _ (e : Endpoint) (m k : List ℕ) (d : Drop) where
   seen (segment p g) h t = taken p g h (takeIn p (rowAt e p) m g .outcome) refl t
 
   refused : stepOf e m k .answer ≡ R.Dropped d → Refused (stepOf e m k)
-  refused t = step-cases e m k Refused (λ z. same 0 (rowAt e 0) m (R.Dropped D.Memory) refl refl) seen t
+  refused t = step-cases e m k Refused (λ z. same 0 (rowAt e 0) m (R.Dropped D.MemoryTooSmall) refl refl) seen t
 
 rejection-not : (r : Rejection) → rejectionCode r among (11 ∷ 12 ∷ 13 ∷ []) ≡ false
 rejection-not r =
@@ -297,13 +296,13 @@ module _ (e : Endpoint) (m k : List ℕ) (p : ℕ) (g : Seg) (h : headerOf (conf
   judged-bad s q frame (bad d) j = rw (bad-reply answers d (slotNo p s) (g .frame-length) frame) (λ n. found-bad e m k p g h s q d j)
   judged-bad s q frame (good t) j = rw (good-reply answers t (slotNo p s) (g .frame-length) frame) (λ n. clash (cc (n)))
 
-  told-bad : (o : Outcome) → takeIn p (rowAt e p) m g .outcome ≡ o
+  outcome-bad : (o : Outcome) → takeIn p (rowAt e p) m g .outcome ≡ o
       → Bad (takeAnswer answers (judgeOf (configOf e)) bytesOf p g (takeIn p (rowAt e p) m g) o .reply)
-  told-bad (O.Rejected r) q =
+  outcome-bad (O.Rejected r) q =
       rw (rejected-reply answers (judgeOf (configOf e)) bytesOf p g (takeIn p (rowAt e p) m g) r) (λ n. clash (cc (rejection-not r, n)))
-  told-bad O.NoMemory q = rw (no-memory-reply answers (judgeOf (configOf e)) bytesOf p g (takeIn p (rowAt e p) m g)) (λ n. clash (cc (n)))
-  told-bad O.Pending q = rw (pending-reply answers (judgeOf (configOf e)) bytesOf p g (takeIn p (rowAt e p) m g)) (λ n. clash (cc (n)))
-  told-bad (O.Complete s) q =
+  outcome-bad O.NoMemory q = rw (no-memory-reply answers (judgeOf (configOf e)) bytesOf p g (takeIn p (rowAt e p) m g)) (λ n. clash (cc (n)))
+  outcome-bad O.Pending q = rw (pending-reply answers (judgeOf (configOf e)) bytesOf p g (takeIn p (rowAt e p) m g)) (λ n. clash (cc (n)))
+  outcome-bad (O.Complete s) q =
       rw (complete-reply answers (judgeOf (configOf e)) bytesOf p g (takeIn p (rowAt e p) m g) s) (judged-bad s q _ _ refl)
 
   step-bad : valuesOf (stepOf e m k .answer) .number among (11 ∷ 12 ∷ 13 ∷ []) ≡ true
@@ -313,7 +312,7 @@ module _ (e : Endpoint) (m k : List ℕ) (p : ℕ) (g : Seg) (h : headerOf (conf
       let few : Bool = ltb (length m) 55296 in
       caseB few
       (λ b. let z : _≡_ {A = Bool} false true = rw b at n in clash (cc (z)))
-      (λ b. rw (b, h) (told-bad (takeIn p (rowAt e p) m g .outcome) refl (rw (b, h) at n)))
+      (λ b. rw (b, h) (outcome-bad (takeIn p (rowAt e p) m g .outcome) refl (rw (b, h) at n)))
 
 -- ---- 0 and 1
 
@@ -339,11 +338,11 @@ module _ (e : Endpoint) (m k : List ℕ) where
         → Deliveries t place (stepped e m (segment p g))
     taken-whole p g h (O.Rejected r) q a =
         let z : R.Dropped (D.Segment r) ≡ R.Delivered t place = sym (rejected-reply answers (judgeOf (configOf e)) bytesOf p g (takeIn p (rowAt e p) m g) r) ∙ a in clash (cc (z))
-    taken-whole p g h O.NoMemory q a = let z : R.Dropped D.Memory ≡ R.Delivered t place = sym (no-memory-reply answers (judgeOf (configOf e)) bytesOf p g (takeIn p (rowAt e p) m g)) ∙ a in clash (cc (z))
+    taken-whole p g h O.NoMemory q a = let z : R.Dropped D.MemoryTooSmall ≡ R.Delivered t place = sym (no-memory-reply answers (judgeOf (configOf e)) bytesOf p g (takeIn p (rowAt e p) m g)) ∙ a in clash (cc (z))
     taken-whole p g h O.Pending q a = let z : R.Pending ≡ R.Delivered t place = sym (pending-reply answers (judgeOf (configOf e)) bytesOf p g (takeIn p (rowAt e p) m g)) ∙ a in clash (cc (z))
     taken-whole p g h (O.Complete s) q a =
         let frame : List ℕ = frameIn bytesOf (takeIn p (rowAt e p) m g .mem) (slotNo p s) (g .frame-length) in
-        let x = spoken-good (judgeOf (configOf e) p (takeIn p (rowAt e p) m g .note) frame) (slotNo p s) (g .frame-length) frame t place
+        let x = verdict-good (judgeOf (configOf e) p (takeIn p (rowAt e p) m g .note) frame) (slotNo p s) (g .frame-length) frame t place
         (sym (ap (λ (y : Answer answers). y .reply) (complete-reply answers (judgeOf (configOf e)) bytesOf p g (takeIn p (rowAt e p) m g) s)) ∙ a) in
         inr (subst (λ (y : Place). FromMemory e m k t (placeOf y) (withRow e p (takeIn p (rowAt e p) m g .row)) (takeIn p (rowAt e p) m g .mem)) (x .1)
         (from-memory e m k p g h s q t (x .0)))
@@ -368,7 +367,7 @@ module _ (e : Endpoint) (m k : List ℕ) where
   taken-part : (p : ℕ) (g : Seg) → headerOf (configOf e) k ≡ segment p g → (o : Outcome) → takeIn p (rowAt e p) m g .outcome ≡ o
       → takeAnswer answers (judgeOf (configOf e)) bytesOf p g (takeIn p (rowAt e p) m g) o .reply ≡ R.Pending → Waiting (stepped e m (segment p g))
   taken-part p g h (O.Rejected r) q a = let z : R.Dropped (D.Segment r) ≡ R.Pending = sym (rejected-reply answers (judgeOf (configOf e)) bytesOf p g (takeIn p (rowAt e p) m g) r) ∙ a in clash (cc (z))
-  taken-part p g h O.NoMemory q a = let z : R.Dropped D.Memory ≡ R.Pending = sym (no-memory-reply answers (judgeOf (configOf e)) bytesOf p g (takeIn p (rowAt e p) m g)) ∙ a in clash (cc (z))
+  taken-part p g h O.NoMemory q a = let z : R.Dropped D.MemoryTooSmall ≡ R.Pending = sym (no-memory-reply answers (judgeOf (configOf e)) bytesOf p g (takeIn p (rowAt e p) m g)) ∙ a in clash (cc (z))
   taken-part p g h O.Pending q a = not-yet e m k p g h q
   taken-part p g h (O.Complete s) q a =
       let frame : List ℕ = frameIn bytesOf (takeIn p (rowAt e p) m g .mem) (slotNo p s) (g .frame-length) in

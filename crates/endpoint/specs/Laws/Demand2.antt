@@ -1,5 +1,4 @@
 -- Demand 2, receiving, proved of every set-up: first of one receive (`sound`, `complete-packet`, `complete-memory`), then over runs, joined with EveryRun.
--- Assumes nothing.
 use Prim.Native.Nat.{ℕ, _+_, _-_, _<_, _≤_}
 use mathlib.Core.Path.{_≡_, refl, sym, ap, subst, _∙_}
 use mathlib.Core.Logic.{_⊎_, inl, inr}
@@ -141,12 +140,12 @@ lies-view k m place frame l =
 
 -- ---- one receive, sound
 
-pub spoken-good : (x : Verdict answers) (i n : ℕ) (frame : List ℕ) (t : Target) (place : Place) → frameAnswer answers x i n frame .reply ≡ R.Delivered t place
+pub verdict-good : (x : Verdict answers) (i n : ℕ) (frame : List ℕ) (t : Target) (place : Place) → frameAnswer answers x i n frame .reply ≡ R.Delivered t place
     → (x ≡ good t) × (record { start = slotStart i + 18; length = n - 18; «in_memory» = true } ≡ place)
-spoken-good (bad b) i n frame t place e =
+verdict-good (bad b) i n frame t place e =
     let y : R.Dropped b ≡ R.Delivered t place = sym (bad-reply answers b i n frame) ∙ e in
     let z : _≡_ {A = ℕ} 0 1 = cc in absurd (omega arith)
-spoken-good (good u) i n frame t place e =
+verdict-good (good u) i n frame t place e =
     let y : R.Delivered u (record { start = slotStart i + 18; length = n - 18; «in_memory» = true }) ≡ R.Delivered t place =
     sym (good-reply answers u i n frame) ∙ e in
     (cc, cc)
@@ -194,11 +193,11 @@ module _ (e : Endpoint) (m k : List ℕ) (enough : 55296 ≤ length m) (packet :
         let y : R.Pending ≡ R.Delivered t place = sym (pending-reply answers (judgeOf (configOf e)) bytesOf p g (takeIn p (rowAt e p) m g)) ∙ a in
         let z : _≡_ {A = ℕ} 0 1 = cc in absurd (omega arith)
     taken-sound p g h b O.NoMemory q place a w =
-        let y : R.Dropped D.Memory ≡ R.Delivered t place = sym (no-memory-reply answers (judgeOf (configOf e)) bytesOf p g (takeIn p (rowAt e p) m g)) ∙ a in
+        let y : R.Dropped D.MemoryTooSmall ≡ R.Delivered t place = sym (no-memory-reply answers (judgeOf (configOf e)) bytesOf p g (takeIn p (rowAt e p) m g)) ∙ a in
         let z : _≡_ {A = ℕ} 0 1 = cc in absurd (omega arith)
     taken-sound p g h b (O.Complete s) q place a w =
         let whole : List ℕ = frameIn bytesOf (takeIn p (rowAt e p) m g .mem) (slotNo p s) (g .frame-length) in
-        let x = spoken-good (judgeOf (configOf e) p (takeIn p (rowAt e p) m g .note) whole) (slotNo p s) (g .frame-length) whole t place
+        let x = verdict-good (judgeOf (configOf e) p (takeIn p (rowAt e p) m g .note) whole) (slotNo p s) (g .frame-length) whole t place
         (sym (ap (λ (y : Answer answers). y .reply) (complete-reply answers (judgeOf (configOf e)) bytesOf p g (takeIn p (rowAt e p) m g) s)) ∙ a) in
         let at : Place = record { start = slotStart (slotNo p s) + 18; length = g .frame-length - 18; «in_memory» = true } in
         let same : viewOf k (takeIn p (rowAt e p) m g .mem) (placeOf at) ≡ frame =

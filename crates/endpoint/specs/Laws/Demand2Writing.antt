@@ -1,5 +1,4 @@
 -- DEMAND 2, writing: the theorem (statement: Demand2Writing).
--- Assumes nothing.
 use Prim.Native.Nat.{ℕ, zero, suc, _+_, _-_, _*_, _/_, _^_, _<_, _≤_, min}
 use mathlib.Core.Path.{_≡_, refl, sym, ap, ap₂, subst, _∙_}
 use mathlib.Core.Logic.{_⊎_, inl, inr}
@@ -22,7 +21,7 @@ use Rattle.wire.specs.Laws.Layout.{layouts}
 use Rattle.reassembly.specs.Laws.Base.{either}
 use Rattle.endpoint.specs.Config.{configOf}
 use Rattle.endpoint.specs.Wrap.{segmentsOf, segmentSize, packetOf, exceeds, kindAt, networkAt, peerAt, packetAt}
-use Rattle.endpoint.specs.Laws.Wrap.{Says, written-says, written-when, Ready, Listed, ready-listed, ByKind, vxlan, nvgre, stt, by-kind, packet-vxlan}
+use Rattle.endpoint.specs.Laws.Wrap.{WrittenFacts, written-facts, written-when, Ready, Listed, ready-listed, ByKind, vxlan, nvgre, stt, by-kind, packet-vxlan}
 use Rattle.endpoint.specs.Laws.Wrap.{packet-nvgre, packet-stt, one-vxlan, one-nvgre, many-stt, starts-within, ends-past}
 use Rattle.endpoint.specs.Reached.{Reached}
 use Rattle.endpoint.specs.Laws.Reached.{reached-ready}
@@ -232,7 +231,7 @@ demand-two-writing e b frame reached listed =
       whole-is = λ q. stt-is (networkAt e b) frame (ready .networks-fit b);
       joined = λ q. rw (q, many-stt (length frame) (e .mtu) (l .mtu-least)) (all whole size (l .mtu-least));
       sent = λ k identifier fits output p a.
-          let s : Says e b frame k identifier output p = written-says e b frame k identifier output p a in
+          let s : WrittenFacts e b frame k identifier output p = written-facts e b frame k identifier output p a in
           let formula : packetLength (kindAt e b) (length frame) (e .mtu) k (length (packetAt e b frame k identifier)) =
           length-kind (kindAt e b) (e .own) (peerAt e b) (e .port) (networkAt e b) (e .mtu) frame k identifier by (l .mtu-least) (s .good) (s .within) in
           record {

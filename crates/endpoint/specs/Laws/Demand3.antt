@@ -1,5 +1,4 @@
 -- Demand 3: the claim and the rules of every run, proved of every set-up, and what their words mean.
--- Assumes nothing.
 use Prim.Native.Nat.{ℕ, _<_}
 use mathlib.Core.Path.{_≡_, refl, sym, subst}
 use mathlib.Core.Bool.{Bool, true, false, cond}

@@ -1,5 +1,4 @@
 -- The three demands, proved.
--- Assumes nothing.
 use mathlib.Core.Path.{ap}
 use Rattle.reassembly.specs.SetUp.{Replied}
 use Rattle.endpoint.specs.Config.{Config}

@@ -24,8 +24,8 @@ use Rattle.endpoint.specs.Laws.Receive.{header-whose}
 use Rattle.endpoint.specs.declared.answer.Received.the-variants as R
 use Rattle.endpoint.specs.Laws.PossibleRun.{calls, ready, listed, inner-a, inner-b, frame-a, frame-b, frame-c, frame-d, frames, own-packet, broken-packet}
 use Rattle.endpoint.specs.Laws.PossibleRun.{vxlan-packet, rival-packet, stray-packet, mixed, alone, turn}
-use Rattle.endpoint.specs.Laws.WorkedRun.{ready-config, heard-a0, heard-a1, heard-b0, heard-b1, heard-c0, heard-c1, heard-d0, heard-d1, worth-a, worth-b}
-use Rattle.endpoint.specs.Laws.WorkedRun.{heard-own, heard-broken, heard-vxlan, heard-rival, heard-stray, mixes-frames, turns-frames}
+use Rattle.endpoint.specs.Laws.WorkedRun.{ready-config, read-a0, read-a1, read-b0, read-b1, read-c0, read-c1, read-d0, read-d1, worth-a, worth-b}
+use Rattle.endpoint.specs.Laws.WorkedRun.{read-own, read-broken, read-vxlan, read-rival, read-stray, mixes-frames, turns-frames}
 
 -- ---- what demand 3 asks for, of a configuration and a peer: cuts of good frames, a mixing of them, the same segments one after another, and a second run
 -- that is alike for the peer
@@ -46,7 +46,7 @@ cut-a = record {
   most = omega arith;
   bytes = refl;
   some-byte = below-two (λ j. 0 < length (partOf frame-a j .bytes)) (omega arith) (omega arith);
-  sound = below-two (λ j. headerOf listed (partOf frame-a j .packet) ≡ segment 0 (states frame-a j)) heard-a0 heard-a1;
+  sound = below-two (λ j. headerOf listed (partOf frame-a j .packet) ≡ segment 0 (states frame-a j)) read-a0 read-a1;
 }
 
 abbrev cut-b : Cut answers (headerOf listed) (judgeOf listed) 0 frame-b
@@ -57,7 +57,7 @@ cut-b = record {
   most = omega arith;
   bytes = refl;
   some-byte = below-two (λ j. 0 < length (partOf frame-b j .bytes)) (omega arith) (omega arith);
-  sound = below-two (λ j. headerOf listed (partOf frame-b j .packet) ≡ segment 0 (states frame-b j)) heard-b0 heard-b1;
+  sound = below-two (λ j. headerOf listed (partOf frame-b j .packet) ≡ segment 0 (states frame-b j)) read-b0 read-b1;
 }
 
 abbrev cut-c : Cut answers (headerOf listed) (judgeOf listed) 0 frame-c
@@ -68,7 +68,7 @@ cut-c = record {
   most = omega arith;
   bytes = refl;
   some-byte = below-two (λ j. 0 < length (partOf frame-c j .bytes)) (omega arith) (omega arith);
-  sound = below-two (λ j. headerOf listed (partOf frame-c j .packet) ≡ segment 0 (states frame-c j)) heard-c0 heard-c1;
+  sound = below-two (λ j. headerOf listed (partOf frame-c j .packet) ≡ segment 0 (states frame-c j)) read-c0 read-c1;
 }
 
 abbrev cut-d : Cut answers (headerOf listed) (judgeOf listed) 0 frame-d
@@ -79,7 +79,7 @@ cut-d = record {
   most = omega arith;
   bytes = refl;
   some-byte = below-two (λ j. 0 < length (partOf frame-d j .bytes)) (omega arith) (omega arith);
-  sound = below-two (λ j. headerOf listed (partOf frame-d j .packet) ≡ segment 0 (states frame-d j)) heard-d0 heard-d1;
+  sound = below-two (λ j. headerOf listed (partOf frame-d j .packet) ≡ segment 0 (states frame-d j)) read-d0 read-d1;
 }
 
 -- what is to be shown of each number below five
@@ -97,19 +97,19 @@ cuts = below-five (λ f. Cut answers (headerOf listed) (judgeOf listed) 0 (frame
 -- ---- the mixing: none of the other packets is a segment of peer 0's
 
 free-own : notSegment answers 0 (headerOf listed own-packet)
-free-own = rw heard-own tt
+free-own = rw read-own tt
 
 free-broken : notSegment answers 0 (headerOf listed broken-packet)
-free-broken = rw heard-broken tt
+free-broken = rw read-broken tt
 
 free-vxlan : notSegment answers 0 (headerOf listed vxlan-packet)
-free-vxlan = rw heard-vxlan tt
+free-vxlan = rw read-vxlan tt
 
 free-stray : notSegment answers 0 (headerOf listed stray-packet)
-free-stray = rw heard-stray tt
+free-stray = rw read-stray tt
 
 free-rival : notSegment answers 0 (headerOf listed rival-packet)
-free-rival = rw heard-rival (λ q. absurd (omega arith))
+free-rival = rw read-rival (λ q. absurd (omega arith))
 
 is-mixing : Mixing answers (headerOf listed) 0 frames mixed
 is-mixing = mixing frames answers (headerOf listed) 0 mixed mixes-frames
@@ -121,13 +121,13 @@ source-is : (k : List ℕ) (x : Reading answers) → headerOf listed k ≡ x →
 source-is k x e = sym (header-whose listed (omega arith) k) ∙ ap (peerOf answers) e
 
 not-vxlan : from answers Config layers listed 0 vxlan-packet ≡ false
-not-vxlan = from-another answers Config layers listed 0 1 vxlan-packet (source-is vxlan-packet _ heard-vxlan ∙ peer-direct answers 1 _) refl
+not-vxlan = from-another answers Config layers listed 0 1 vxlan-packet (source-is vxlan-packet _ read-vxlan ∙ peer-direct answers 1 _) refl
 
 not-stray : from answers Config layers listed 0 stray-packet ≡ false
-not-stray = from-none answers Config layers listed 0 stray-packet (source-is stray-packet _ heard-stray ∙ peer-other answers _)
+not-stray = from-none answers Config layers listed 0 stray-packet (source-is stray-packet _ read-stray ∙ peer-other answers _)
 
 not-rival : from answers Config layers listed 0 rival-packet ≡ false
-not-rival = from-another answers Config layers listed 0 1 rival-packet (source-is rival-packet _ heard-rival ∙ peer-segment answers 1 _) refl
+not-rival = from-another answers Config layers listed 0 1 rival-packet (source-is rival-packet _ read-rival ∙ peer-segment answers 1 _) refl
 
 is-alike : strike (from answers Config layers listed 0) (map (event frames) mixed) ≡ strike (from answers Config layers listed 0) (map (event frames) alone)
 is-alike =

@@ -1,5 +1,4 @@
 -- What the contracts of the calls say beside the equality with their definitions follows from that equality: the table's number, and demand 1.
--- Assumes nothing.
 use Prim.Native.Nat.{ℕ}
 use mathlib.Core.Path.{_≡_, refl, _∙_}
 use mathlib.Core.List.{List}

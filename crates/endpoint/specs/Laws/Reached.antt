@@ -1,5 +1,4 @@
 -- What an endpoint that came from the calls holds is the configuration of a set-up: receives and ticks leave that, and adding looks at nothing else.
--- Assumes nothing.
 use Prim.Native.Nat.{ℕ, zero, suc, _+_, _^_, _<_, min}
 use mathlib.Core.Path.{_≡_, refl, sym, ap, ap₂, subst, _∙_}
 use mathlib.Core.List.{List, [], _∷_, _++_}

@@ -1,5 +1,4 @@
 -- What the functions of `receive` give, over plain values, and the laws by which they add up to `stepOf`.
--- Assumes nothing.
 use Prim.Native.Nat.{ℕ, _+_, _-_, _*_, _<_, _≤_, min}
 use mathlib.Core.Path.{_≡_, refl, sym, ap, _∙_}
 use mathlib.Core.Bool.{Bool, true, false, cond}
@@ -104,7 +103,7 @@ module _ (port : ℕ) (h : Ipv4) (k payload : List ℕ) (is : payload ≡ part k
 -- ---- the ways out of opening
 
 module _ (addresses : List ℕ) (own port peers : ℕ) (k : List ℕ) (room : ℕ) where
-  pub open-memory : room < 55296 → fromOther D.Memory ≡ openOf addresses own port peers k room
+  pub open-memory : room < 55296 → fromOther D.MemoryTooSmall ≡ openOf addresses own port peers k room
   unfolding openOf
   open-memory l = rw (lt-ltb room 55296 l)
 
@@ -114,14 +113,14 @@ module _ (addresses : List ℕ) (own port peers : ℕ) (k : List ℕ) (room : �
     open-ip x r is q = rw (le-ltb room 55296 enough, ← is, q)
 
     module _ (h : Ipv4) (ip : ipv4Of k ≡ I.Packet h) where
-      pub open-destination : (h .destination ≡ own → ⊥) → fromOther D.Destination ≡ openOf addresses own port peers k room
+      pub open-destination : (h .destination ≡ own → ⊥) → fromOther D.NotForUs ≡ openOf addresses own port peers k room
       unfolding openOf
       open-destination n = rw (le-ltb room 55296 enough, ip, ne-eqb (h .destination) own n)
 
       module _ (ours : h .destination ≡ own) where
-        pub open-stranger : lowest (hasAddress addresses (h .source)) peers ≡ none → unlistedOf (I.Packet h) ≡ openOf addresses own port peers k room
+        pub open-unlisted : lowest (hasAddress addresses (h .source)) peers ≡ none → unlistedOf (I.Packet h) ≡ openOf addresses own port peers k room
         unfolding openOf
-        open-stranger q = rw (le-ltb room 55296 enough, ip, eq-eqb (h .destination) own ours, q)
+        open-unlisted q = rw (le-ltb room 55296 enough, ip, eq-eqb (h .destination) own ours, q)
 
         pub open-peer : (p : ℕ) (x : Content) → lowest (hasAddress addresses (h .source)) peers ≡ some p → x ≡ contentFrom port h k
             → record { peer = p; content = x } ≡ openOf addresses own port peers k room
@@ -159,7 +158,7 @@ module _ (peer : ℕ) (o : Outcome) (size : ℕ) (m : List ℕ) where
   unfolding offerOf
   settled-pending e = rw e
 
-  pub settled-memory : o ≡ O.NoMemory → B.Refused D.Memory ≡ offerOf peer o size m
+  pub settled-memory : o ≡ O.NoMemory → B.Refused D.MemoryTooSmall ≡ offerOf peer o size m
   unfolding offerOf
   settled-memory e = rw e
 
@@ -236,7 +235,7 @@ module _ (networks kinds owners tenants : List ℕ) (n peer : ℕ) (o : Offer) (
   deliver-pending e = rw e
 
   module _ (f : InnerFrame) (is : o ≡ B.Frame f) where
-    pub deliver-unbound : lowest (binds networks kinds owners peer (f .kind) (f .network)) n ≡ none → R.Dropped D.Binding
+    pub deliver-unbound : lowest (binds networks kinds owners peer (f .kind) (f .network)) n ≡ none → R.Dropped D.NoBinding
         ≡ deliverOf networks kinds owners tenants n peer o k m
     unfolding deliverOf innerFrom
     deliver-unbound e = rw (is, e)
@@ -277,10 +276,10 @@ tunnel-out networks kinds owners tenants n peer kind network at end k m l b =
     rw (view-packet k m (record { inMemory = false; start = at; len = end - at }) refl, part-view k at end l b, part-length k at end b)
 
 -- STT: it lies in slot i
-spoken-out : (x : Verdict answers) (i n : ℕ) (frame : List ℕ) → answerAt x (record { start = slotStart i + 18; length = n - 18; «in_memory» = true })
+verdict-out : (x : Verdict answers) (i n : ℕ) (frame : List ℕ) → answerAt x (record { start = slotStart i + 18; length = n - 18; «in_memory» = true })
     ≡ frameAnswer answers x i n frame .reply
-spoken-out (bad d) i n frame = sym (bad-reply answers d i n frame)
-spoken-out (good t) i n frame = sym (good-reply answers t i n frame)
+verdict-out (bad d) i n frame = sym (bad-reply answers d i n frame)
+verdict-out (good t) i n frame = sym (good-reply answers t i n frame)
 
 module _ (c : Config) (p : ℕ) (k after : List ℕ) (i n : ℕ) (long : 18 ≤ n) (inside : slotStart i + n ≤ length after) where
   abbrev whole : List ℕ
@@ -292,7 +291,7 @@ module _ (c : Config) (p : ℕ) (k after : List ℕ) (i n : ℕ) (long : 18 ≤ 
   unfolding deliverOf
   header-out (T.Refused r) = sym (bad-reply answers (D.Format r) i n whole)
   header-out (T.Header context) =
-      rw (slot-view k after i n long inside) (spoken-out (innerFrom (c .networks) (c .kinds) (c .owners) (c .tenants) (c .bindings) p 3 context
+      rw (slot-view k after i n long inside) (verdict-out (innerFrom (c .networks) (c .kinds) (c .owners) (c .tenants) (c .bindings) p 3 context
       (drop 18 whole)) i n whole)
 
   judged-out : (note : Note) → deliverOf (c .networks) (c .kinds) (c .owners) (c .tenants) (c .bindings) p
@@ -312,15 +311,15 @@ module _ (c : Config) (p : ℕ) (k after : List ℕ) (i n : ℕ) (long : 18 ≤ 
       ∙ header-out (sttOf whole)
 
 module _ (c : Config) (p : ℕ) (row : Peer) (k m : List ℕ) (g : Seg) where
-  told-out : (o : Outcome) → takeIn p row m g .outcome ≡ o
+  offer-out : (o : Outcome) → takeIn p row m g .outcome ≡ o
       → deliverOf (c .networks) (c .kinds) (c .owners) (c .tenants) (c .bindings) p (offerOf p o (g .frame-length) (takeIn p row m g .mem)) k
       (takeIn p row m g .mem)
       ≡ takeAnswer answers (judgeOf c) bytesOf p g (takeIn p row m g) o .reply
   unfolding deliverOf offerOf
-  told-out (O.Rejected r) e = sym (rejected-reply answers (judgeOf c) bytesOf p g (takeIn p row m g) r)
-  told-out O.Pending e = sym (pending-reply answers (judgeOf c) bytesOf p g (takeIn p row m g))
-  told-out O.NoMemory e = sym (no-memory-reply answers (judgeOf c) bytesOf p g (takeIn p row m g))
-  told-out (O.Complete s) e =
+  offer-out (O.Rejected r) e = sym (rejected-reply answers (judgeOf c) bytesOf p g (takeIn p row m g) r)
+  offer-out O.Pending e = sym (pending-reply answers (judgeOf c) bytesOf p g (takeIn p row m g))
+  offer-out O.NoMemory e = sym (no-memory-reply answers (judgeOf c) bytesOf p g (takeIn p row m g))
+  offer-out (O.Complete s) e =
       let w = take-whole p s row m g e in
       let n : ℕ = g .frame-length in
       let after : List ℕ = takeIn p row m g .mem in
@@ -366,7 +365,7 @@ module _ (e : Endpoint) (m k : List ℕ) where
       let bytes : List ℕ = part k (h .start + g .start) (h .end) in
       rw (
         part-view k (h .start + g .start) (h .end) (omega (arith, part-length k (h .start) (h .end) (b .1))) (b .1),
-        told-out (configOf e) p (rowAt e p) k m (segOf g bytes) (takeIn p (rowAt e p) m (segOf g bytes) .outcome) refl,
+        offer-out (configOf e) p (rowAt e p) k m (segOf g bytes) (takeIn p (rowAt e p) m (segOf g bytes) .outcome) refl,
       )
 
   peer-adds : (h : Ipv4) → (h .start ≤ h .end) × (h .end ≤ length k) → (o : Option ℕ) → staged (openPeer o (contentFrom (e .port) h k))
@@ -377,7 +376,7 @@ module _ (e : Endpoint) (m k : List ℕ) where
 
   ours-adds : (h : Ipv4) → (h .start ≤ h .end) × (h .end ≤ length k) → (b : Bool)
       → staged (cond b (openPeer (lowest (hasAddress (e .addresses) (h .source)) (min (e .«peer_count») mostPeers)) (contentFrom (e .port) h k))
-      (fromOther D.Destination)) ≡ stepped e m (byDestination (configOf e) h k b)
+      (fromOther D.NotForUs)) ≡ stepped e m (byDestination (configOf e) h k b)
   unfolding settleOf takeOf deliverOf findPeer configOf
   ours-adds h b true = peer-adds h b (findPeer (configOf e) (h .source))
   ours-adds h b false = refl

@@ -1,7 +1,6 @@
 -- DEMAND 2, the round trip: the theorem (statement: RoundTrip). By VXLAN and NVGRE what was written is a packet that carries the frame (Demand2Writing), and
 -- such a packet is delivered (Demand2, `complete-packet`). By STT the written segments are a cut of a good frame, and any order of them is a mixing of that
 -- one frame, so demand 3's delivery says what is answered.
--- Assumes nothing.
 use Prim.Native.Nat.{ℕ, zero, suc, _+_, _-_, _*_, _/_, _^_, _<_, _≤_, min}
 use mathlib.Core.Path.{_≡_, refl, sym, ap, ap₂, subst, _∙_}
 use mathlib.Core.List.{List, [], _∷_, _++_}
@@ -32,7 +31,7 @@ use Rattle.endpoint.specs.Run.{Left, calls, endsOf}
 use Rattle.endpoint.specs.Formats.{ListedPeer, Bound, CarriesFrame, CarriesSegment, GoodFrame}
 use Rattle.endpoint.specs.Laws.Formats.{peer-listed, binding-bound, segment-complete, judge-complete}
 use Rattle.endpoint.specs.Wrap.{segmentsOf, kindAt, networkAt, ownerAt, peerAt, packetOf, packetAt}
-use Rattle.endpoint.specs.Laws.Wrap.{Says, written-says, Ready, Listed, ready-listed, ByKind, vxlan, nvgre, stt, by-kind, packet-vxlan, packet-nvgre}
+use Rattle.endpoint.specs.Laws.Wrap.{WrittenFacts, written-facts, Ready, Listed, ready-listed, ByKind, vxlan, nvgre, stt, by-kind, packet-vxlan, packet-nvgre}
 use Rattle.endpoint.specs.Laws.Wrap.{one-vxlan, one-nvgre, many-stt, starts-within, ends-past}
 use Rattle.endpoint.specs.Reached.{Reached}
 use Rattle.endpoint.specs.Laws.Reached.{reached-ready}
@@ -51,12 +50,12 @@ use Rattle.endpoint.specs.declared.config.Endpoint.{Endpoint}
 -- ---- what was written, and what it was asked for
 
 module _ (e : Endpoint) (b : ℕ) (frame : List ℕ) (identifier : ℕ) (packets : ℕ → List ℕ) (w : Wraps e b frame identifier packets) where
-  says : (k : ℕ) → k < segmentsFor e b frame → Says e b frame k identifier (w .output k) (w .answer k)
-  says k h = written-says e b frame k identifier (w .output k) (w .answer k) (w .written k h)
+  says : (k : ℕ) → k < segmentsFor e b frame → WrittenFacts e b frame k identifier (w .output k) (w .answer k)
+  says k h = written-facts e b frame k identifier (w .output k) (w .answer k) (w .written k h)
 
   packet-is : (k : ℕ) → k < segmentsFor e b frame → packets k ≡ packetAt e b frame k identifier
   packet-is k h =
-      let s : Says e b frame k identifier (w .output k) (w .answer k) = says k h in
+      let s : WrittenFacts e b frame k identifier (w .output k) (w .answer k) = says k h in
       w .is k h ∙ ap₂ take (s .length-is) (s .output-is) ∙ wrote-front (w .output k) (packetAt e b frame k identifier)
 
 -- ---- what a matching endpoint makes of it

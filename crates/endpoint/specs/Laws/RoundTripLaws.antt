@@ -1,5 +1,4 @@
 -- What the round trip's proof uses: orders of segments; a run of one frame's segments, by demand 3's delivery; and an answer of a run as an answer of the call.
--- Assumes nothing.
 use Prim.Native.Nat.{ℕ, zero, suc, _+_, _<_, _≤_}
 use mathlib.Core.Path.{_≡_, refl, sym, ap, ap₂, _∙_}
 use mathlib.Core.Bool.{Bool, true, cond}
@@ -159,11 +158,11 @@ one-frame e p claims fr cut order o m enough before k after is =
 
 -- ---- an answer of a run, as the call gives it
 
-abbrev heardBy : Left → List ℕ → Answer answers
-heardBy w k = answerOf answers Config layers (worldOf (w .endpoint) (w .mem)) k
+abbrev answerBy : Left → List ℕ → Answer answers
+answerBy w k = answerOf answers Config layers (worldOf (w .endpoint) (w .mem)) k
 
 module _ (w : Left) (k : List ℕ) where
-  reply-is : stepOf (w .endpoint) (w .mem) k .answer ≡ heardBy w k .reply
+  reply-is : stepOf (w .endpoint) (w .mem) k .answer ≡ answerBy w k .reply
   reply-is =
       ap (λ (s : Replied answers Config layers). s .reply) (receive-is (w .endpoint) (w .mem) k)
       ∙ sym (answer-reply answers Config layers (worldOf (w .endpoint) (w .mem)) k)
@@ -171,9 +170,9 @@ module _ (w : Left) (k : List ℕ) where
   mem-is : stepOf (w .endpoint) (w .mem) k .mem ≡ receives answers Config layers (worldOf (w .endpoint) (w .mem)) k .world .mem
   mem-is = ap (λ (s : Replied answers Config layers). s .world .mem) (receive-is (w .endpoint) (w .mem) k)
 
-  heard-delivers : (t : Target) (start n : ℕ) (frame : List ℕ) → heardBy w k .reply ≡ inMemory t start n → heardBy w k .bytes ≡ frame
+  answer-delivers : (t : Target) (start n : ℕ) (frame : List ℕ) → answerBy w k .reply ≡ inMemory t start n → answerBy w k .bytes ≡ frame
       → Delivers (w .endpoint) (w .mem) k t frame
-  heard-delivers t start n frame r b =
+  answer-delivers t start n frame r b =
       let place : Place = record { start = start; length = n; «in_memory» = true } in
       record {
         place = place;
@@ -187,8 +186,8 @@ module _ (w : Left) (k : List ℕ) where
       }
 
 pub right-answered : (w : Left) (k : List ℕ) (p : ℕ) (fr : M.Frame) (t : Target) (frame : List ℕ) (later : ℕ) → drop 18 (fr .content) ≡ frame
-    → Right answers p fr t later (heardBy w k) → Answered w k t frame later
+    → Right answers p fr t later (answerBy w k) → Answered w k t frame later
 right-answered w k p fr t frame later inner right = record {
   waits = λ l. reply-is w k ∙ ap (λ (a : Answer answers). a .reply) (right .waits l);
-  delivers = λ l. heard-delivers w k t _ _ frame (right .delivers l) (right .bytes l ∙ inner);
+  delivers = λ l. answer-delivers w k t _ _ frame (right .delivers l) (right .bytes l ∙ inner);
 }

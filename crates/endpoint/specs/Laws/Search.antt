@@ -1,5 +1,4 @@
 -- Laws of the lookups: the code's loop finds the lowest number that passes.
--- Assumes nothing.
 use mathlib.Core.Path.{_≡_, sym, ap}
 use mathlib.Core.Bool.{Bool, true, false, _&&_}
 use mathlib.Core.List.{List}

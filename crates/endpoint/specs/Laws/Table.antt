@@ -1,5 +1,4 @@
 -- Each call answers by document 01's table (Table.antt): the rows of crates wire and reassembly, as those prove them, joined with the endpoint's own.
--- Assumes nothing.
 use Prim.Native.Nat.{ℕ, zero, suc, _+_, _-_, _*_, _/_, _^_, _<_, _≤_, min}
 use mathlib.Core.Path.{_≡_, refl, sym, ap, _∙_}
 use mathlib.Core.Logic.{_≢_}
@@ -190,35 +189,35 @@ module _ (e : Endpoint) (peer : ℕ) where
 seenNumber : Endpoint → List ℕ → Reading answers → ℕ
 seenNumber e m x = valuesOf (stepped e m x .answer) .number
 
-spoken-number : (v : Verdict answers) (i n : ℕ) (frame : List ℕ) → valuesOf (frameAnswer answers v i n frame .reply) .number ≡ verdictNumber v
+verdict-reply-number : (v : Verdict answers) (i n : ℕ) (frame : List ℕ) → valuesOf (frameAnswer answers v i n frame .reply) .number ≡ verdictNumber v
 unfolding verdictNumber
-spoken-number (bad d) i n frame = ap (λ (a : Received). valuesOf a .number) (bad-reply answers d i n frame)
-spoken-number (good t) i n frame = ap (λ (a : Received). valuesOf a .number) (good-reply answers t i n frame)
+verdict-reply-number (bad d) i n frame = ap (λ (a : Received). valuesOf a .number) (bad-reply answers d i n frame)
+verdict-reply-number (good t) i n frame = ap (λ (a : Received). valuesOf a .number) (good-reply answers t i n frame)
 
 module _ (e : Endpoint) (m : List ℕ) (p : ℕ) (g : Seg) where
   -- what is made of a complete frame; its note says nothing in the base
   judged : List ℕ → ℕ
   judged frame = verdictNumber (judgeOf (configOf e) p noNote frame)
 
-  told-number : (o : Effect bytesOf) (x : Outcome) → valuesOf (takeAnswer answers (judgeOf (configOf e)) bytesOf p g o x .reply) .number
+  outcome-number : (o : Effect bytesOf) (x : Outcome) → valuesOf (takeAnswer answers (judgeOf (configOf e)) bytesOf p g o x .reply) .number
       ≡ takenNumber judged p g o x
   unfolding judged judgeOf
-  told-number o (O.Rejected r) =
+  outcome-number o (O.Rejected r) =
       ap (λ (a : Received). valuesOf a .number) (rejected-reply answers (judgeOf (configOf e)) bytesOf p g o r) ∙ sym (rejected-number judged p g o r)
-  told-number o O.Pending =
+  outcome-number o O.Pending =
       ap (λ (a : Received). valuesOf a .number) (pending-reply answers (judgeOf (configOf e)) bytesOf p g o) ∙ sym (pending-number judged p g o)
-  told-number o (O.Complete s) =
+  outcome-number o (O.Complete s) =
       ap (λ (a : Answer answers). valuesOf (a .reply) .number) (complete-reply answers (judgeOf (configOf e)) bytesOf p g o s)
-      ∙ spoken-number (judgeOf (configOf e) p (o .note) (frameIn bytesOf (o .mem) (slotNo p s) (g .frame-length))) _ _ _
+      ∙ verdict-reply-number (judgeOf (configOf e) p (o .note) (frameIn bytesOf (o .mem) (slotNo p s) (g .frame-length))) _ _ _
       ∙ sym (complete-number judged p g o s)
-  told-number o O.NoMemory =
+  outcome-number o O.NoMemory =
       ap (λ (a : Received). valuesOf a .number) (no-memory-reply answers (judgeOf (configOf e)) bytesOf p g o) ∙ sym (no-memory-number judged p g o)
 
   segment-number : p < mostPeers → 55296 ≤ length m
       → seenNumber e m (segment p g) ≡ T.numbered (segmentRows p (rowAt e p) m g andThen judgeRows e p (completeFrame p (rowAt e p) m g))
   unfolding seenNumber judged
   segment-number small enough =
-      told-number (takeIn p (rowAt e p) m g) (takeIn p (rowAt e p) m g .outcome)
+      outcome-number (takeIn p (rowAt e p) m g) (takeIn p (rowAt e p) m g .outcome)
       ∙ reassembly-table .segment judged p (rowAt e p) m g small enough
       ∙ under-segment p (rowAt e p) m g _ _ (λ l. judge-number e p noNote (completeFrame p (rowAt e p) m g) (omega arith))
       ∙ sym (behind (segmentRows p (rowAt e p) m g) (judgeRows e p (completeFrame p (rowAt e p) m g)) 0)

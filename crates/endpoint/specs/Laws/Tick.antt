@@ -1,5 +1,4 @@
 -- The tick's loop over the rows, turn by turn: stated over plain values, so that the proof of the code is short.
--- Assumes nothing.
 use mathlib.Core.Path.{_≡_, _∙_, sym, refl, ap}
 use mathlib.Core.List.{List, [], _∷_, _++_, map, append-nil}
 use Prim.Native.Nat.{ℕ, zero, suc, _+_, _<_}

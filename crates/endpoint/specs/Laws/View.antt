@@ -1,5 +1,4 @@
 -- The view's rule holds of what the contract of `view` promises; and the ways out of `cut`.
--- Assumes nothing.
 use Prim.Native.Nat.{ℕ, _+_, _<_, _≤_}
 use mathlib.Core.Path.{_≡_, sym, ap, _∙_}
 use mathlib.Core.Bool.{true, false, cond}

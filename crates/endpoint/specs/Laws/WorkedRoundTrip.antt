@@ -1,6 +1,6 @@
 -- The round trip is not empty: every good frame that the MTU lets through is wrapped, its segments have an order, and two set-ups match on a binding of
 -- each kind, so between them every such frame makes the trip. At an MTU of 576 a frame of 1,514 bytes on the STT network makes it in three segments, the
--- last first and the second last: the answers are 1, 1 and 0. Assumes nothing.
+-- last first and the second last: the answers are 1, 1 and 0.
 use Prim.Native.Nat.{ℕ, zero, suc, _+_, _-_, _^_, _<_, _≤_}
 use mathlib.Core.Path.{_≡_, refl, sym, ap, subst, _∙_}
 use mathlib.Core.Logic.{_⊎_, inl, inr}
@@ -22,7 +22,7 @@ use Rattle.endpoint.specs.Config.{configOf, hasAddress, findPeer, binds,
 use Rattle.endpoint.specs.Config.{isNetwork, addBindingChecks, withBinding, addBindingOf, Adding, addPeer, addBinding, added, addedAll, setUp}
 use Rattle.endpoint.specs.Config.{addressAt}
 use Rattle.endpoint.specs.Wrap.{segmentsOf, exceeds, kindAt, networkAt, ownerAt, peerAt, packetAt, wrapOf}
-use Rattle.endpoint.specs.Laws.Wrap.{written-says, written-when, ready-listed}
+use Rattle.endpoint.specs.Laws.Wrap.{written-facts, written-when, ready-listed}
 use Rattle.endpoint.specs.Reached.{add, leftBy, Reached}
 use Rattle.endpoint.specs.Laws.Reached.{reached-ready}
 use Rattle.endpoint.specs.RoundTrip.{segmentsFor, Wraps, Matches, timesIn, Order, arrivals, RoundTrip}
@@ -57,7 +57,7 @@ module _ (e : Endpoint) (b : ℕ) (frame : List ℕ) (identifier : ℕ) (reached
     answer = answer;
     written = written;
     is = λ k h.
-        sym (ap (take (length (packets k))) (written-says e b frame k identifier (packets k) (answer k) (written k h) .output-is)
+        sym (ap (take (length (packets k))) (written-facts e b frame k identifier (packets k) (answer k) (written k h) .output-is)
         ∙ wrote-front (packets k) (packets k));
   }
 

@@ -38,45 +38,45 @@ ready-config = refl
 
 -- ---- the segments of peer 0's frames: each packet is sound, and states its frame's length, its offset and its identifier
 
-pub heard-a0 : headerOf listed (partOf frame-a 0 .packet) ≡ segment 0 (states frame-a 0)
+pub read-a0 : headerOf listed (partOf frame-a 0 .packet) ≡ segment 0 (states frame-a 0)
 unfolding first states headerOf ipv4Checks ipv4At ipv4Of be beAt part total ones pseudo segmentChecks segmentAt segmentOf carriageOf from lowest hasAddress
     findPeer
-heard-a0 = refl
+read-a0 = refl
 
-pub heard-a1 : headerOf listed (partOf frame-a 1 .packet) ≡ segment 0 (states frame-a 1)
+pub read-a1 : headerOf listed (partOf frame-a 1 .packet) ≡ segment 0 (states frame-a 1)
 unfolding first states headerOf ipv4Checks ipv4At ipv4Of be beAt part total ones pseudo segmentChecks segmentAt segmentOf carriageOf from lowest hasAddress
     findPeer
-heard-a1 = refl
+read-a1 = refl
 
-pub heard-b0 : headerOf listed (partOf frame-b 0 .packet) ≡ segment 0 (states frame-b 0)
+pub read-b0 : headerOf listed (partOf frame-b 0 .packet) ≡ segment 0 (states frame-b 0)
 unfolding first states headerOf ipv4Checks ipv4At ipv4Of be beAt part total ones pseudo segmentChecks segmentAt segmentOf carriageOf from lowest hasAddress
     findPeer
-heard-b0 = refl
+read-b0 = refl
 
-pub heard-b1 : headerOf listed (partOf frame-b 1 .packet) ≡ segment 0 (states frame-b 1)
+pub read-b1 : headerOf listed (partOf frame-b 1 .packet) ≡ segment 0 (states frame-b 1)
 unfolding first states headerOf ipv4Checks ipv4At ipv4Of be beAt part total ones pseudo segmentChecks segmentAt segmentOf carriageOf from lowest hasAddress
     findPeer
-heard-b1 = refl
+read-b1 = refl
 
-pub heard-c0 : headerOf listed (partOf frame-c 0 .packet) ≡ segment 0 (states frame-c 0)
+pub read-c0 : headerOf listed (partOf frame-c 0 .packet) ≡ segment 0 (states frame-c 0)
 unfolding first states headerOf ipv4Checks ipv4At ipv4Of be beAt part total ones pseudo segmentChecks segmentAt segmentOf carriageOf from lowest hasAddress
     findPeer
-heard-c0 = refl
+read-c0 = refl
 
-pub heard-c1 : headerOf listed (partOf frame-c 1 .packet) ≡ segment 0 (states frame-c 1)
+pub read-c1 : headerOf listed (partOf frame-c 1 .packet) ≡ segment 0 (states frame-c 1)
 unfolding first states headerOf ipv4Checks ipv4At ipv4Of be beAt part total ones pseudo segmentChecks segmentAt segmentOf carriageOf from lowest hasAddress
     findPeer
-heard-c1 = refl
+read-c1 = refl
 
-pub heard-d0 : headerOf listed (partOf frame-d 0 .packet) ≡ segment 0 (states frame-d 0)
+pub read-d0 : headerOf listed (partOf frame-d 0 .packet) ≡ segment 0 (states frame-d 0)
 unfolding first states headerOf ipv4Checks ipv4At ipv4Of be beAt part total ones pseudo segmentChecks segmentAt segmentOf carriageOf from lowest hasAddress
     findPeer
-heard-d0 = refl
+read-d0 = refl
 
-pub heard-d1 : headerOf listed (partOf frame-d 1 .packet) ≡ segment 0 (states frame-d 1)
+pub read-d1 : headerOf listed (partOf frame-d 1 .packet) ≡ segment 0 (states frame-d 1)
 unfolding first states headerOf ipv4Checks ipv4At ipv4Of be beAt part total ones pseudo segmentChecks segmentAt segmentOf carriageOf from lowest hasAddress
     findPeer
-heard-d1 = refl
+read-d1 = refl
 
 -- ---- what the frames are worth: Context ID 77 is binding 0, tenant 7; the other is binding 1, tenant 8
 
@@ -90,36 +90,36 @@ worth-b note = refl
 
 -- ---- packets of peer 0's own: delivered, and refused (10)
 
-pub heard-own : headerOf listed own-packet ≡ direct 0 (R.Delivered (record { tenant = 5; binding = 3 })
+pub read-own : headerOf listed own-packet ≡ direct 0 (R.Delivered (record { tenant = 5; binding = 3 })
     (record { start = 36; length = 14; «in_memory» = false }))
 unfolding first headerOf ipv4Checks ipv4At ipv4Of be beAt part total ones udpSum udpChecks udpOf vxlanChecks vxlanAt vxlanOf carriageOf from lowest
     hasAddress findPeer binds innerFrom tunnelFrom frameChecks frameOf
-heard-own = refl
+read-own = refl
 
-pub heard-broken : headerOf listed broken-packet ≡ direct 0 (R.Dropped (D.Format F.TcpChecksum))
+pub read-broken : headerOf listed broken-packet ≡ direct 0 (R.Dropped (D.Format F.TcpChecksum))
 unfolding first states headerOf ipv4Checks ipv4At ipv4Of be beAt part total ones pseudo segmentChecks segmentAt segmentOf carriageOf from lowest hasAddress
     findPeer
-heard-broken = refl
+read-broken = refl
 
 -- ---- other senders' packets
 
 -- delivered: the frame of 14 bytes behind 36
-pub heard-vxlan : headerOf listed vxlan-packet ≡ direct 1 (R.Delivered (record { tenant = 9; binding = 2 })
+pub read-vxlan : headerOf listed vxlan-packet ≡ direct 1 (R.Delivered (record { tenant = 9; binding = 2 })
     (record { start = 36; length = 14; «in_memory» = false }))
 unfolding first headerOf ipv4Checks ipv4At ipv4Of be beAt part total ones udpSum udpChecks udpOf vxlanChecks vxlanAt vxlanOf carriageOf from lowest
     hasAddress findPeer binds innerFrom tunnelFrom frameChecks frameOf
-heard-vxlan = refl
+read-vxlan = refl
 
-pub heard-rival : headerOf listed rival-packet ≡ segment 1 (record
+pub read-rival : headerOf listed rival-packet ≡ segment 1 (record
     { identifier = 1001; frame-length = 32; offset = 0; bytes = replicate 10 255; mark = noMark })
 unfolding first headerOf ipv4Checks ipv4At ipv4Of be beAt part total ones pseudo segmentChecks segmentAt segmentOf carriageOf from lowest hasAddress
     findPeer
-heard-rival = refl
+read-rival = refl
 
-pub heard-stray : headerOf listed stray-packet ≡ otherSender (R.Dropped D.Peer)
+pub read-stray : headerOf listed stray-packet ≡ otherSender (R.Dropped D.UnknownPeer)
 unfolding first headerOf ipv4Checks ipv4At ipv4Of be beAt part total ones pseudo segmentChecks segmentAt segmentOf carriageOf from lowest hasAddress
     findPeer
-heard-stray = refl
+read-stray = refl
 
 -- ---- the run is a mixing, as far as it can be told without the packets
 

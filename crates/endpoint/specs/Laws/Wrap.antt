@@ -1,5 +1,4 @@
 -- Laws of wrapping: what an answer Written says, the packet of each kind, the segments' bounds, and what a listed binding gives.
--- Assumes nothing.
 use Prim.Native.Nat.{ℕ, suc, _+_, _-_, _*_, _/_, _^_, _<_, _≤_}
 use mathlib.Core.Path.{_≡_, refl, sym, ap, subst, _∙_}
 use mathlib.Core.Bool.{true, false, _&&_, _||_}
@@ -29,7 +28,7 @@ use Rattle.reassembly.specs.Slots.{mostPeers}
 
 -- ---- what an answer Written says, and when it is given
 
-pub record Says (e : Endpoint) (b : ℕ) (frame : List ℕ) (segment identifier : ℕ) (output : List ℕ) (p : Packet) : Type 0 where
+pub record WrittenFacts (e : Endpoint) (b : ℕ) (frame : List ℕ) (segment identifier : ℕ) (output : List ℕ) (p : Packet) : Type 0 where
   pub binding : b < configOf e .bindings
   pub good : IsFrame frame
   pub short : exceeds (kindAt e b) (length frame) (e .mtu) ≡ false
@@ -47,9 +46,9 @@ good-not : (x : FrameRead) → x ≡ F.Good → isBad x ≡ false
 good-not x e = rw e
 
 module _ (e : Endpoint) (b : ℕ) (frame : List ℕ) (segment identifier : ℕ) (output : List ℕ) where
-  pub written-says : (p : Packet) → wrapOf e b frame segment identifier output .answer ≡ Y.Written p → Says e b frame segment identifier output p
+  pub written-facts : (p : Packet) → wrapOf e b frame segment identifier output .answer ≡ Y.Written p → WrittenFacts e b frame segment identifier output p
   unfolding wrapOf wrapChecks
-  written-says p a =
+  written-facts p a =
       let w : Wrote = wrapOf e b frame segment identifier output in
       let done : Wrote = record {
         answer = Y.Written (record { length = length (packetAt e b frame segment identifier); segments = segmentsOf (kindAt e b) (length frame) (e .mtu) });

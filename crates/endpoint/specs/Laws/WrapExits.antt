@@ -1,5 +1,4 @@
 -- Wrapping, as the proofs of the code cite it: exit by exit, the segments' bounds, and what a writer leaves.
--- Assumes nothing.
 use Prim.Native.Nat.{ℕ, suc, _+_, _-_, _*_, _/_, _<_, _≤_, min}
 use mathlib.Core.Path.{_≡_, refl, ap, subst}
 use mathlib.Core.Bool.{Bool, true, false}
@@ -13,7 +12,7 @@ use Rattle.wire.specs.Bytes.{wrote}
 use Rattle.wire.specs.Laws.Checks.{At, given, decided, choices, tests}
 use Rattle.wire.specs.Frame.{frameOf}
 use Rattle.wire.specs.Write.{fits, segmentFits, vxlanPacket, nvgrePacket, segmentPacket, Written}
-use Rattle.wire.specs.Laws.Write.{fits-met, fits-says, segment-fits-met, segment-fits-says, vxlan-length-is, nvgre-length-is, segment-length-is}
+use Rattle.wire.specs.Laws.Write.{fits-met, fits-facts, segment-fits-met, segment-fits-facts, vxlan-length-is, nvgre-length-is, segment-length-is}
 use Rattle.wire.specs.declared.refusal.Refusal.{Refusal}
 use Rattle.wire.specs.declared.frame.FrameRead.the-variants as F
 use Rattle.reassembly.specs.Laws.Base.{caseB, same-test}
@@ -98,14 +97,14 @@ module _ (kind size mtu k : ℕ) where
 may-fit : (headers n room : ℕ) (packet : List ℕ) → length packet ≡ headers + n → 14 ≤ n → headers + n ≤ 65535 → fits headers n room ≡ leb (length packet) room
 may-fit headers n room packet l h k =
     same-test (fits headers n room) (leb (length packet) room)
-    (λ e. le-leb (length packet) room (omega (arith, fits-says (fits headers n room) headers n room refl e .room-is)))
+    (λ e. le-leb (length packet) room (omega (arith, fits-facts (fits headers n room) headers n room refl e .room-is)))
     (λ e. fits-met headers n room h k (omega (arith, tests)))
 
 may-segment : (n offset count room : ℕ) (packet : List ℕ) → length packet ≡ 40 + count → 14 ≤ n → 18 + n ≤ 65535 → offset + count ≤ 18 + n → 40 + count ≤ 65535
     → segmentFits n offset count room ≡ leb (length packet) room
 may-segment n offset count room packet l h k w s =
     same-test (segmentFits n offset count room) (leb (length packet) room)
-    (λ e. le-leb (length packet) room (omega (arith, segment-fits-says (segmentFits n offset count room) n offset count room refl e .room-is)))
+    (λ e. le-leb (length packet) room (omega (arith, segment-fits-facts (segmentFits n offset count room) n offset count room refl e .room-is)))
     (λ e. segment-fits-met n offset count room h k w s (omega (arith, tests)))
 
 piece-length : (own peer port context identifier c k : ℕ) (last : Bool) (frame : List ℕ) → k * c < 18 + length frame
@@ -195,28 +194,28 @@ module _ (t : Route) (frame : List ℕ) (k identifier : ℕ) (old : List ℕ) wh
   abbrev whole : Wrote
   whole = sendOf t frame k identifier old
 
-  pub send-frame : (x : Refusal) → frameOf frame ≡ F.Refused x → Leaves (sendOf t frame k identifier old) (Y.Refused X.Frame) old
+  pub send-frame : (x : Refusal) → frameOf frame ≡ F.Refused x → Leaves (sendOf t frame k identifier old) (Y.Refused X.BadFrame) old
   unfolding sendChecks
-  send-frame x e = leaves whole (refusedWrap old X.Frame) (send-exit t frame k identifier old 0 (ap isBad e))
+  send-frame x e = leaves whole (refusedWrap old X.BadFrame) (send-exit t frame k identifier old 0 (ap isBad e))
 
   module _ (good : frameOf frame ≡ F.Good) where
-    pub send-mtu : exceeds (t .kind) (length frame) (t .mtu) ≡ true → Leaves (sendOf t frame k identifier old) (Y.Refused X.Mtu) old
+    pub send-mtu : exceeds (t .kind) (length frame) (t .mtu) ≡ true → Leaves (sendOf t frame k identifier old) (Y.Refused X.ExceedsMtu) old
     unfolding sendChecks
-    send-mtu e = leaves whole (refusedWrap old X.Mtu) (send-exit t frame k identifier old 1 (ap isBad good, e))
+    send-mtu e = leaves whole (refusedWrap old X.ExceedsMtu) (send-exit t frame k identifier old 1 (ap isBad good, e))
 
     module _ (within : exceeds (t .kind) (length frame) (t .mtu) ≡ false) where
-      pub send-segment : segmentsOf (t .kind) (length frame) (t .mtu) ≤ k → Leaves (sendOf t frame k identifier old) (Y.Refused X.Segment) old
+      pub send-segment : segmentsOf (t .kind) (length frame) (t .mtu) ≤ k → Leaves (sendOf t frame k identifier old) (Y.Refused X.NoSegment) old
       unfolding sendChecks
       send-segment h =
-          leaves whole (refusedWrap old X.Segment)
+          leaves whole (refusedWrap old X.NoSegment)
           (send-exit t frame k identifier old 2 (ap isBad good, (within, le-leb (segmentsOf (t .kind) (length frame) (t .mtu)) k h)))
 
       module _ (below : k < segmentsOf (t .kind) (length frame) (t .mtu)) (new : List ℕ) (r : ℕ) (put : Put (packetOn t frame k identifier) old new r) where
-        pub send-output : r ≡ 0 → Leaves (sendOf t frame k identifier old) (Y.Refused X.Output) new
+        pub send-output : r ≡ 0 → Leaves (sendOf t frame k identifier old) (Y.Refused X.OutputTooShort) new
         unfolding sendChecks
         send-output e =
             let n = not-put (leb (length packet) (length old)) packet old new r put (packet-long t frame k identifier below) e in
-            rw (n .1) (leaves whole (refusedWrap old X.Output)
+            rw (n .1) (leaves whole (refusedWrap old X.OutputTooShort)
             (send-exit t frame k identifier old 3
             (ap isBad good, (within, (lt-leb (segmentsOf (t .kind) (length frame) (t .mtu)) k below, lt-ltb (length old) (length packet) (leb-false (length packet) (length old) (n .0)))))))
 
@@ -232,12 +231,12 @@ module _ (t : Route) (frame : List ℕ) (k identifier : ℕ) (old : List ℕ) wh
 -- ---- the call: the binding, then all the rest
 
 module _ (e : Endpoint) (b : ℕ) (frame : List ℕ) (k identifier : ℕ) (old : List ℕ) where
-  pub wrap-unlisted : min (e .«binding_count») mostBindings ≤ b → Leaves (wrapOf e b frame k identifier old) (Y.Refused X.Binding) old
+  pub wrap-unlisted : min (e .«binding_count») mostBindings ≤ b → Leaves (wrapOf e b frame k identifier old) (Y.Refused X.NoBinding) old
   unfolding wrapOf wrapChecks configOf
   wrap-unlisted h = simp (choices, le-leb (min (e .«binding_count») mostBindings) b h) (refl, refl)
 
   module _ (listed : b < min (e .«binding_count») mostBindings) where
-    pub wrap-ownerless : mostPeers ≤ ownerAt e b → Leaves (wrapOf e b frame k identifier old) (Y.Refused X.Binding) old
+    pub wrap-ownerless : mostPeers ≤ ownerAt e b → Leaves (wrapOf e b frame k identifier old) (Y.Refused X.NoBinding) old
     unfolding wrapOf wrapChecks configOf
     wrap-ownerless h = simp (choices, lt-leb (min (e .«binding_count») mostBindings) b listed, le-leb mostPeers (ownerAt e b) h) (refl, refl)
 

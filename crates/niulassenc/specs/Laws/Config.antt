@@ -1,5 +1,4 @@
 -- What an adding call says of the columns that it is lent makes up what it does to the endpoint.
--- Assumes nothing.
 use Prim.Native.Nat.{ℕ}
 use mathlib.Core.Path.{_≡_, refl, ap, _∙_}
 use mathlib.Core.List.{List}

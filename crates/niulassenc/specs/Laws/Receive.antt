@@ -1,5 +1,4 @@
 -- Laws of a receive: its three steps over a lent endpoint add up.
--- Assumes nothing.
 use Prim.Native.Nat.{ℕ, _<_}
 use mathlib.Core.Path.{_≡_, sym, ap, subst, _∙_}
 use mathlib.Core.Bool.{false}

@@ -1,5 +1,4 @@
 -- A frame has at most 1,532 segments: an STT frame has at most that many bytes, and a segment carries one or more of them.
--- Assumes nothing.
 use Prim.Native.Nat.{ℕ, _+_, _-_, _*_, _≤_, _<_}
 use mathlib.Core.Path.{_≡_, sym, ap}
 use mathlib.Core.List.{List}
@@ -10,7 +9,7 @@ use borrow.Author.Tests.{eqb-true, eqb-false, ltb-true, ltb-false}
 use Rattle.reassembly.specs.Laws.Base.{caseB}
 use Rattle.endpoint.specs.Answer.{wrapValuesOf, WrapValues}
 use Rattle.endpoint.specs.Wrap.{kindAt, segmentsOf, wrapOf}
-use Rattle.endpoint.specs.Laws.Wrap.{Says, written-says}
+use Rattle.endpoint.specs.Laws.Wrap.{WrittenFacts, written-facts}
 use Rattle.endpoint.specs.Laws.WrapExits.{segments-vxlan, segments-nvgre, stt-room, stt-begins}
 use Rattle.endpoint.specs.declared.answer.Wrapped.{Wrapped}
 use Rattle.endpoint.specs.declared.answer.Wrapped.the-variants as Y
@@ -33,7 +32,7 @@ module _ (e : Endpoint) (b : ℕ) (frame : List ℕ) (segment identifier : ℕ) 
   answered (Y.Refused r) q = let s : wrapValuesOf (Y.Refused r) .segments ≡ 0 = ap (λ (v : WrapValues). v .segments) (refused-values r) in omega arith
   answered (Y.Written p) q =
       let n : wrapValuesOf (Y.Written p) .segments ≡ p .segments = ap (λ (v : WrapValues). v .segments) (written-values p) in
-      let w : Says e b frame segment identifier output p = written-says e b frame segment identifier output p q in
+      let w : WrittenFacts e b frame segment identifier output p = written-facts e b frame segment identifier output p q in
       let l : length frame ≤ 1514 = w .good .most in
       let s : p .segments ≡ segmentsOf (kindAt e b) (length frame) (e .mtu) = w .segments-is in
       let f : segmentsOf (kindAt e b) (length frame) (e .mtu) ≤ 1532 = few (kindAt e b) (length frame) (e .mtu) l in

@@ -1,5 +1,4 @@
 -- What is answered to a segment, and which bytes a place names, case by case: what the crates above know of both.
--- Assumes nothing.
 use Prim.Native.Nat.{ℕ, _+_, _-_, _*_, _<_, _≤_}
 use mathlib.Core.Path.{_≡_, refl}
 use mathlib.Core.Bool.{true, false}

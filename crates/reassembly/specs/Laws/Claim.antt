@@ -126,13 +126,13 @@ module _ (W : Answers) (Config : Type 0) (U : Layers W Config) where
     abbrev pub Good : State bytesOf → State ghost → Type 0
     Good s g = Sim bytesOf ghost p s g
 
-    said-at : (s : State bytesOf) (g : State ghost) (x : Reading W) → Kept W x → Good s g
+    reading-at : (s : State bytesOf) (g : State ghost) (x : Reading W) → Kept W x → Good s g
         → (receiveBy W Config U (at s) x .reply ≡ react W judge bytesOf s x .answer .reply)
         × (receiveBy W Config U (at s) x .world ≡ at (react W judge bytesOf s x .state))
     unfolding receiveBy
-    said-at s g (otherSender a) o h = (refl, refl)
-    said-at s g (direct q a) o h = (refl, refl)
-    said-at s g (segment q x) o h = rw (take-in q (getD (s .peers) q noRow) (s .mem) x o (h .same .okA)) (refl, refl)
+    reading-at s g (otherSender a) o h = (refl, refl)
+    reading-at s g (direct q a) o h = (refl, refl)
+    reading-at s g (segment q x) o h = rw (take-in q (getD (s .peers) q noRow) (s .mem) x o (h .same .okA)) (refl, refl)
 
     -- check 2 does not apply
     receives-at : (s : State bytesOf) (g : State ghost) (k : List ℕ) → Good s g → receives W Config U (at s) k ≡ receiveBy W Config U (at s) (header k)
@@ -142,7 +142,7 @@ module _ (W : Answers) (Config : Type 0) (U : Layers W Config) where
     pub next-at : (s : State bytesOf) (g : State ghost) (e : Event) → Good s g → next W Config U (at s) e ≡ at (after W judge bytesOf header s e)
     unfolding next
     next-at s g tick h = refl
-    next-at s g (receive k) h = ap (λ (o : Replied W Config U). o .world) (receives-at s g k h) ∙ said-at s g (header k) (promise .kept k) h .1
+    next-at s g (receive k) h = ap (λ (o : Replied W Config U). o .world) (receives-at s g k h) ∙ reading-at s g (header k) (promise .kept k) h .1
 
     pub runs-at : (es : List Event) (s : State bytesOf) (g : State ghost) → Good s g → runs W Config U (at s) es ≡ at (run W judge bytesOf header s es)
     unfolding runs next
@@ -165,21 +165,21 @@ module _ (W : Answers) (Config : Type 0) (U : Layers W Config) where
         rw (take-in q (getD (s .peers) q noRow) (s .mem) x o (h .same .okA))
         (ap (λ (t : List ℕ). record { reply = react W judge bytesOf s (segment q x) .answer .reply; bytes = t }) (b .is) ∙ sym (backs-fill W judge k _ _ b))
 
-    heard-at : (s : State bytesOf) (g : State ghost) (k : List ℕ) → Good s g → answerOf W Config U (at s) k
+    answer-is-at : (s : State bytesOf) (g : State ghost) (k : List ℕ) → Good s g → answerOf W Config U (at s) k
         ≡ fill W k (react W judge bytesOf s (header k) .answer)
     unfolding answerOf handedBack runs receives
-    heard-at s g k h = ap (backOf k) (receives-at s g k h) ∙ back s g k (header k) (promise .kept k) h
+    answer-is-at s g k h = ap (backOf k) (receives-at s g k h) ∙ back s g k (header k) (promise .kept k) h
 
-    said-to-at : (s : State bytesOf) (g : State ghost) (e : Event) → Good s g → answersAt W Config U p (at s) e ≡ answer1 W header p judge bytesOf s e
-    said-to-at s g tick h = refl
-    said-to-at s g (receive k) h = rw (heard-at s g k h, from-own k)
+    answers-are-at : (s : State bytesOf) (g : State ghost) (e : Event) → Good s g → answersAt W Config U p (at s) e ≡ answer1 W header p judge bytesOf s e
+    answers-are-at s g tick h = refl
+    answers-are-at s g (receive k) h = rw (answer-is-at s g k h, from-own k)
 
     answers-at : (es : List Event) (s : State bytesOf) (g : State ghost) → Good s g → answersOf W Config U p (at s) es ≡ answers W header p judge bytesOf s es
     unfolding answersOf
     answers-at [] s g h = refl
     answers-at (e ∷ es) s g h =
         cc (
-          said-to-at s g e h,
+          answers-are-at s g e h,
           ap (λ (w : World Config). answersOf W Config U p w es) (next-at s g e h),
           answers-at es (after W judge bytesOf header s e) _ (event-sim W judge bytesOf ghost bytes-laws ghost-laws header listed p p< s g e h),
         )
@@ -204,7 +204,7 @@ module _ (W : Answers) (Config : Type 0) (U : Layers W Config) where
         let k : List ℕ = partOf (frameOf frames f) j .packet in
         let h = run-sim W judge bytesOf ghost bytes-laws ghost-laws header listed p p< (map (event frames) before) (start bytesOf m) ghostStart (begins m o) in
         ap (λ (w : World Config). answerOf W Config U w k) (runs-at (map (event frames) before) (start bytesOf m) ghostStart (begins m o))
-        ∙ heard-at (run W judge bytesOf header (start bytesOf m) (map (event frames) before)) _ k h
+        ∙ answer-is-at (run W judge bytesOf header (start bytesOf m) (map (event frames) before)) _ k h
         ∙ seg-fill (run W judge bytesOf header (start bytesOf m) (map (event frames) before)) _ k q x e h
 
     -- a cut has a part

@@ -361,8 +361,8 @@ module _ (W : Answers) (header : List ℕ → Reading W) (judge : ℕ → Note �
 
     -- a new frame: no slot bears its identifier, and one of the four is free
     module _ (row : List Slot) (m : ℕ → List Piece) (h : Seats p frames past (now ∷ fut) row m) (z : segmentsOf f past ≡ 0) where
-      strange : (t : ℕ) → t < mostSlots → getD row t free .pending ≡ true → getD row t free .identifier ≢ fr .identifier
-      strange t lt e q =
+      no-bearer : (t : ℕ) → t < mostSlots → getD row t free .pending ≡ true → getD row t free .identifier ≢ fr .identifier
+      no-bearer t lt e q =
           let o : Owner p frames past (now ∷ fut) row m t = h .owner t lt e in
           let w : o .frame ≡ f = near (o .frame) (o .is-frame) (o .begun) (o .unfinished) (cc (o .slot)) in
           absurd (omega (arith, rw w at (o .begun)))
@@ -372,7 +372,7 @@ module _ (W : Answers) (header : List ℕ → Reading W) (judge : ℕ → Note �
           caseO (first (bears (fr .identifier)) row)
           (λ n. n)
           (λ t n. let b : First (bears (fr .identifier)) row t = first-some (bears (fr .identifier)) row t n in
-          absurd (strange t (b .is-slot) (bears-pending (fr .identifier) (getD row t free) (b .passes))
+          absurd (no-bearer t (b .is-slot) (bears-pending (fr .identifier) (getD row t free) (b .passes))
           (bears-identifier (fr .identifier) (getD row t free) (b .passes))))
 
       not-full : first isFree row ≡ none → ⊥
@@ -415,7 +415,7 @@ module _ (W : Answers) (header : List ℕ → Reading W) (judge : ℕ → Note �
           ∙ ap (λ (x : Note). pendingSlot (fr .identifier) (length (fr .content)) (age frames f past) x) nt in
           rw c
           (finish-step s row m (ghost .put m₁ (slotNo p s) (offsetOf (fr .parts) j) (partOf fr j .bytes)) _ _ (o .1 .1 .0) h
-          (λ t lt d e. strange t lt e)
+          (λ t lt d e. no-bearer t lt e)
           (λ e. clash (cc (is-free)))
           (upd-same m₁ (slotNo p s) _ ∙ cc (upd-same m (slotNo p s) [], pieces-none frames f past z, eq-eqb f f refl))
           (λ t d. upd-other m₁ (slotNo p s) _ (slotNo p t) (λ q. d (omega arith)) ∙ upd-other m (slotNo p s) [] (slotNo p t) (λ q. d (omega arith)))

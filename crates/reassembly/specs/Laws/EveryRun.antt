@@ -30,7 +30,7 @@ use Rattle.reassembly.specs.Laws.Carried.{came-at, completes, world, Inv
 use Rattle.reassembly.specs.Laws.Carried.{log-now}
 use Rattle.reassembly.specs.EveryRun.{frameAt, Taken, Unchanged, Fourteen, Ruled, Stands, EveryRun}
 use Rattle.reassembly.specs.Laws.RulesTake.{covered-is, Stand, under-young, holds-one, chosen-unfit, chosen-old, chosen-new, take-stand, tick-stand}
-use Rattle.reassembly.specs.Laws.RulesTake.{take-by, told-15, told-16, told-17, told-further, told-opens, OneCase, one-case}
+use Rattle.reassembly.specs.Laws.RulesTake.{take-by, told-15, told-16, told-17, outcome-further, outcome-opens, OneCase, one-case}
 use Rattle.reassembly.specs.Laws.RulesTouch.{touches-further, touches-opens}
 
 -- ---- one outcome is not another
@@ -107,8 +107,8 @@ module _ (W : Answers) (Config : Type 0) (U : Layers W Config) (p : ℕ) (p< : p
   abbrev Holding : List Event → State bytesOf → State ghost → Log → Type 0
   Holding past s g L = Inv W Config U p p< c promise past s g L
 
-  abbrev told-of : Log → (ℕ → ℕ) → History
-  told-of L C = record { taken = L; ticks = C }
+  abbrev history-of : Log → (ℕ → ℕ) → History
+  history-of L C = record { taken = L; ticks = C }
 
   logs-in : (past : List Event) (s : State bytesOf) (g : State ghost) (L : Log) → Holding past s g L → Logs p (rowIn s .slots) (g .mem) L
   logs-in past s g L h = subst (λ (r : List Slot). Logs p r (g .mem) L) (sym (h .sim .row)) (h .logs)
@@ -116,8 +116,8 @@ module _ (W : Answers) (Config : Type 0) (U : Layers W Config) (p : ℕ) (p< : p
   -- ---- one event
 
   seen-stand : (past : List Event) (s : State bytesOf) (g : State ghost) (L : Log) (C : ℕ → ℕ) (k : List ℕ) (x : Reading W) → header k ≡ x
-      → Holding past s g L → Stand (rowIn s .slots) (told-of L C)
-      → Stand (rowIn (react W judge bytesOf s x .state) .slots) (told-of (logSeen W Config U p (at s) L x) (clockSeen W Config U p (at s) C x))
+      → Holding past s g L → Stand (rowIn s .slots) (history-of L C)
+      → Stand (rowIn (react W judge bytesOf s x .state) .slots) (history-of (logSeen W Config U p (at s) L x) (clockSeen W Config U p (at s) C x))
   seen-stand past s g L C k (otherSender a) e h st = st
   seen-stand past s g L C k (direct q a) e h st = st
   seen-stand past s g L C k (segment q x) e h st =
@@ -128,25 +128,25 @@ module _ (W : Answers) (Config : Type 0) (U : Layers W Config) (p : ℕ) (p< : p
       let l = alike W Config U p p< c promise past s g L h k x e′ in
       let r : getD (set (s .peers) p (o .row)) p noRow ≡ takeSegment ghost p (rowIn s) (g .mem) x .row =
       getD-set-same (s .peers) p (o .row) noRow (omega (arith, h .sim .eightA)) ∙ l .row in
-      rw (m, z, same-outcome W Config U p p< c promise past s g L h k x e′) (rw r (take-stand p (rowIn s) (g .mem) (told-of L C) x (logs-in past s g L h) st)))
+      rw (m, z, same-outcome W Config U p p< c promise past s g L h k x e′) (rw r (take-stand p (rowIn s) (g .mem) (history-of L C) x (logs-in past s g L h) st)))
       (λ m. let n : p ≢ q = λ z. eqb-false q p m (sym z) in
       let r : getD (set (s .peers) q (takeSegment bytesOf q (getD (s .peers) q noRow) (s .mem) x .row)) p noRow ≡ rowIn s =
       getD-set-other (s .peers) q p _ noRow n in
       rw (m, r) st)
 
   event-stand : (past : List Event) (s : State bytesOf) (g : State ghost) (L : Log) (C : ℕ → ℕ) (e : Event) → Holding past s g L
-      → Stand (rowIn s .slots) (told-of L C)
-      → Stand (rowIn (after W judge bytesOf header s e) .slots) (told-of (logNext W Config U p (at s) L e) (clockNext W Config U p (at s) C e))
-  event-stand past s g L C tick h st = rw (rows-older (s .peers) p) (tick-stand (rowIn s .slots) (told-of L C) st)
+      → Stand (rowIn s .slots) (history-of L C)
+      → Stand (rowIn (after W judge bytesOf header s e) .slots) (history-of (logNext W Config U p (at s) L e) (clockNext W Config U p (at s) C e))
+  event-stand past s g L C tick h st = rw (rows-older (s .peers) p) (tick-stand (rowIn s .slots) (history-of L C) st)
   event-stand past s g L C (receive k) h st = seen-stand past s g L C k (header k) refl h st
 
   -- ---- a run
 
   abbrev StandAfter : World Config → Log → (ℕ → ℕ) → List Event → Type 0
-  StandAfter w L C es = Stand (getD (runs W Config U w es .ends .peers) p noRow .slots) (told-of (logRun W Config U p w L es) (clockRun W Config U p w C es))
+  StandAfter w L C es = Stand (getD (runs W Config U w es .ends .peers) p noRow .slots) (history-of (logRun W Config U p w L es) (clockRun W Config U p w C es))
 
   run-stand : (es past : List Event) (s : State bytesOf) (g : State ghost) (L : Log) (C : ℕ → ℕ) → Holding past s g L
-      → Stand (rowIn s .slots) (told-of L C) → StandAfter (at s) L C es
+      → Stand (rowIn s .slots) (history-of L C) → StandAfter (at s) L C es
   unfolding runs next
   run-stand [] past s g L C h st = st
   run-stand (v ∷ es) past s g L C h st =
@@ -164,7 +164,7 @@ module _ (W : Answers) (Config : Type 0) (U : Layers W Config) (p : ℕ) (p< : p
   abbrev begun : List ℕ → World Config
   begun m = from W Config U p p< c promise m
 
-  first-stand : (m : List ℕ) → Stand (rowIn (start bytesOf m) .slots) (told-of (λ t. []) (λ t. 0))
+  first-stand : (m : List ℕ) → Stand (rowIn (start bytesOf m) .slots) (history-of (λ t. []) (λ t. 0))
   unfolding framePending frameComplete allBelow
   first-stand m =
       rw (empty-at p p<)
@@ -179,39 +179,39 @@ module _ (W : Answers) (Config : Type 0) (U : Layers W Config) (p : ℕ) (p< : p
 
   -- ---- one more packet, which carries segment x of peer p's
 
-  module _ (past : List Event) (s : State bytesOf) (g : State ghost) (L : Log) (C : ℕ → ℕ) (h : Holding past s g L) (st : Stand (rowIn s .slots) (told-of L C))
+  module _ (past : List Event) (s : State bytesOf) (g : State ghost) (L : Log) (C : ℕ → ℕ) (h : Holding past s g L) (st : Stand (rowIn s .slots) (history-of L C))
       (k : List ℕ) (x : Seg) (e : header k ≡ segment p x) where
     abbrev before : History
-    before = told-of L C
+    before = history-of L C
 
     abbrev behind : History
-    behind = told-of (logNext W Config U p (at s) L (receive k)) (clockNext W Config U p (at s) C (receive k))
+    behind = history-of (logNext W Config U p (at s) L (receive k)) (clockNext W Config U p (at s) C (receive k))
 
     abbrev outcome : Outcome
     outcome = taking W Config U p (at s) x .outcome
 
-    abbrev ghostTold : Outcome
-    ghostTold = takeSegment ghost p (rowIn s) (g .mem) x .outcome
+    abbrev ghostOutcome : Outcome
+    ghostOutcome = takeSegment ghost p (rowIn s) (g .mem) x .outcome
 
     lg : Logs p (rowIn s .slots) (g .mem) L
     lg = logs-in past s g L h
 
-    same : outcome ≡ ghostTold
+    same : outcome ≡ ghostOutcome
     same = same-outcome W Config U p p< c promise past s g L h k x e
 
-    clock-now : clockNext W Config U p (at s) C (receive k) ≡ restarted C (chosen (rowIn s .slots) x) ghostTold
+    clock-now : clockNext W Config U p (at s) C (receive k) ≡ restarted C (chosen (rowIn s .slots) x) ghostOutcome
     clock-now = rw (e, eq-eqb p p refl, same)
 
-    taken-now : logNext W Config U p (at s) L (receive k) ≡ entered L x (chosen (rowIn s .slots) x) ghostTold
+    taken-now : logNext W Config U p (at s) L (receive k) ≡ entered L x (chosen (rowIn s .slots) x) ghostOutcome
     taken-now = log-now W Config U p p< c promise past s g L h k x e
 
-    log-by : (ch : Choice) (b : Bool) (t : ℕ) → chosen (rowIn s .slots) x ≡ ch → ghostTold ≡ cond b (Complete t) Pending
+    log-by : (ch : Choice) (b : Bool) (t : ℕ) → chosen (rowIn s .slots) x ≡ ch → ghostOutcome ≡ cond b (Complete t) Pending
         → logNext W Config U p (at s) L (receive k) ≡ enters L x ch
-    log-by ch b t q o = taken-now ∙ ap (λ (y : Choice). entered L x y ghostTold) q ∙ ap (λ (y : Outcome). entered L x ch y) o ∙ entered-taken L x ch b t
+    log-by ch b t q o = taken-now ∙ ap (λ (y : Choice). entered L x y ghostOutcome) q ∙ ap (λ (y : Outcome). entered L x ch y) o ∙ entered-taken L x ch b t
 
-    clock-by : (ch : Choice) (b : Bool) (t : ℕ) → chosen (rowIn s .slots) x ≡ ch → ghostTold ≡ cond b (Complete t) Pending
+    clock-by : (ch : Choice) (b : Bool) (t : ℕ) → chosen (rowIn s .slots) x ≡ ch → ghostOutcome ≡ cond b (Complete t) Pending
         → clockNext W Config U p (at s) C (receive k) ≡ restarts C ch
-    clock-by ch b t q o = clock-now ∙ ap (λ (y : Choice). restarted C y ghostTold) q ∙ ap (λ (y : Outcome). restarted C ch y) o ∙ restarted-taken C ch b t
+    clock-by ch b t q o = clock-now ∙ ap (λ (y : Choice). restarted C y ghostOutcome) q ∙ ap (λ (y : Outcome). restarted C ch y) o ∙ restarted-taken C ch b t
 
     in-bytes : takeIn p (rowIn s) (s .mem) x ≡ takeSegment bytesOf p (rowIn s) (s .mem) x
     in-bytes = in-memory W Config U p p< c promise past s g L h k x e
@@ -222,7 +222,7 @@ module _ (W : Answers) (Config : Type 0) (U : Layers W Config) (p : ℕ) (p< : p
 
     refused-left : (r : Rejection) → outcome ≡ Rejected r → Unchanged before behind (s .mem) (receives W Config U (at s) k .world .mem)
     refused-left r q =
-        let o : ghostTold ≡ Rejected r = sym same ∙ q in
+        let o : ghostOutcome ≡ Rejected r = sym same ∙ q in
         let a : logNext W Config U p (at s) L (receive k) ≡ L = taken-now ∙ ap (λ (y : Outcome). entered L x (chosen (rowIn s .slots) x) y) o in
         let b : clockNext W Config U p (at s) C (receive k) ≡ C = clock-now ∙ ap (λ (y : Outcome). restarted C (chosen (rowIn s .slots) x) y) o in
         let d : takeSegment bytesOf p (rowIn s) (s .mem) x .outcome ≡ Rejected r = sym (ap (λ (y : Effect bytesOf). y .outcome) in-bytes) ∙ q in
@@ -239,7 +239,7 @@ module _ (W : Answers) (Config : Type 0) (U : Layers W Config) (p : ℕ) (p< : p
         record { cause = u .0; number = u .1 .1; rejected = o; unchanged = refused-left (u .0) o }
 
     -- the memory that a segment which completes its frame leaves
-    bytes-now : (t : ℕ) (gs : List Seg) → ghostTold ≡ cond (frameComplete gs) (Complete t) Pending → logNext W Config U p (at s) L (receive k) t ≡ gs
+    bytes-now : (t : ℕ) (gs : List Seg) → ghostOutcome ≡ cond (frameComplete gs) (Complete t) Pending → logNext W Config U p (at s) L (receive k) t ≡ gs
         → frameComplete gs ≡ true
         → (i : ℕ) → i < x .frame-length → OneOf gs i (getD (receives W Config U (at s) k .world .mem) (frameAt p t + i) 0)
     bytes-now t gs o q w i l =
@@ -266,7 +266,7 @@ module _ (W : Answers) (Config : Type 0) (U : Layers W Config) (p : ℕ) (p< : p
       further-taken : (t : ℕ) → Further before x t → Taken p t false x (x ∷ L t) (C t) before behind outcome (s .mem) (receives W Config U (at s) k .world .mem)
       further-taken t w =
           let q : chosen (rowIn s .slots) x ≡ old t = chosen-old (rowIn s .slots) before st x f t (w .bears) (w .same) in
-          let o : ghostTold ≡ cond (frameComplete (x ∷ L t)) (Complete t) Pending = told-further p (rowIn s) (g .mem) before lg st x f t w in
+          let o : ghostOutcome ≡ cond (frameComplete (x ∷ L t)) (Complete t) Pending = outcome-further p (rowIn s) (g .mem) before lg st x f t w in
           let a : logNext W Config U p (at s) L (receive k) ≡ writes L t (x ∷ L t) = log-by (old t) (frameComplete (x ∷ L t)) t q o in
           let b : clockNext W Config U p (at s) C (receive k) ≡ C = clock-by (old t) (frameComplete (x ∷ L t)) t q o in
           let r : takeSegment bytesOf p (rowIn s) (s .mem) x .outcome ≡ cond (frameComplete (x ∷ L t)) (Complete t) Pending =
@@ -286,7 +286,7 @@ module _ (W : Answers) (Config : Type 0) (U : Layers W Config) (p : ℕ) (p< : p
       opens-taken : (t : ℕ) → Opens before x t → Taken p t true x (x ∷ []) 0 before behind outcome (s .mem) (receives W Config U (at s) k .world .mem)
       opens-taken t w =
           let q : chosen (rowIn s .slots) x ≡ fresh t = chosen-new (rowIn s .slots) before st x f t w in
-          let o : ghostTold ≡ cond (frameComplete (x ∷ [])) (Complete t) Pending = told-opens p (rowIn s) (g .mem) before lg st x f t w in
+          let o : ghostOutcome ≡ cond (frameComplete (x ∷ [])) (Complete t) Pending = outcome-opens p (rowIn s) (g .mem) before lg st x f t w in
           let a : logNext W Config U p (at s) L (receive k) ≡ writes L t (x ∷ []) = log-by (fresh t) (frameComplete (x ∷ [])) t q o in
           let b : clockNext W Config U p (at s) C (receive k) ≡ resets C t = clock-by (fresh t) (frameComplete (x ∷ [])) t q o in
           record {
@@ -397,15 +397,15 @@ module _ (W : Answers) (Config : Type 0) (U : Layers W Config) (p : ℕ) (p< : p
   seen-left s L C (direct q a) n = (refl, refl)
   seen-left s L C (segment q g) n = caseB (eqb q p) (λ e. absurd (n g (ap (λ (y : ℕ). segment y g) (eqb-true q p e)))) (λ e. rw e (refl, refl))
 
-  said-left : (s : State bytesOf) (x : Reading W) → ((q : ℕ) (g : Seg) → x ≡ segment q g → ⊥) → receiveBy W Config U (at s) x .world .mem ≡ s .mem
+  passed-left : (s : State bytesOf) (x : Reading W) → ((q : ℕ) (g : Seg) → x ≡ segment q g → ⊥) → receiveBy W Config U (at s) x .world .mem ≡ s .mem
   unfolding receiveBy
-  said-left s (otherSender a) n = refl
-  said-left s (direct q a) n = refl
-  said-left s (segment q g) n = absurd (n q g refl)
+  passed-left s (otherSender a) n = refl
+  passed-left s (direct q a) n = refl
+  passed-left s (segment q g) n = absurd (n q g refl)
 
-  told-left : (m : List ℕ) → 55296 ≤ length m → (es : List Event) (k : List ℕ) → ((g : Seg) → header k ≡ segment p g → ⊥)
+  history-left : (m : List ℕ) → 55296 ≤ length m → (es : List Event) (k : List ℕ) → ((g : Seg) → header k ≡ segment p g → ⊥)
       → historyOf W Config U p (begun m) (es ++ (receive k ∷ [])) ≡ historyOf W Config U p (begun m) es
-  told-left m o es k n =
+  history-left m o es k n =
       let r : Reach W Config U p p< c promise [] es (start bytesOf m) (λ t. []) = reached W Config U p p< c promise m o es in
       let x = seen-left (r .state) (takenSince W Config U p (begun m) es) (ticksSince W Config U p (begun m) es) (header k) n in
       let a : logRun W Config U p (begun m) (λ t. []) (es ++ (receive k ∷ [])) ≡ takenSince W Config U p (begun m) es =
@@ -414,8 +414,8 @@ module _ (W : Answers) (Config : Type 0) (U : Layers W Config) (p : ℕ) (p< : p
       let b : clockRun W Config U p (begun m) (λ t. 0) (es ++ (receive k ∷ [])) ≡ ticksSince W Config U p (begun m) es =
       clock-snoc es (begun m) (λ t. 0) (receive k) ∙ ap (λ (w : World Config). clockNext W Config U p w (ticksSince W Config U p (begun m) es) (receive k))
       (r .is) ∙ x .1 in
-      ap (λ (y : Log). told-of y (clockRun W Config U p (begun m) (λ t. 0) (es ++ (receive k ∷ [])))) a
-      ∙ ap (λ (y : ℕ → ℕ). told-of (takenSince W Config U p (begun m) es) y) b
+      ap (λ (y : Log). history-of y (clockRun W Config U p (begun m) (λ t. 0) (es ++ (receive k ∷ [])))) a
+      ∙ ap (λ (y : ℕ → ℕ). history-of (takenSince W Config U p (begun m) es) y) b
 
   memory-left : (m : List ℕ) → 55296 ≤ length m → (es : List Event) (k : List ℕ) → ((q : ℕ) (g : Seg) → header k ≡ segment q g → ⊥)
       → runs W Config U (begun m) (es ++ (receive k ∷ [])) .mem ≡ runs W Config U (begun m) es .mem
@@ -423,7 +423,7 @@ module _ (W : Answers) (Config : Type 0) (U : Layers W Config) (p : ℕ) (p< : p
   memory-left m o es k n =
       let r : Reach W Config U p p< c promise [] es (start bytesOf m) (λ t. []) = reached W Config U p p< c promise m o es in
       let left : receives W Config U (runs W Config U (begun m) es) k .world .mem ≡ runs W Config U (begun m) es .mem =
-      rw (r .is) (rw (le-ltb (length (r .state .mem)) 55296 (r .inv .sim .same .okA)) (said-left (r .state) (header k) n)) in
+      rw (r .is) (rw (le-ltb (length (r .state .mem)) 55296 (r .inv .sim .same .okA)) (passed-left (r .state) (header k) n)) in
       ap (λ (w : World Config). w .mem) (runs-snoc W Config U es (begun m) (receive k)) ∙ left
 
   answered-from : (m : List ℕ) → 55296 ≤ length m → (es : List Event) (k : List ℕ) (g : Seg) → header k ≡ segment p g
@@ -448,13 +448,13 @@ module _ (W : Answers) (Config : Type 0) (U : Layers W Config) (p : ℕ) (p< : p
         answered = answered-from;
         fourteen = fourteen-from;
         no-segment = λ m o es k n.
-            let q : historyOf W Config U p (begun m) (es ++ (receive k ∷ [])) ≡ historyOf W Config U p (begun m) es = told-left m o es k (λ g e. n p g e) in
+            let q : historyOf W Config U p (begun m) (es ++ (receive k ∷ [])) ≡ historyOf W Config U p (begun m) es = history-left m o es k (λ g e. n p g e) in
             record { taken = λ t. ap (λ (y : History). y .taken t) q; ticks = λ t. ap (λ (y : History). y .ticks t) q; memory = memory-left m o es k n };
-        another's = λ m o es k q g e n. told-left m o es k (λ x y. n (peer-is q p g x (sym e ∙ y)));
+        another's = λ m o es k q g e n. history-left m o es k (λ x y. n (peer-is q p g x (sym e ∙ y)));
         ticked = λ m o es. (
-          ap (λ (y : Log). told-of y (clockRun W Config U p (begun m) (λ t. 0) (es ++ (tick ∷ []))))
+          ap (λ (y : Log). history-of y (clockRun W Config U p (begun m) (λ t. 0) (es ++ (tick ∷ []))))
               (log-snoc W Config U p p< c promise es (begun m) (λ t. []) tick)
-              ∙ ap (λ (y : ℕ → ℕ). told-of (takenSince W Config U p (begun m) es) y) (clock-snoc es (begun m) (λ t. 0) tick),
+              ∙ ap (λ (y : ℕ → ℕ). history-of (takenSince W Config U p (begun m) es) y) (clock-snoc es (begun m) (λ t. 0) tick),
           ap (λ (w : World Config). w .mem) (runs-snoc W Config U es (begun m) tick),
         );
       }

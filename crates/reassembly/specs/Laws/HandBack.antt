@@ -30,29 +30,29 @@ module _ (W : Answers) (judge : ℕ → Note → List ℕ → Verdict W) where
   bare-back : (packet m : List ℕ) (a : W .A) → W .place a ≡ nowhere → Backs packet m (bare W a)
   bare-back packet m a e = record { is = nowhere-back packet m (W .place a) e }
 
-  spoken-back : (v : Verdict W) (packet m : List ℕ) (k n : ℕ) → 18 ≤ n → slotStart k + n ≤ length m
+  verdict-back : (v : Verdict W) (packet m : List ℕ) (k n : ℕ) → 18 ≤ n → slotStart k + n ≤ length m
       → Backs packet m (frameAnswer W v k n (frameIn bytesOf m k n))
   unfolding frameAnswer partOfSlice viewOf
-  spoken-back (bad b) packet m k n l f = bare-back packet m (W .refused b) (W .refused-place b)
-  spoken-back (good v) packet m k n l f =
+  verdict-back (bad b) packet m k n l f = bare-back packet m (W .refused b) (W .refused-place b)
+  verdict-back (good v) packet m k n l f =
       record { is = rw (W .gives-place v (slotStart k + 18) (n - 18), le-leb (slotStart k + 18 + (n - 18)) (length m) (omega arith)) (sym (handed m k n l f)) }
 
-  told-back : (p : ℕ) (packet : List ℕ) (g : Seg) (o : Effect bytesOf) (x : Outcome) → p < mostPeers → bytesOf .Ok (o .mem)
+  outcome-back : (p : ℕ) (packet : List ℕ) (g : Seg) (o : Effect bytesOf) (x : Outcome) → p < mostPeers → bytesOf .Ok (o .mem)
       → ((s : ℕ) → x ≡ Complete s → (s < mostSlots) × Fits g) → Backs packet (o .mem) (takeAnswer W judge bytesOf p g o x)
   unfolding takeAnswer
-  told-back p packet g o (Rejected r) lp ok f = bare-back packet (o .mem) (W .rejected r) (W .rejected-place r)
-  told-back p packet g o Pending lp ok f = bare-back packet (o .mem) (W .pending) (W .pending-place)
-  told-back p packet g o (Complete s) lp ok f =
+  outcome-back p packet g o (Rejected r) lp ok f = bare-back packet (o .mem) (W .rejected r) (W .rejected-place r)
+  outcome-back p packet g o Pending lp ok f = bare-back packet (o .mem) (W .pending) (W .pending-place)
+  outcome-back p packet g o (Complete s) lp ok f =
       let q = f s refl in
-      spoken-back (judge p (o .note) (frameIn bytesOf (o .mem) (slotNo p s) (g .frame-length))) packet (o .mem) (slotNo p s) (g .frame-length)
+      verdict-back (judge p (o .note) (frameIn bytesOf (o .mem) (slotNo p s) (g .frame-length))) packet (o .mem) (slotNo p s) (g .frame-length)
       (omega (arith, q .1 .least)) (slot-inside (o .mem) p s (g .frame-length) ok lp (q .0) (omega (arith, q .1 .most)))
-  told-back p packet g o NoMemory lp ok f = bare-back packet (o .mem) (W .tooSmall) (W .tooSmall-place)
+  outcome-back p packet g o NoMemory lp ok f = bare-back packet (o .mem) (W .tooSmall) (W .tooSmall-place)
 
   pub take-back : (p : ℕ) (row : Peer) (packet m : List ℕ) (g : Seg) → p < mostPeers → RowOk (row .slots) → bytesOf .Ok m
       → Backs packet (takeSegment bytesOf p row m g .mem) (takeAnswer W judge bytesOf p g (takeSegment bytesOf p row m g)
       (takeSegment bytesOf p row m g .outcome))
   take-back p row packet m g lp r o =
-      told-back p packet g (takeSegment bytesOf p row m g) (takeSegment bytesOf p row m g .outcome) lp (take-apart bytesOf bytes-laws p lp row m g r o .0 .ok)
+      outcome-back p packet g (takeSegment bytesOf p row m g) (takeSegment bytesOf p row m g .outcome) lp (take-apart bytesOf bytes-laws p lp row m g r o .0 .ok)
       (λ s e. take-complete bytesOf p s row m g e)
 
   -- so what a run's answer has of the packet changes nothing of it

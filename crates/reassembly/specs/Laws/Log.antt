@@ -15,7 +15,7 @@ use Rattle.reassembly.specs.Slots.{Slot, Peer, Note, noNote, noteOf, fre
 use Rattle.reassembly.specs.Laws.Slots.{older-pending}
 use Rattle.reassembly.specs.Take.{slotNo, Seg, Rejected, Pending, Complete, AlreadyReceived, Choice, reject, old, fresh, chosen, testedBytes, storedBytes}
 use Rattle.reassembly.specs.Take.{noteAfter, openedSlot, furtherSlot, Effect, complete, overlaps, frameIn, finish, placed, takeSegment}
-use Rattle.reassembly.specs.Laws.TakeFacts.{Tells, chosen-tells, not-complete, complete-slot}
+use Rattle.reassembly.specs.Laws.TakeFacts.{ChoiceFacts, chosen-facts, not-complete, complete-slot}
 use Rattle.reassembly.specs.Laws.Memory.{within-low, within-high}
 use Rattle.reassembly.specs.Laws.Sim.{set-cases}
 use Rattle.reassembly.specs.Laws.Runs.{older-at}
@@ -171,7 +171,7 @@ module _ (p : ℕ) where
       → enters L g c ≡ entered L g c (finish ghost p s row m g note .outcome)
   finish-enters L c row m s g note = caseB (complete ghost m (slotNo p s) (g .frame-length)) (λ e. rw e) (λ e. rw e)
 
-  placed-logs : (row : List Slot) (m : ℕ → List Piece) (L : Log) (g : Seg) (c : Choice) → Tells row g c → Logs p row m L
+  placed-logs : (row : List Slot) (m : ℕ → List Piece) (L : Log) (g : Seg) (c : Choice) → ChoiceFacts row g c → Logs p row m L
       → Logged g (placed ghost p row m g c) (entered L g c (placed ghost p row m g c .outcome))
   unfolding slotNo
   placed-logs row m L g (reject r) q h = record { logs = h; pieced = λ t e. not-complete (Rejected r) t refl e }
@@ -216,7 +216,7 @@ module _ (p : ℕ) where
   pub take-logs : (row : Peer) (m : ℕ → List Piece) (L : Log) (g : Seg) → Logs p (row .slots) m L
       → Logged g (takeSegment ghost p row m g) (logged L (row .slots) g (takeSegment ghost p row m g .outcome))
   unfolding takeSegment
-  take-logs row m L g h = placed-logs (row .slots) m L g (chosen (row .slots) g) (chosen-tells (row .slots) g) h
+  take-logs row m L g h = placed-logs (row .slots) m L g (chosen (row .slots) g) (chosen-facts (row .slots) g) h
 
   -- a tick leaves the log
   pub tick-logs : (row : List Slot) (m : ℕ → List Piece) (L : Log) → Logs p row m L → Logs p (map older row) m L

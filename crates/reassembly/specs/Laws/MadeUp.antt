@@ -13,7 +13,7 @@ use borrow.Author.Tests.{le-ltb}
 use Rattle.reassembly.specs.Base.{allBelow}
 use Rattle.reassembly.specs.Laws.Base.{allBelow-intro, caseB, either, clash, or-true-r, and-r}
 use Rattle.reassembly.specs.Slots.{noRow}
-use Rattle.reassembly.specs.Take.{slotNo, Seg, Rejected, Pending, Complete, OtherLength, AlreadyReceived, NoSlot, Effect, frameIn, Fits}
+use Rattle.reassembly.specs.Take.{slotNo, Seg, Rejected, Pending, Complete, LengthDiffers, AlreadyReceived, NoSlot, Effect, frameIn, Fits}
 use Rattle.reassembly.specs.Laws.TakeFacts.{length-frame, not-complete, complete-slot}
 use Rattle.reassembly.specs.Laws.TakeIn.{take-whole, take-length}
 use Rattle.reassembly.specs.Laws.Memory.{within-high}
@@ -84,17 +84,17 @@ complete-is false s t e = not-complete Pending s refl (sym e)
 -- ---- what a run never changes: the configuration, and the memory's length
 
 module _ (W : Answers) (Config : Type 0) (U : Layers W Config) where
-  said-keeps : (w : World Config) (x : Reading W)
+  reading-keeps : (w : World Config) (x : Reading W)
       → (receiveBy W Config U w x .world .ends .config ≡ w .ends .config) × (length (receiveBy W Config U w x .world .mem) ≡ length (w .mem))
   unfolding receiveBy
-  said-keeps w (otherSender a) = (refl, refl)
-  said-keeps w (direct q a) = (refl, refl)
-  said-keeps w (segment q g) = (refl, take-length q (getD (w .ends .peers) (rowOf q) noRow) (w .mem) g)
+  reading-keeps w (otherSender a) = (refl, refl)
+  reading-keeps w (direct q a) = (refl, refl)
+  reading-keeps w (segment q g) = (refl, take-length q (getD (w .ends .peers) (rowOf q) noRow) (w .mem) g)
 
   receive-keeps : (w : World Config) (k : List ℕ)
       → (receives W Config U w k .world .ends .config ≡ w .ends .config) × (length (receives W Config U w k .world .mem) ≡ length (w .mem))
   unfolding receives receiveBy
-  receive-keeps w k = caseB (ltb (length (w .mem)) 55296) (λ b. rw b (refl, refl)) (λ b. rw b (said-keeps w (U .header (w .ends .config) k)))
+  receive-keeps w k = caseB (ltb (length (w .mem)) 55296) (λ b. rw b (refl, refl)) (λ b. rw b (reading-keeps w (U .header (w .ends .config) k)))
 
   next-keeps : (w : World Config) (e : Event) → (next W Config U w e .ends .config ≡ w .ends .config) × (length (next W Config U w e .mem) ≡ length (w .mem))
   unfolding next
@@ -163,7 +163,7 @@ module _ (W : Answers) (Config : Type 0) (U : Layers W Config) (p : ℕ) (e : En
   complete-gathers s o =
       let r = ruled (take-whole p s (getD (runs W Config U world es .ends .peers) p noRow) (runs W Config U world es .mem) g o .fits) in
       either (r .one-of)
-      (λ x. not-complete (Rejected OtherLength) s refl (sym (r .fifteen .all x) ∙ o))
+      (λ x. not-complete (Rejected LengthDiffers) s refl (sym (r .fifteen .all x) ∙ o))
       (λ y. either y
       (λ x. not-complete (Rejected AlreadyReceived) s refl (sym (r .sixteen .all x) ∙ o))
       (λ y. either y

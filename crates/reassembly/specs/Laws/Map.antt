@@ -1,5 +1,4 @@
 -- The map a byte at a time: what a byte's mask does is what the single bits do.
--- Assumes nothing.
 use mathlib.Core.Path.{_≡_, refl, sym, ap, _∙_}
 use mathlib.Core.Bool.{Bool, true, false, not, _&&_, _||_}
 use mathlib.Core.List.{List}

@@ -16,9 +16,9 @@ use Rattle.reassembly.specs.Laws.Base.{caseB, caseO, either, clash, allB
 use Rattle.reassembly.specs.Slots.{Slot, Peer, Note, noNote, noteOf, free, first, bears, isFree, older, lifetime, mostSlots}
 use Rattle.reassembly.specs.Laws.Slots.{First, first-some, first-none, first-is, first-not, older-pending}
 use Rattle.reassembly.specs.Take.{slotNo, Seg, Ops, Rejection, rejectionCode, Empty, FrameLength, PastEnd, Outcome, Rejected, Pending, Complete}
-use Rattle.reassembly.specs.Take.{OtherLength, AlreadyReceived, NoSlot, Choice, reject, old, fresh, choose, chosen, testedBytes, storedBytes, noteAfter}
+use Rattle.reassembly.specs.Take.{LengthDiffers, AlreadyReceived, NoSlot, Choice, reject, old, fresh, choose, chosen, testedBytes, storedBytes, noteAfter}
 use Rattle.reassembly.specs.Take.{openedSlot, furtherSlot, Effect, complete, overlaps, finish, placed, takeSegment, Fits}
-use Rattle.reassembly.specs.Laws.TakeFacts.{Fits, Tells, chosen-tells, chosen-fits, bears-is, bears-pending, bears-identifier, is-free-false, not-free}
+use Rattle.reassembly.specs.Laws.TakeFacts.{Fits, ChoiceFacts, chosen-facts, chosen-fits, bears-is, bears-pending, bears-identifier, is-free-false, not-free}
 use Rattle.reassembly.specs.Laws.Memory.{within-low, within-high, within-is}
 use Rattle.reassembly.specs.Laws.Sim.{set-cases}
 use Rattle.reassembly.specs.Laws.Runs.{older-at}
@@ -146,7 +146,7 @@ module _ (row : List Slot) (h : History) (st : Stand row h) where
   module _ (g : Seg) (f : Fits g) where
     -- ---- the history decides
 
-    chosen-holds : (s : ℕ) → Bears h (g .identifier) s → chosen row g ≡ cond (eqb (slotOf s .«frame_length») (g .frame-length)) (old s) (reject OtherLength)
+    chosen-holds : (s : ℕ) → Bears h (g .identifier) s → chosen row g ≡ cond (eqb (slotOf s .«frame_length») (g .frame-length)) (old s) (reject LengthDiffers)
     chosen-holds s w = chosen-fits row g f ∙ ap (choose row g) (holds-first (g .identifier) s w)
 
     size-of : (s : ℕ) → Bears h (g .identifier) s → slotOf s .«frame_length» ≡ lengthOf (h .taken s)
@@ -155,7 +155,7 @@ module _ (row : List Slot) (h : History) (st : Stand row h) where
     pub chosen-old : (s : ℕ) → Bears h (g .identifier) s → lengthOf (h .taken s) ≡ g .frame-length → chosen row g ≡ old s
     chosen-old s w q = chosen-holds s w ∙ rw (eq-eqb (slotOf s .«frame_length») (g .frame-length) (size-of s w ∙ q))
 
-    pub chosen-other : (x : Fifteen h g) → chosen row g ≡ reject OtherLength
+    pub chosen-other : (x : Fifteen h g) → chosen row g ≡ reject LengthDiffers
     chosen-other x =
         let n : slotOf (x .slot) .«frame_length» ≢ g .frame-length = λ z. x .other (sym (size-of (x .slot) (x .bears)) ∙ z) in
         chosen-holds (x .slot) (x .bears) ∙ rw (ne-eqb (slotOf (x .slot) .«frame_length») (g .frame-length) n)
@@ -257,7 +257,7 @@ module _ (p : ℕ) where
       }))
       others (λ q t lt n e′ z. only t lt n e′ (z ∙ vi))))
 
-  pub placed-stand : (row : List Slot) (m : ℕ → List Piece) (h : History) (g : Seg) (c : Choice) → Tells row g c → Logs p row m (h .taken) → Stand row h
+  pub placed-stand : (row : List Slot) (m : ℕ → List Piece) (h : History) (g : Seg) (c : Choice) → ChoiceFacts row g c → Logs p row m (h .taken) → Stand row h
       → Stand (placed ghost p row m g c .row .slots) (afterwards h g c (placed ghost p row m g c .outcome))
   placed-stand row m h g (reject r) q lg st = st
   placed-stand row m h g (old s) q lg st =
@@ -281,12 +281,12 @@ module _ (p : ℕ) where
       let zero-now : resets (h .ticks) s s ≡ 0 = rw (eq-eqb s s refl) in
       finish-stand row m′ h s (openedSlot g) g [] (noteAfter noNote g) (fresh s) ls st (writes-same (h .taken) s (g ∷ [])) pieces
       (λ t n. (writes-other (h .taken) s (g ∷ []) t n, rw (ne-eqb t s n))) refl refl refl (sym zero-now) (omega (arith, zero-now))
-      (λ t lt n e′ z. clash (cc (q .strange t lt, bears-is (g .identifier) (getD row t free) e′ z)))
+      (λ t lt n e′ z. clash (cc (q .no-bearer t lt, bears-is (g .identifier) (getD row t free) e′ z)))
 
   pub take-stand : (row : Peer) (m : ℕ → List Piece) (h : History) (g : Seg) → Logs p (row .slots) m (h .taken) → Stand (row .slots) h
       → Stand (takeSegment ghost p row m g .row .slots) (afterwards h g (chosen (row .slots) g) (takeSegment ghost p row m g .outcome))
   unfolding takeSegment
-  take-stand row m h g lg st = placed-stand (row .slots) m h g (chosen (row .slots) g) (chosen-tells (row .slots) g) lg st
+  take-stand row m h g lg st = placed-stand (row .slots) m h g (chosen (row .slots) g) (chosen-facts (row .slots) g) lg st
 
 -- ---- a tick
 
@@ -346,51 +346,51 @@ module _ (p : ℕ) (row : Peer) (m : ℕ → List Piece) (h : History) (lg : Log
   abbrev takeAnswer : Outcome
   takeAnswer = takeSegment ghost p row m g .outcome
 
-  told-by : (c : Choice) → chosen (row .slots) g ≡ c → takeAnswer ≡ placed ghost p (row .slots) m g c .outcome
-  told-by c e = ap (λ (x : Effect ghost). x .outcome) (take-by ghost p row m g c e)
+  outcome-by : (c : Choice) → chosen (row .slots) g ≡ c → takeAnswer ≡ placed ghost p (row .slots) m g c .outcome
+  outcome-by c e = ap (λ (x : Effect ghost). x .outcome) (take-by ghost p row m g c e)
 
-  pub told-15 : Fifteen h g → takeAnswer ≡ Rejected OtherLength
-  told-15 x = told-by (reject OtherLength) (chosen-other (row .slots) h st g f x)
+  pub told-15 : Fifteen h g → takeAnswer ≡ Rejected LengthDiffers
+  told-15 x = outcome-by (reject LengthDiffers) (chosen-other (row .slots) h st g f x)
 
   pub told-16 : Sixteen h g → takeAnswer ≡ Rejected AlreadyReceived
   told-16 x =
       let o : overlaps ghost m (slotNo p (x .slot)) g ≡ true =
       covered-overlaps m (slotNo p (x .slot)) g (h .taken (x .slot)) (x .byte) (lg .pieces (x .slot) (x .bears .is-slot)) (x .its) (x .already) in
-      told-by (old (x .slot)) (chosen-old (row .slots) h st g f (x .slot) (x .bears) (x .same)) ∙ rw o
+      outcome-by (old (x .slot)) (chosen-old (row .slots) h st g f (x .slot) (x .bears) (x .same)) ∙ rw o
 
   pub told-17 : Seventeen h g → takeAnswer ≡ Rejected NoSlot
-  told-17 x = told-by (reject NoSlot) (chosen-full (row .slots) h st g f x)
+  told-17 x = outcome-by (reject NoSlot) (chosen-full (row .slots) h st g f x)
 
-  finish-told : (s : ℕ) (r : List Slot) (m′ : ℕ → List Piece) (note : Note) (earlier : List Seg) → m′ (slotNo p s) ≡ map pieceOf (g ∷ earlier)
+  finish-outcome : (s : ℕ) (r : List Slot) (m′ : ℕ → List Piece) (note : Note) (earlier : List Seg) → m′ (slotNo p s) ≡ map pieceOf (g ∷ earlier)
       → finish ghost p s r m′ g note .outcome ≡ cond (frameComplete (g ∷ earlier)) (Complete s) Pending
-  finish-told s r m′ note earlier e =
+  finish-outcome s r m′ note earlier e =
       let w : complete ghost m′ (slotNo p s) (g .frame-length) ≡ frameComplete (g ∷ earlier) = whole-is m′ (slotNo p s) (g ∷ earlier) e in
       caseB (frameComplete (g ∷ earlier)) (λ q. rw (w, q)) (λ q. rw (w, q))
 
-  pub told-further : (s : ℕ) → Further h g s → takeAnswer ≡ cond (frameComplete (g ∷ h .taken s)) (Complete s) Pending
-  told-further s x =
+  pub outcome-further : (s : ℕ) → Further h g s → takeAnswer ≡ cond (frameComplete (g ∷ h .taken s)) (Complete s) Pending
+  outcome-further s x =
       let ls : s < mostSlots = x .bears .is-slot in
       let m′ : ℕ → List Piece = ghost .put m (slotNo p s) (g .offset) (storedBytes g) in
       let pieces : m′ (slotNo p s) ≡ map pieceOf (g ∷ h .taken s) = upd-same m (slotNo p s) _ ∙ ap (λ (x : List Piece). pieceOf g ∷ x) (lg .pieces s ls) in
-      told-by (old s) (chosen-old (row .slots) h st g f s (x .bears) (x .same))
+      outcome-by (old s) (chosen-old (row .slots) h st g f s (x .bears) (x .same))
       ∙ rw (apart-overlaps m (slotNo p s) g (h .taken s) (lg .pieces s ls) (x .apart))
-      (finish-told s (set (row .slots) s (furtherSlot (getD (row .slots) s free) g)) m′ (noteAfter (noteOf (getD (row .slots) s free)) g) (h .taken s) pieces)
+      (finish-outcome s (set (row .slots) s (furtherSlot (getD (row .slots) s free) g)) m′ (noteAfter (noteOf (getD (row .slots) s free)) g) (h .taken s) pieces)
 
-  pub told-opens : (s : ℕ) → Opens h g s → takeAnswer ≡ cond (frameComplete (g ∷ [])) (Complete s) Pending
-  told-opens s x =
+  pub outcome-opens : (s : ℕ) → Opens h g s → takeAnswer ≡ cond (frameComplete (g ∷ [])) (Complete s) Pending
+  outcome-opens s x =
       let m₁ : ℕ → List Piece = ghost .clear m (slotNo p s) in
       let m′ : ℕ → List Piece = ghost .put m₁ (slotNo p s) (g .offset) (g .bytes) in
       let pieces : m′ (slotNo p s) ≡ map pieceOf (g ∷ []) = upd-same m₁ (slotNo p s) _ ∙ ap (λ (x : List Piece). pieceOf g ∷ x) (upd-same m (slotNo p s) []) in
-      told-by (fresh s) (chosen-new (row .slots) h st g f s x) ∙ (finish-told s (set (row .slots) s (openedSlot g)) m′ (noteAfter noNote g) [] pieces)
+      outcome-by (fresh s) (chosen-new (row .slots) h st g f s x) ∙ (finish-outcome s (set (row .slots) s (openedSlot g)) m′ (noteAfter noNote g) [] pieces)
 
   abbrev pub OneCase : Type 0
   OneCase = Fifteen h g ⊎ (Sixteen h g ⊎ (Seventeen h g ⊎ (((s : ℕ) × Further h g s) ⊎ ((s : ℕ) × Opens h g s))))
 
   pub one-case : OneCase
-  one-case = caseO (first (bears (g .identifier)) (row .slots)) strange known
+  one-case = caseO (first (bears (g .identifier)) (row .slots)) no-bearer known
     where
-      strange : first (bears (g .identifier)) (row .slots) ≡ none → OneCase
-      strange e =
+      no-bearer : first (bears (g .identifier)) (row .slots) ≡ none → OneCase
+      no-bearer e =
           let n : NoneBears h (g .identifier) = λ s w. clash
           (cc (first-none (bears (g .identifier)) (row .slots) e s (w .is-slot), holds-bears (row .slots) h st (g .identifier) s w)) in
           caseO (first isFree (row .slots))

@@ -152,13 +152,13 @@ module _ (W : Answers) (judge : ℕ → Note → List ℕ → Verdict W) (A B : 
         same = rw r₁ (l .same);
       }
 
-  told-same : (x : Effect A) (y : Effect B) (g : Seg) (o : Outcome) → x .outcome ≡ o → Alike A B p (g .frame-length) x y
+  outcome-same : (x : Effect A) (y : Effect B) (g : Seg) (o : Outcome) → x .outcome ≡ o → Alike A B p (g .frame-length) x y
       → takeAnswer W judge A p g x o ≡ takeAnswer W judge B p g y o
   unfolding takeAnswer
-  told-same x y g (Rejected r) q l = refl
-  told-same x y g Pending q l = refl
-  told-same x y g (Complete s) q l = rw (l .note, l .frame s q)
-  told-same x y g NoMemory q l = refl
+  outcome-same x y g (Rejected r) q l = refl
+  outcome-same x y g Pending q l = refl
+  outcome-same x y g (Complete s) q l = rw (l .note, l .frame s q)
+  outcome-same x y g NoMemory q l = refl
 
   -- the peer's own packet: the same answer, and they still agree
   pub mine-sim : (e : State A) (g : State B) (x : Reading W) → Listed W x → mine W p x ≡ true → Sim A B p e g
@@ -171,7 +171,7 @@ module _ (W : Answers) (judge : ℕ → Note → List ℕ → Verdict W) (A B : 
       let l : Alike A B p (x .frame-length) (takeSegment A p (getD (e .peers) (rowOf p) noRow) (e .mem) x)
       (takeSegment B p (getD (g .peers) (rowOf p) noRow) (g .mem) x) =
       rw (← r) (take-alike A B LA LB p p< (getD (e .peers) (rowOf p) noRow) (e .mem) (g .mem) x (h .same)) in (
-        told-same _ _ x _ refl l ∙ ap (takeAnswer W judge B p x (takeSegment B p (getD (g .peers) (rowOf p) noRow) (g .mem) x)) (l .outcome),
+        outcome-same _ _ x _ refl l ∙ ap (takeAnswer W judge B p x (takeSegment B p (getD (g .peers) (rowOf p) noRow) (g .mem) x)) (l .outcome),
         stored (x .frame-length) e g _ _ h l,
       ))
 

@@ -1,5 +1,4 @@
 -- Laws of a search: what it finds is the lowest number that passes.
--- Assumes nothing.
 use mathlib.Core.Path.{_≡_, refl, sym, ap, _∙_}
 use mathlib.Core.Bool.{Bool, true, false}
 use mathlib.Core.Logic.{_≢_}

@@ -1,5 +1,4 @@
 -- A run, one call at a time: what the crates above know of receives, ticks and a peer's packets.
--- Assumes nothing.
 use Prim.Native.Nat.{ℕ, _≤_, _<_}
 use mathlib.Core.Path.{_≡_, refl, ap}
 use mathlib.Core.Bool.{Bool, false, cond}

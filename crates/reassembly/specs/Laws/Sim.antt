@@ -16,7 +16,7 @@ use Rattle.reassembly.specs.Slots.{Slot, Peer, Note, noNote, noteOf, fre
 use Rattle.reassembly.specs.Take.{slotNo, Seg, Ops, Outcome, Rejected, Pending, Complete, AlreadyReceived, Choice, reject, old, fresh, chosen}
 use Rattle.reassembly.specs.Take.{testedBytes, storedBytes, noteAfter, openedSlot, furtherSlot, Effect, complete, overlaps, frameIn, finish, placed}
 use Rattle.reassembly.specs.Take.{takeSegment}
-use Rattle.reassembly.specs.Laws.TakeFacts.{stored-length, Tells, chosen-tells, isComplete, not-complete, complete-slot, finish-mem}
+use Rattle.reassembly.specs.Laws.TakeFacts.{stored-length, ChoiceFacts, chosen-facts, isComplete, not-complete, complete-slot, finish-mem}
 use Rattle.reassembly.specs.Laws.Memory.{Laws}
 
 -- slot k has received the same below n in both
@@ -159,7 +159,7 @@ module _ (A B : Ops) (LA : Laws A) (LB : Laws B) (p : ℕ) (p< : p < mostPeers) 
             }));
       }
 
-  placed-alike : (row : List Slot) (a : A .S) (b : B .S) (g : Seg) (c : Choice) → Tells row g c
+  placed-alike : (row : List Slot) (a : A .S) (b : B .S) (g : Seg) (c : Choice) → ChoiceFacts row g c
       → Same A B p row a b → Alike A B p (g .frame-length) (placed A p row a g c) (placed B p row b g c)
   unfolding slotNo
   placed-alike row a b g (reject r) q h = rejects-alike (g .frame-length) row a b (Rejected r) refl h
@@ -214,7 +214,7 @@ module _ (A B : Ops) (LA : Laws A) (LB : Laws B) (p : ℕ) (p< : p < mostPeers) 
   pub take-alike : (row : Peer) (a : A .S) (b : B .S) (g : Seg) → Same A B p (row .slots) a b
       → Alike A B p (g .frame-length) (takeSegment A p row a g) (takeSegment B p row b g)
   unfolding takeSegment
-  take-alike row a b g h = placed-alike (row .slots) a b g (chosen (row .slots) g) (chosen-tells (row .slots) g) h
+  take-alike row a b g h = placed-alike (row .slots) a b g (chosen (row .slots) g) (chosen-facts (row .slots) g) h
 
 -- a segment of another peer changes neither the peer's row nor its slots
 module _ (A : Ops) (LA : Laws A) (q : ℕ) (q< : q < mostPeers) where
@@ -226,7 +226,7 @@ module _ (A : Ops) (LA : Laws A) (q : ℕ) (q< : q < mostPeers) where
   finish-row : (s : ℕ) (row : List Slot) (a : A .S) (g : Seg) (note : Note) → s < mostSlots → RowOk row → RowOk (finish A q s row a g note .row .slots)
   finish-row s row a g note l r = caseB (complete A a (slotNo q s) (g .frame-length)) (λ e. rw e (row-set row s free l r (λ t. clash (cc)))) (λ e. rw e r)
 
-  placed-apart : (row : List Slot) (a : A .S) (g : Seg) (c : Choice) → Tells row g c → RowOk row → A .Ok a
+  placed-apart : (row : List Slot) (a : A .S) (g : Seg) (c : Choice) → ChoiceFacts row g c → RowOk row → A .Ok a
       → Apart a (placed A q row a g c .mem) × RowOk (placed A q row a g c .row .slots)
   unfolding slotNo
   placed-apart row a g (reject n) e r o = (record { ok = o; received = λ j i n k. refl; byte = λ j i n k. refl }, r)
@@ -263,4 +263,4 @@ module _ (A : Ops) (LA : Laws A) (q : ℕ) (q< : q < mostPeers) where
   pub take-apart : (row : Peer) (a : A .S) (g : Seg) → RowOk (row .slots) → A .Ok a
       → Apart a (takeSegment A q row a g .mem) × RowOk (takeSegment A q row a g .row .slots)
   unfolding takeSegment
-  take-apart row a g r o = placed-apart (row .slots) a g (chosen (row .slots) g) (chosen-tells (row .slots) g) r o
+  take-apart row a g r o = placed-apart (row .slots) a g (chosen (row .slots) g) (chosen-facts (row .slots) g) r o

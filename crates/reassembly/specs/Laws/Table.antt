@@ -1,5 +1,4 @@
 -- What taking a segment gives, by document 01's rows (Table.antt).
--- Assumes nothing.
 use Prim.Native.Nat.{ℕ, _+_, _<_, _≤_}
 use mathlib.Core.Path.{_≡_, refl, sym, ap, _∙_}
 use mathlib.Core.Bool.{Bool, true, false, not, cond, _&&_, _||_}
@@ -197,7 +196,7 @@ module _ (f : List ℕ → ℕ) (p : ℕ) (row : Peer) (m : List ℕ) (g : Seg) 
             rw q (finish-number at (set slots at (furtherSlot (getD slots at free) g)) stored (noteAfter (noteOf (getD slots at free)) g)
             (old-complete way slot) (λ _. old-frame way slot))
 
-        by-length : (b : Bool) → placedNumber (cond b (old at) (reject K.OtherLength)) ≡ pick (not b) 15 (pick overlap 16 last)
+        by-length : (b : Bool) → placedNumber (cond b (old at) (reject K.LengthDiffers)) ≡ pick (not b) 15 (pick overlap 16 last)
         by-length true = by-overlap overlap same-overlap
         by-length false = refl
 

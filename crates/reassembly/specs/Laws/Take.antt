@@ -1,5 +1,4 @@
 -- What the code answers, as its own enums and structs, over the definitions of `Take` and `Store`; and the laws that its proofs cite.
--- Assumes nothing.
 use mathlib.Core.Path.{_≡_, refl, sym, ap, _∙_}
 use mathlib.Core.Bool.{Bool, true, false}
 use mathlib.Core.List.{List}
@@ -17,9 +16,9 @@ use Rattle.reassembly.specs.Laws.Base.{caseB, clash}
 use Rattle.reassembly.specs.Slots.{Slot, Peer, free, first, bears, isFree, Note, noNote, noteOf, foundOf, mostPeers, mostSlots}
 use Rattle.reassembly.specs.Laws.Slots.{first-some, first-is, first-not}
 use Rattle.reassembly.specs.Take.{Seg, Choice, reject, old, fresh, chosen, Effect, finish, placed, rejects, takeSegment, complete, overlaps, furtherSlot}
-use Rattle.reassembly.specs.Take.{openedSlot, noteAfter, Rejection, Empty, FrameLength, PastEnd, OtherLength, AlreadyReceived, NoSlot, Rejected, Pending}
+use Rattle.reassembly.specs.Take.{openedSlot, noteAfter, Rejection, Empty, FrameLength, PastEnd, LengthDiffers, AlreadyReceived, NoSlot, Rejected, Pending}
 use Rattle.reassembly.specs.Take.{Complete, NoMemory, Fits, Old, Fresh, decisionOf, slotNo}
-use Rattle.reassembly.specs.Laws.TakeFacts.{chosen-tells, chosen-fits, finish-mem}
+use Rattle.reassembly.specs.Laws.TakeFacts.{chosen-facts, chosen-fits, finish-mem}
 use Rattle.reassembly.specs.Store.{bytesOf, takeIn, hasSlots, receivedAt, clearAt, putAt, takenOf, finished}
 use Rattle.reassembly.specs.Laws.Store.{take-in}
 use lib.Seq.{set-getD}
@@ -79,7 +78,7 @@ module _ (row : List Slot) (g : Seg) where
   )
 
   pub decide-other : Fits g → (s : ℕ) → At s ≡ foundOf (first (bears (g .identifier)) row) → getD row s free .«frame_length» ≢ g .frame-length
-      → Reject OtherLength ≡ decisionOf (chosen row g)
+      → Reject LengthDiffers ≡ decisionOf (chosen row g)
   unfolding decisionOf
   decide-other f s e d = rw (chosen-fits row g f, from-at (first (bears (g .identifier)) row) s e, ne-eqb (getD row s free .«frame_length») (g .frame-length) d)
 
@@ -178,10 +177,10 @@ found-slot f row s e = first-some f row s (from-at (first f row) s e) .is-slot
 
 -- what a decision to store tells
 pub further-is : (row : List Slot) (g : Seg) (s : ℕ) → Further s ≡ decisionOf (chosen row g) → Old row g s
-further-is row g s e = rw (chosen-is-old (chosen row g) s e) at (chosen-tells row g)
+further-is row g s e = rw (chosen-is-old (chosen row g) s e) at (chosen-facts row g)
 
 pub open-is : (row : List Slot) (g : Seg) (s : ℕ) → Open s ≡ decisionOf (chosen row g) → Fresh row g s
-open-is row g s e = rw (chosen-is-fresh (chosen row g) s e) at (chosen-tells row g)
+open-is row g s e = rw (chosen-is-fresh (chosen row g) s e) at (chosen-facts row g)
 
 module _ (p : ℕ) (row : Peer) (m : List ℕ) (g : Seg) where
   pub no-peer : mostPeers ≤ p → (_≡_ {A = Taken} (record { row = row; outcome = NoMemory }) (takenOf (takeIn p row m g))) × (m ≡ takeIn p row m g .mem)

@@ -12,7 +12,7 @@ use borrow.Author.Tests.{ltb-false, eqb-true, eqb-false, le-ltb, eq-eqb, ne-eqb}
 use Rattle.reassembly.specs.Laws.Base.{length-table, caseB, clash, and-l, and-r, or-false-l, or-false-r}
 use Rattle.reassembly.specs.Slots.{Slot, Peer, Note, noNote, noteOf, free, first, bears, isFree, mostSlots}
 use Rattle.reassembly.specs.Laws.Slots.{First, first-some, first-none}
-use Rattle.reassembly.specs.Take.{slotNo, Seg, Ops, Rejection, Empty, FrameLength, PastEnd, OtherLength, AlreadyReceived, NoSlot, rejectionCode, Outcome}
+use Rattle.reassembly.specs.Take.{slotNo, Seg, Ops, Rejection, Empty, FrameLength, PastEnd, LengthDiffers, AlreadyReceived, NoSlot, rejectionCode, Outcome}
 use Rattle.reassembly.specs.Take.{Rejected, Pending, Complete, NoMemory, storedBytes, noteAfter, openedSlot, furtherSlot, complete, overlaps, frameIn}
 use Rattle.reassembly.specs.Take.{finish, placed, takeSegment, Choice, reject, old, fresh, choose, chooseNew, chosen}
 pub use Rattle.reassembly.specs.Take.{Fits, Old, Fresh}
@@ -20,10 +20,10 @@ pub use Rattle.reassembly.specs.Take.{Fits, Old, Fresh}
 pub stored-length : (g : Seg) → length (storedBytes g) ≡ length (g .bytes)
 stored-length g = refl
 
-abbrev pub Tells : List Slot → Seg → Choice → Type 0
-Tells row g (reject r) = Unit {0}
-Tells row g (old s) = Old row g s
-Tells row g (fresh s) = Fresh row g s
+abbrev pub ChoiceFacts : List Slot → Seg → Choice → Type 0
+ChoiceFacts row g (reject r) = Unit {0}
+ChoiceFacts row g (old s) = Old row g s
+ChoiceFacts row g (fresh s) = Fresh row g s
 
 pub bears-is : (id : ℕ) (v : Slot) → v .pending ≡ true → v .identifier ≡ id → bears id v ≡ true
 unfolding bears
@@ -45,15 +45,15 @@ pub not-free : (v : Slot) → isFree v ≡ false → v .pending ≡ true
 unfolding isFree
 not-free v e = caseB (v .pending) (λ p. p) (λ p. clash (cc))
 
-choose-tells : (row : List Slot) (g : Seg) → Fits g → (o : Option ℕ) → first (bears (g .identifier)) row ≡ o → Tells row g (choose row g o)
-choose-tells row g f none e = new (first isFree row) refl
+choose-facts : (row : List Slot) (g : Seg) → Fits g → (o : Option ℕ) → first (bears (g .identifier)) row ≡ o → ChoiceFacts row g (choose row g o)
+choose-facts row g f none e = new (first isFree row) refl
   where
-    new : (o : Option ℕ) → first isFree row ≡ o → Tells row g (chooseNew o)
+    new : (o : Option ℕ) → first isFree row ≡ o → ChoiceFacts row g (chooseNew o)
     new none n = tt
     new (some s) n =
         let b : First isFree row s = first-some isFree row s n in
-        record { fits = f; is-slot = b .is-slot; is-free = is-free-false (getD row s free) (b .passes); strange = first-none (bears (g .identifier)) row e }
-choose-tells row g f (some s) e =
+        record { fits = f; is-slot = b .is-slot; is-free = is-free-false (getD row s free) (b .passes); no-bearer = first-none (bears (g .identifier)) row e }
+choose-facts row g f (some s) e =
     let b : First (bears (g .identifier)) row s = first-some (bears (g .identifier)) row s e in
     caseB (eqb (getD row s free .«frame_length») (g .frame-length))
     (λ q. rw q
@@ -66,9 +66,9 @@ choose-tells row g f (some s) e =
     }))
     (λ q. rw q tt)
 
-pub chosen-tells : (row : List Slot) (g : Seg) → Tells row g (chosen row g)
+pub chosen-facts : (row : List Slot) (g : Seg) → ChoiceFacts row g (chosen row g)
 unfolding chosen
-chosen-tells row g =
+chosen-facts row g =
     caseB (eqb (length (g .bytes)) 0)
     (λ a. rw a tt)
     (λ a. caseB (ltb (g .frame-length) 32 || ltb 1532 (g .frame-length))
@@ -77,7 +77,7 @@ chosen-tells row g =
     (λ c. rw (a, b, c) tt)
     (λ c. let n : length (g .bytes) ≢ 0 = eqb-false (length (g .bytes)) 0 a in
     rw (a, b, c)
-    (choose-tells row g
+    (choose-facts row g
     (record {
       some-byte = omega arith;
       least = omega (arith, ltb-false (g .frame-length) 32 (or-false-l (ltb (g .frame-length) 32) (ltb 1532 (g .frame-length)) b));
@@ -146,26 +146,26 @@ module _ (O : Ops) where
   finish-mem p s row m g note = caseB (complete O m (slotNo p s) (g .frame-length)) (λ e. rw e) (λ e. rw e)
 
   -- a segment that completes a frame fits, and the slot is one of the four
-  finish-tells : (p s t : ℕ) (row : List Slot) (m : O .S) (g : Seg) (note : Note) → finish O p s row m g note .outcome ≡ Complete t → s ≡ t
-  finish-tells p s t row m g note e =
+  finish-slot : (p s t : ℕ) (row : List Slot) (m : O .S) (g : Seg) (note : Note) → finish O p s row m g note .outcome ≡ Complete t → s ≡ t
+  finish-slot p s t row m g note e =
       caseB (complete O m (slotNo p s) (g .frame-length))
       (λ c. complete-slot s t (rw c at e))
       (λ c. not-complete Pending t refl (rw c at e))
 
-  placed-tells : (p t : ℕ) (row : List Slot) (m : O .S) (g : Seg) (c : Choice) → Tells row g c → placed O p row m g c .outcome ≡ Complete t →
+  placed-slot : (p t : ℕ) (row : List Slot) (m : O .S) (g : Seg) (c : Choice) → ChoiceFacts row g c → placed O p row m g c .outcome ≡ Complete t →
       (t < mostSlots) × Fits g
-  placed-tells p t row m g (reject r) q e = not-complete (Rejected r) t refl e
-  placed-tells p t row m g (old s) q e =
+  placed-slot p t row m g (reject r) q e = not-complete (Rejected r) t refl e
+  placed-slot p t row m g (old s) q e =
       caseB (overlaps O m (slotNo p s) g)
       (λ c. not-complete (Rejected AlreadyReceived) t refl (rw c at e))
-      (λ c. let z : s ≡ t = finish-tells p s t (set row s (furtherSlot (getD row s free) g)) (O .put m (slotNo p s) (g .offset) (storedBytes g)) g
+      (λ c. let z : s ≡ t = finish-slot p s t (set row s (furtherSlot (getD row s free) g)) (O .put m (slotNo p s) (g .offset) (storedBytes g)) g
       (noteAfter (noteOf (getD row s free)) g) (rw c at e) in (rw z at (q .is-slot), q .fits))
-  placed-tells p t row m g (fresh s) q e = let z : s ≡ t = finish-tells p s t (set row s (openedSlot g))
+  placed-slot p t row m g (fresh s) q e = let z : s ≡ t = finish-slot p s t (set row s (openedSlot g))
       (O .put (O .clear m (slotNo p s)) (slotNo p s) (g .offset) (g .bytes)) g (noteAfter noNote g) e in (rw z at (q .is-slot), q .fits)
 
   pub take-complete : (p t : ℕ) (row : Peer) (m : O .S) (g : Seg) → takeSegment O p row m g .outcome ≡ Complete t → (t < mostSlots) × Fits g
   unfolding takeSegment
-  take-complete p t row m g e = placed-tells p t (row .slots) m g (chosen (row .slots) g) (chosen-tells (row .slots) g) e
+  take-complete p t row m g e = placed-slot p t (row .slots) m g (chosen (row .slots) g) (chosen-facts (row .slots) g) e
 
   -- a rejection changes neither the row nor the memory (demand 1)
   finish-takes : {C : Type 0} (p s : ℕ) (row : List Slot) (m : O .S) (g : Seg) (note : Note) (r : Rejection)
@@ -197,6 +197,6 @@ unfolding rejectionCode
 rejection-codes Empty = (omega arith, omega arith)
 rejection-codes FrameLength = (omega arith, omega arith)
 rejection-codes PastEnd = (omega arith, omega arith)
-rejection-codes OtherLength = (omega arith, omega arith)
+rejection-codes LengthDiffers = (omega arith, omega arith)
 rejection-codes AlreadyReceived = (omega arith, omega arith)
 rejection-codes NoSlot = (omega arith, omega arith)

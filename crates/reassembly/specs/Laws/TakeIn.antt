@@ -1,5 +1,4 @@
 -- What a user of `take` needs of its outcome: the memory keeps its length, and a complete frame lies in it, in one of the peer's four slots.
--- Assumes nothing.
 use mathlib.Core.Path.{_≡_, refl, sym, _∙_}
 use mathlib.Core.Bool.{true}
 use mathlib.Core.List.{List}

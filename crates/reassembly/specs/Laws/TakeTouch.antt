@@ -1,7 +1,6 @@
 -- What a segment that is taken leaves, over the bytes and the row: it is stored and nothing else of the memory changes (EveryRun, `Touches`), and its slot is
 -- free where its frame is complete, pending where it is not.
 -- And what a tick leaves of one slot.
--- Assumes nothing.
 use mathlib.Core.Path.{_≡_, refl, sym, ap, subst, _∙_}
 use mathlib.Core.Bool.{Bool, true, false, cond}
 use mathlib.Core.List.{List}
@@ -16,7 +15,7 @@ use Rattle.reassembly.specs.Slots.{Slot, Peer, Note, noNote, noteOf, fre
 use Rattle.reassembly.specs.Laws.Slots.{first-some}
 use Rattle.reassembly.specs.Take.{slotNo, Seg, Rejected, Pending, Complete, NoMemory, AlreadyReceived, Choice, reject, old, fresh, choose, chosen}
 use Rattle.reassembly.specs.Take.{noteAfter, openedSlot, furtherSlot, complete, overlaps, finish, placed, takeSegment, Fits, Old, Fresh}
-use Rattle.reassembly.specs.Laws.TakeFacts.{not-complete, not-pending, Tells, chosen-tells, chosen-fits, not-free}
+use Rattle.reassembly.specs.Laws.TakeFacts.{not-complete, not-pending, ChoiceFacts, chosen-facts, chosen-fits, not-free}
 use Rattle.reassembly.specs.Store.{isOn, bitAt, mapStart, receivedAt, bytesOf, hasSlots, takeIn, putAt, clearAt}
 use Rattle.reassembly.specs.Laws.TakeIn.{has-slots}
 use Rattle.reassembly.specs.Laws.RulesTouch.{touches-further, touches-opens}
@@ -35,7 +34,7 @@ choose-lowest row g (some s) e =
     (λ q. rw q (first-some (bears (g .identifier)) row s e .lowest))
     (λ q. rw q tt)
 
-chosen-lowest : (row : List Slot) (g : Seg) (c : Choice) → chosen row g ≡ c → Tells row g c → AtLowest row g c
+chosen-lowest : (row : List Slot) (g : Seg) (c : Choice) → chosen row g ≡ c → ChoiceFacts row g c → AtLowest row g c
 chosen-lowest row g (reject r) e w = tt
 chosen-lowest row g (old s) e w =
     subst (AtLowest row g) (sym (chosen-fits row g (w .fits)) ∙ e) (choose-lowest row g (first (bears (g .identifier)) row) refl)
@@ -124,7 +123,7 @@ module _ (p : ℕ) (row : List Slot) (m : List ℕ) (g : Seg) where
       touches = touches-opens p t is-peer (w .is-slot) g (w .fits) m enough;
     }
 
-    completes-by : (s : ℕ) (c : Choice) → Tells row g c → AtLowest row g c → placed bytesOf p row m g c .outcome ≡ Complete s
+    completes-by : (s : ℕ) (c : Choice) → ChoiceFacts row g c → AtLowest row g c → placed bytesOf p row m g c .outcome ≡ Complete s
         → Completes p s g row (placed bytesOf p row m g c .row .slots) m (placed bytesOf p row m g c .mem)
     completes-by s (reject r) w l e = not-complete (Rejected r) s refl e
     completes-by s (old t) w l e =
@@ -137,7 +136,7 @@ module _ (p : ℕ) (row : List Slot) (m : List ℕ) (g : Seg) where
         completed t (openedSlot g) (putAt (clearAt m (slotNo p t)) (slotNo p t) (g .offset) (g .bytes)) (noteAfter noNote g) true
         (stores-opens t w l) s e
 
-    waits-by : (c : Choice) → Tells row g c → AtLowest row g c → placed bytesOf p row m g c .outcome ≡ Pending
+    waits-by : (c : Choice) → ChoiceFacts row g c → AtLowest row g c → placed bytesOf p row m g c .outcome ≡ Pending
         → Waits p g row (placed bytesOf p row m g c .row .slots) m (placed bytesOf p row m g c .mem)
     waits-by (reject r) w l e = not-pending (Rejected r) refl e
     waits-by (old t) w l e =
@@ -157,7 +156,7 @@ module _ (p : ℕ) (row : Peer) (m : List ℕ) (g : Seg) where
   take-completes s e =
       caseB (hasSlots p m)
       (λ d. let w = has-slots p m d in
-      let t = chosen-tells (row .slots) g in
+      let t = chosen-facts (row .slots) g in
       rw d
       (completes-by p (row .slots) m g (w .0) (w .1) s (chosen (row .slots) g) t (chosen-lowest (row .slots) g (chosen (row .slots) g) refl t) (rw d at e)))
       (λ d. not-complete NoMemory s refl (rw d at e))
@@ -167,7 +166,7 @@ module _ (p : ℕ) (row : Peer) (m : List ℕ) (g : Seg) where
   take-waits e =
       caseB (hasSlots p m)
       (λ d. let w = has-slots p m d in
-      let t = chosen-tells (row .slots) g in
+      let t = chosen-facts (row .slots) g in
       rw d
       (waits-by p (row .slots) m g (w .0) (w .1) (chosen (row .slots) g) t (chosen-lowest (row .slots) g (chosen (row .slots) g) refl t) (rw d at e)))
       (λ d. not-pending NoMemory refl (rw d at e))

@@ -12,7 +12,7 @@ use borrow.Author.Tests.{ltb-true}
 use Rattle.reassembly.specs.Laws.Base.{caseB, below-two}
 use Rattle.reassembly.specs.Base.{someBelow, allBelow, table, within}
 use Rattle.reassembly.specs.Slots.{Note, noMark, older, olderRow, first, bears, isFree, mostPeers}
-use Rattle.reassembly.specs.Take.{Seg, Rejection, Empty, FrameLength, PastEnd, OtherLength, AlreadyReceived, NoSlot, rejectionCode, chosen, complete}
+use Rattle.reassembly.specs.Take.{Seg, Rejection, Empty, FrameLength, PastEnd, LengthDiffers, AlreadyReceived, NoSlot, rejectionCode, chosen, complete}
 use Rattle.reassembly.specs.Take.{slotNo}
 use Rattle.reassembly.specs.Take.{overlaps, frameIn, takeSegment}
 use Rattle.reassembly.specs.Store.{isOn, bitAt, setBit, setBits, slotStart, mapStart, clearAt, putAt, receivedAt, byteAt, bytesOf}
@@ -41,7 +41,7 @@ unfolding rejectionCode
 rejected-not Empty = refl
 rejected-not FrameLength = refl
 rejected-not PastEnd = refl
-rejected-not OtherLength = refl
+rejected-not LengthDiffers = refl
 rejected-not AlreadyReceived = refl
 rejected-not NoSlot = refl
 

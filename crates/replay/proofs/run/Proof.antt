@@ -1,5 +1,4 @@
 -- `replay::run` is safe and ends: the measure is the number of turns that are left, and both slices keep their lengths.
--- Assumes nothing.
 use mathlib.Core.Path.{_≡_}
 use lib.ListN.{length}
 use borrow.Author.Needs.{needs}

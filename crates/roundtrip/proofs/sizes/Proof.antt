@@ -1,5 +1,4 @@
 -- `roundtrip::sizes` is safe and ends: the measure is how many sizes are left, and the slices keep their lengths.
--- Assumes nothing.
 use Prim.Native.Nat.{_-_, _≤_}
 use mathlib.Core.Path.{_≡_}
 use lib.ListN.{length}

@@ -1,5 +1,4 @@
 -- The reader of an inner frame accepts exactly the good ones.
--- Assumes nothing.
 use Prim.Native.Nat.{ℕ}
 use mathlib.Core.Path.{_≡_}
 use mathlib.Core.List.{List}

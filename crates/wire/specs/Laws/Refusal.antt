@@ -1,5 +1,4 @@
 -- The numbers of refusals: 3 to 13; a complete STT frame's is 11, an inner frame's is 13.
--- Assumes nothing.
 use Prim.Native.Nat.{ℕ, _≤_, _%_}
 use mathlib.Core.Path.{_≡_, refl, sym, ap, _∙_}
 use mathlib.Core.Bool.{true, false, not}

@@ -1,5 +1,4 @@
 -- The reader of VXLAN is sound and complete for the format, and blind to what document 01 ignores.
--- Assumes nothing.
 use Prim.Native.Nat.{ℕ, _+_, _/_, _%_, _^_, _<_, _≤_}
 use mathlib.Core.Path.{_≡_, refl, sym, ap, subst, _∙_}
 use mathlib.Core.List.{List, [], _∷_}

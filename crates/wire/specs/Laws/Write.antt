@@ -1,6 +1,5 @@
 -- What is written is, by the formats, what it is meant to be: an IPv4 packet from source to destination that carries the frame, or a segment of the STT frame
 -- that carries it.
--- Assumes nothing.
 use Prim.Native.Nat.{ℕ, _+_, _-_, _%_, _^_, _<_, _≤_}
 use mathlib.Core.Path.{_≡_, refl, sym, ap, ap₂, _∙_}
 use mathlib.Core.Logic.{inl, inr}
@@ -285,9 +284,9 @@ pub record Fitting (headers n room : ℕ) : Type 0 where
   pub short : headers + n ≤ 65535
   pub room-is : headers + n ≤ room
 
-pub fits-says : (answer : Bool) (headers n room : ℕ) → answer ≡ fits headers n room → answer ≡ true → Fitting headers n room
+pub fits-facts : (answer : Bool) (headers n room : ℕ) → answer ≡ fits headers n room → answer ≡ true → Fitting headers n room
 unfolding fits fitChecks
-fits-says answer headers n room a e =
+fits-facts answer headers n room a e =
     let p = passed (λ _. false) (fitChecks headers n room) true true (λ r q. let z : _≡_ {A = ℕ} 0 1 = cc in omega arith) (sym a ∙ e) in
     record { least = omega (arith, tests); short = omega (arith, tests); room-is = omega (arith, tests) }
 
@@ -298,10 +297,10 @@ pub record SegmentFitting (n offset count room : ℕ) : Type 0 where
   pub short : 40 + count ≤ 65535
   pub room-is : 40 + count ≤ room
 
-pub segment-fits-says : (answer : Bool) (n offset count room : ℕ) → answer ≡ segmentFits n offset count room → answer ≡ true
+pub segment-fits-facts : (answer : Bool) (n offset count room : ℕ) → answer ≡ segmentFits n offset count room → answer ≡ true
     → SegmentFitting n offset count room
 unfolding segmentFits segmentFitChecks
-segment-fits-says answer n offset count room a e =
+segment-fits-facts answer n offset count room a e =
     let p = passed (λ _. false) (segmentFitChecks n offset count room) true true (λ r q. let z : _≡_ {A = ℕ} 0 1 = cc in omega arith) (sym a ∙ e) in
     record {
       least = omega (arith, tests);
@@ -471,7 +470,7 @@ pub segment-done : (answer : Bool) (source destination port context identifier o
     → Written (segmentFits (length frame) offset count (length old)) (segmentPacket source destination port context identifier offset count last frame) old new
     (40 + count)
 segment-done answer source destination port context identifier offset count last frame old new q e w =
-    let g : SegmentFitting (length frame) offset count (length old) = segment-fits-says answer (length frame) offset count (length old) q e in
+    let g : SegmentFitting (length frame) offset count (length old) = segment-fits-facts answer (length frame) offset count (length old) q e in
     written (segmentFits (length frame) offset count (length old)) answer
     (segmentPacket source destination port context identifier offset count last frame) old new (40 + count) q e
     (segment-length-is source destination port context identifier offset count last frame (g .within)) w

@@ -1,5 +1,4 @@
 -- What the crates above use of what we write: a segment's bytes are a part of the STT frame, parts join, what was written stands at the front, and it is bytes.
--- Assumes nothing.
 use Prim.Native.Nat.{ℕ, zero, suc, _+_, _-_, _/_, _%_, _<_, _≤_, min}
 use mathlib.Core.Path.{_≡_, refl, sym, ap, _∙_}
 use mathlib.Core.List.{List, [], _∷_, _++_}

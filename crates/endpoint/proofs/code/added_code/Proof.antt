@@ -1,5 +1,4 @@
 -- `endpoint::code::added_code` meets its contract.
--- Assumes nothing.
 use Rattle.endpoint.specs.Answer.{addedCode}
 use borrow.Author.Needs.{needs}
 use Rattle.endpoint.proofs.code.added_code.Statement.{statement}

@@ -1,5 +1,4 @@
 -- `endpoint::code::drop_code` meets its contract: the number of a broken format is the one that `wire` promises.
--- Assumes nothing.
 use mathlib.Core.Path.{_∙_, sym, ap}
 use Rattle.endpoint.specs.Answer.{dropCode}
 use borrow.Author.Needs.{needs}

@@ -1,5 +1,4 @@
 -- `endpoint::code::start_code` meets its contract.
--- Assumes nothing.
 use Rattle.endpoint.specs.Answer.{startCode}
 use borrow.Author.Needs.{needs}
 use Rattle.endpoint.proofs.code.start_code.Statement.{statement}

@@ -1,5 +1,4 @@
 -- `endpoint::code::tick_code` meets its contract: a tick has one answer.
--- Assumes nothing.
 use mathlib.Core.Path.{sym}
 use Rattle.endpoint.specs.Laws.Answer.{tick-code}
 use Rattle.endpoint.proofs.code.tick_code.Statement.{statement}

@@ -1,5 +1,4 @@
 -- `endpoint::config::add_binding` meets its contract: what `list_binding` leaves makes up the endpoint.
--- Assumes nothing.
 use Rattle.endpoint.specs.Laws.Promises.{add-binding-promised}
 use borrow.Author.Needs.{needs}
 use Rattle.endpoint.specs.Laws.ConfigExits.{add-binding-out}

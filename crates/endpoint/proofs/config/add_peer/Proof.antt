@@ -1,5 +1,4 @@
 -- `endpoint::config::add_peer` meets its contract: what `list_peer` leaves makes up the endpoint.
--- Assumes nothing.
 use Rattle.endpoint.specs.Laws.Promises.{add-peer-promised}
 use borrow.Author.Needs.{needs}
 use Rattle.endpoint.specs.Laws.ConfigExits.{add-peer-out}

@@ -1,5 +1,4 @@
 -- `endpoint::config::blank` meets its contract.
--- Assumes nothing.
 use borrow.Author.Needs.{needs}
 use Rattle.endpoint.specs.Config.{fresh}
 use Rattle.endpoint.proofs.config.blank.Statement.{statement}

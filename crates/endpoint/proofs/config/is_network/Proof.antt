@@ -1,5 +1,4 @@
 -- `endpoint::config::is_network` meets its contract.
--- Assumes nothing.
 use native.Mathlib.Omega.{arith}
 use Rattle.endpoint.specs.Laws.ConfigExits.{vxlan-ids, nvgre-low, nvgre-ids, stt-ids}
 use Rattle.endpoint.proofs.config.is_network.Statement.{statement}

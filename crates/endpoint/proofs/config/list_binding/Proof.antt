@@ -1,5 +1,4 @@
 -- `endpoint::config::list_binding` meets its contract: its exit number n gives what check number n gives.
--- Assumes nothing.
 use mathlib.Core.Path.{_≡_, _∙_, sym, ap}
 use mathlib.Core.Bool.{not, true, false}
 use native.Mathlib.Omega.{arith}
@@ -16,11 +15,11 @@ use Rattle.endpoint.proofs.config.list_binding.Statement.{statement}
 use Rattle.endpoint.proofs.config.list_binding.Tie as tie
 
 -- what is told of the endpoint
-abbrev told : tie.Start → Endpoint
-told c = bindingsOf (c .args .networks .now) (c .args .kinds .now) (c .args .owners .now) (c .args .tenants .now) (c .args .peer-count) (c .args .count .now)
+abbrev rebuilt : tie.Start → Endpoint
+rebuilt c = bindingsOf (c .args .networks .now) (c .args .kinds .now) (c .args .owners .now) (c .args .tenants .now) (c .args .peer-count) (c .args .count .now)
 
 abbrev checks : tie.Start → List (Check ConfigRefusal)
-checks c = addBindingChecks (told c) (c .args .peer) (c .args .kind) (c .args .network) (c .args .tenant)
+checks c = addBindingChecks (rebuilt c) (c .args .peer) (c .args .kind) (c .args .network) (c .args .tenant)
 
 least-requires : tie.Need-least-requires
 least-requires c κs = search needs
@@ -78,11 +77,11 @@ find-binding-requires c κs = search needs
 -- the lookup, as check 19 has it
 found : (c : tie.After-find-binding) →
     let start = c .before .before .before .before .before .before .before .before .before .before .before in
-    isSome (findBinding (configOf (told start)) (start .args .peer) (start .args .kind) (start .args .network)) ≡ isFound (c .find-binding .result)
+    isSome (findBinding (configOf (rebuilt start)) (start .args .peer) (start .args .kind) (start .args .network)) ≡ isFound (c .find-binding .result)
 unfolding bindingsOf lent
 found c =
     let start = c .before .before .before .before .before .before .before .before .before .before .before in
-    binding-found (told start) (start .args .peer) (start .args .kind) (start .args .network) (c .before .least2 .result) (c .find-binding .result)
+    binding-found (rebuilt start) (start .args .peer) (start .args .kind) (start .args .network) (c .before .least2 .result) (c .find-binding .result)
     (c .before .least2 .ensures) (c .find-binding .ensures)
 
 enum-told : tie.Need-enum-told
@@ -90,7 +89,7 @@ enum-told c = search needs
 
 listed : (c : tie.After-enum-told) →
     let start = c .before .before .before .before .before .before .before .before .before .before .before .before .before in
-    isSome (findBinding (configOf (told start)) (start .args .peer) (start .args .kind) (start .args .network)) ≡ true
+    isSome (findBinding (configOf (rebuilt start)) (start .args .peer) (start .args .kind) (start .args .network)) ≡ true
 listed c = found (c .before .before) ∙ ap isFound (c .enum-told .given .1)
 
 returns-4 : tie.Need-returns-4
@@ -105,7 +104,7 @@ enum-told-2 c = search needs
 
 unlisted : (c : tie.After-enum-told2) →
     let start = c .before .before .before .before .before .before .before .before .before .before .before .before .before in
-    isSome (findBinding (configOf (told start)) (start .args .peer) (start .args .kind) (start .args .network)) ≡ false
+    isSome (findBinding (configOf (rebuilt start)) (start .args .peer) (start .args .kind) (start .args .network)) ≡ false
 unlisted c = found (c .before .before) ∙ ap isFound (c .enum-told2 .given .1)
 
 returns-5 : tie.Need-returns-5

@@ -1,5 +1,4 @@
 -- `endpoint::config::list_peer` meets its contract: its exit number n gives what check number n gives.
--- Assumes nothing.
 use mathlib.Core.Path.{_≡_, _∙_, ap}
 use mathlib.Core.Bool.{true, false}
 use native.Mathlib.Omega.{arith}
@@ -14,8 +13,8 @@ use Rattle.endpoint.proofs.config.list_peer.Statement.{statement}
 use Rattle.endpoint.proofs.config.list_peer.Tie as tie
 
 -- what is told of the endpoint
-abbrev told : tie.Start → Endpoint
-told c = peersOf (c .args .addresses .now) (c .args .own) (c .args .port) (c .args .count .now)
+abbrev rebuilt : tie.Start → Endpoint
+rebuilt c = peersOf (c .args .addresses .now) (c .args .own) (c .args .port) (c .args .count .now)
 
 returns : tie.Need-returns
 unfolding addPeerChecks peersOf lent
@@ -36,7 +35,7 @@ returns-4 c = list-peer-exit _ _ _ _ _ 3 (omega (arith, deciding))
 -- the address is in its range, and not our own
 ranges : (c : tie.Else4) →
     let start = c .before .before .before .before in
-    Passed (take 4 (addPeerChecks (told start) (start .args .address)))
+    Passed (take 4 (addPeerChecks (rebuilt start) (start .args .address)))
 unfolding addPeerChecks peersOf lent
 ranges c = omega (arith, deciding)
 
@@ -49,18 +48,18 @@ find-peer-requires c κs = search needs
 -- the lookup, as check 19 has it
 found : (c : tie.After-find-peer) →
     let start = c .before .before .before .before .before .before .before .before in
-    isSome (findPeer (configOf (told start)) (start .args .address)) ≡ isFound (c .find-peer .result)
+    isSome (findPeer (configOf (rebuilt start)) (start .args .address)) ≡ isFound (c .find-peer .result)
 unfolding peersOf lent
 found c =
     let start = c .before .before .before .before .before .before .before .before in
-    peer-found (told start) (start .args .address) (c .before .least .result) (c .find-peer .result) (c .before .least .ensures) (c .find-peer .ensures)
+    peer-found (rebuilt start) (start .args .address) (c .before .least .result) (c .find-peer .result) (c .before .least .ensures) (c .find-peer .ensures)
 
 enum-told : tie.Need-enum-told
 enum-told c = search needs
 
 listed : (c : tie.After-enum-told) →
     let start = c .before .before .before .before .before .before .before .before .before .before in
-    isSome (findPeer (configOf (told start)) (start .args .address)) ≡ true
+    isSome (findPeer (configOf (rebuilt start)) (start .args .address)) ≡ true
 listed c = found (c .before .before) ∙ ap isFound (c .enum-told .given .1)
 
 returns-5 : tie.Need-returns-5
@@ -72,7 +71,7 @@ enum-told-2 c = search needs
 
 unlisted : (c : tie.After-enum-told2) →
     let start = c .before .before .before .before .before .before .before .before .before .before in
-    isSome (findPeer (configOf (told start)) (start .args .address)) ≡ false
+    isSome (findPeer (configOf (rebuilt start)) (start .args .address)) ≡ false
 unlisted c = found (c .before .before) ∙ ap isFound (c .enum-told2 .given .1)
 
 returns-6 : tie.Need-returns-6

@@ -1,5 +1,4 @@
 -- `endpoint::config::refused_start` meets its contract.
--- Assumes nothing.
 use borrow.Author.Needs.{needs}
 use Rattle.endpoint.proofs.config.refused_start.Statement.{statement}
 use Rattle.endpoint.proofs.config.refused_start.Tie as tie

@@ -1,5 +1,4 @@
 -- `endpoint::config::start` meets its contract: its exit number n gives what check number n gives.
--- Assumes nothing.
 use mathlib.Core.Path.{_∙_, sym, ap}
 use native.Mathlib.Omega.{arith}
 use Rattle.endpoint.specs.Laws.Promises.{start-promised}

@@ -1,5 +1,4 @@
 -- `endpoint::receive::complete` meets its contract.
--- Assumes nothing.
 use mathlib.Core.Path.{_∙_, sym}
 use Rattle.wire.specs.Laws.Stt.{stt-room}
 use Rattle.endpoint.specs.Laws.Receive.{offer-refused, offer-header}

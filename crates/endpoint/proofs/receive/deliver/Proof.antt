@@ -1,5 +1,4 @@
 -- `endpoint::receive::deliver` meets its contract.
--- Assumes nothing.
 use Prim.Native.Nat.{_<_, min}
 use mathlib.Core.Path.{_≡_, _∙_, sym}
 use native.Mathlib.Omega.{arith}
@@ -43,7 +42,7 @@ enum-told-2 c = search needs
 found : (c : tie.After-find-binding) →
     let a = c .before .before .before .before .before .before .before .args in
     let f = c .before .before .before .offer2 .given .0 .0 in
-    c .find-binding .result ≡ foundOf D.Binding (lowest (binds (a .networks .now) (a .kinds .now) (a .owners .now) (a .peer) (f .kind) (f .network))
+    c .find-binding .result ≡ foundOf D.NoBinding (lowest (binds (a .networks .now) (a .kinds .now) (a .owners .now) (a .peer) (f .kind) (f .network))
     (min (a .binding-count) mostBindings))
 found c = found-among _ _ _ _ _ (c .find-binding .ensures) (c .before .least .ensures)
 

@@ -1,12 +1,11 @@
 -- `endpoint::receive::open` meets its contract, exit by exit.
--- Assumes nothing.
 use Prim.Native.Nat.{min}
 use mathlib.Core.Path.{_≡_, _∙_, sym}
 use Rattle.wire.specs.Laws.Ipv4.{ipv4-bounds}
 use Rattle.endpoint.specs.Config.{hasAddress}
 use Rattle.endpoint.specs.declared.answer.Drop.the-variants as D
 use Rattle.endpoint.specs.Search.{lowest, foundOf}
-use Rattle.endpoint.specs.Laws.Receive.{found-none, found-some, found-among, open-memory, open-ip, open-destination, open-stranger, open-peer}
+use Rattle.endpoint.specs.Laws.Receive.{found-none, found-some, found-among, open-memory, open-ip, open-destination, open-unlisted, open-peer}
 use borrow.Author.Needs.{needs}
 use Rattle.endpoint.proofs.receive.open.Statement.{statement}
 use Rattle.endpoint.proofs.receive.open.Tie as tie
@@ -59,7 +58,7 @@ enum-told-2 c = search needs
 -- the lookup, as check 7 has it
 found : (c : tie.After-find-peer) →
     let a = c .before .before .before .before .before .before .before .before .before .before .args in
-    c .find-peer .result ≡ foundOf D.Peer (lowest (hasAddress (a .addresses .now) (c .before .before .before .before .before .ip .given .0 .0 .source))
+    c .find-peer .result ≡ foundOf D.UnknownPeer (lowest (hasAddress (a .addresses .now) (c .before .before .before .before .before .ip .given .0 .0 .source))
     (min (a .peer-count) mostPeers))
 found c = found-among _ _ _ _ _ (c .find-peer .ensures) (c .before .least .ensures)
 
@@ -69,7 +68,7 @@ unlisted-requires-2 c κs = search needs
 returns-4 : tie.Need-returns-4
 returns-4 c =
     c .unlisted2 .ensures
-    ∙ open-stranger _ _ _ _ _ _ (c .before .before .before .before .before .before .before .before .before .before .before .if1 .left) _
+    ∙ open-unlisted _ _ _ _ _ _ (c .before .before .before .before .before .before .before .before .before .before .before .if1 .left) _
     (sym (c .before .before .before .before .before .before .before .before .before .before .read .ensures)
     ∙ c .before .before .before .before .before .before .before .before .ip .given .1) (c .before .before .before .before .before .if2 .left)
     (found-none _ _ _ (sym (found (c .before .before .before)) ∙ c .before .enum-told2 .given .1))

@@ -1,5 +1,4 @@
 -- `endpoint::receive::receive` meets its contract.
--- Assumes nothing.
 use Prim.Native.Nat.{_<_}
 use mathlib.Core.Path.{_∙_, ap}
 use lib.ListN.{length}

@@ -1,5 +1,4 @@
 -- `endpoint::receive::settled` meets its contract.
--- Assumes nothing.
 use Prim.Native.Nat.{_<_, _≤_}
 use mathlib.Core.Path.{_∙_, sym}
 use native.Mathlib.Omega.{arith}

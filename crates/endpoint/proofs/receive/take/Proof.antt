@@ -1,5 +1,4 @@
 -- `endpoint::receive::take` meets its contract.
--- Assumes nothing.
 use Rattle.endpoint.specs.Laws.Receive.{lies-taken, pass-refused, pass-frame, segment-out}
 use borrow.Author.Needs.{needs}
 use Rattle.endpoint.proofs.receive.take.Statement.{statement}

@@ -1,5 +1,4 @@
 -- `endpoint::receive::unlisted` meets its contract.
--- Assumes nothing.
 use mathlib.Core.Path.{_∙_, sym, ap}
 use Rattle.endpoint.specs.Stages.{unlistedOf}
 use borrow.Author.Needs.{needs}

@@ -1,5 +1,4 @@
 -- `endpoint::receive::untaken` meets its contract.
--- Assumes nothing.
 use mathlib.Core.Path.{sym, ap}
 use Rattle.endpoint.specs.Stages.{untakenOf}
 use borrow.Author.Needs.{needs}

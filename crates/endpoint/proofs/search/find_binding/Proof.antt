@@ -1,5 +1,4 @@
 -- `endpoint::search::find_binding` meets its contract. The loop's invariant: i is even, and no binding before i matches.
--- Assumes nothing.
 use mathlib.Core.Path.{_≡_, _∙_, sym}
 use mathlib.Core.Bool.{false}
 use Prim.Native.Nat.{ℕ, _+_, _≤_, _<_, _-_, _%_}

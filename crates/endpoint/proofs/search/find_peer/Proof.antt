@@ -1,5 +1,4 @@
 -- `endpoint::search::find_peer` meets its contract. The loop's invariant: no peer before i has the address.
--- Assumes nothing.
 use mathlib.Core.Path.{_≡_}
 use mathlib.Core.Bool.{false}
 use Prim.Native.Nat.{ℕ, _≤_, _<_, _-_}

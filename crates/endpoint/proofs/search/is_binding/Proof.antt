@@ -1,5 +1,4 @@
 -- `endpoint::search::is_binding` meets its contract.
--- Assumes nothing.
 use mathlib.Core.Path.{_∙_, sym, ap}
 use Prim.Native.Nat.{ℕ}
 use lib.Dec.{eqb}

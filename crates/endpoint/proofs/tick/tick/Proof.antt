@@ -1,5 +1,4 @@
 -- `endpoint::tick::tick` meets its contract. The loop's invariant: the rows of the peers before p are older, and all else is as it came.
--- Assumes nothing.
 use mathlib.Core.Path.{_≡_, _∙_, ap}
 use Prim.Native.Nat.{_≤_, _<_, _-_}
 use native.Mathlib.Omega.{arith}

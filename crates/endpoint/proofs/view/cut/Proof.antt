@@ -1,5 +1,4 @@
 -- `view::cut` meets its contract: the place's flag says which length counts.
--- Assumes nothing.
 use mathlib.Core.Path.{_∙_}
 use Rattle.endpoint.specs.Laws.View.{cut-memory, cut-packet}
 use borrow.Author.Needs.{needs}

@@ -1,5 +1,4 @@
 -- `view::cut_within` meets its contract: the tests say whether the sum of start and length is within the room.
--- Assumes nothing.
 use native.Mathlib.Omega.{arith}
 use Rattle.endpoint.specs.Laws.View.{cut-past, cut-fits}
 use Rattle.endpoint.proofs.view.cut_within.Statement.{statement}

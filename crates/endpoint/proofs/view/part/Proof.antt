@@ -1,5 +1,4 @@
 -- `view::part` meets its contract: at each way out, the tests that led there say whether the sum of start and length is within the slice.
--- Assumes nothing.
 use mathlib.Core.Path.{_≡_, ap}
 use Prim.Native.Nat.{ℕ, _+_, _-_, _<_, _≤_}
 use native.Mathlib.Nat.{add-comm}

@@ -1,7 +1,6 @@
 -- `view::view` meets its contract: a walk of its MIR, by hand. Both slices are Copy: what each owns is had twice. One copy is kept for the
 -- exit. Of the packet the other is shortened to the memory's lifetime, by the signature's bound, and both go to `view_one`. All that the proof
 -- knows of `view_one` is that it meets its contract.
--- Assumes nothing.
 use mathlib.Core.Path.{refl}
 use Prim.Native.Nat.{ℕ}
 use mathlib.Core.List.{List, [], _∷_}
@@ -127,8 +126,8 @@ module _ {M : Type 1} (𝓤 : URA M) (H : Heap 𝓤) (A : Atoms 𝓤) (W : Given
       move ! (4 ∷ []) $ split ! $ move ! (1 ∷ 2 ∷ []) $ use2 W (raw (One 𝓤 H A mem run .pre to)) asked $
       move ! (0 ∷ 1 ∷ 4 ∷ 3 ∷ 2 ∷ []) $ done !
 
-  said : (r : RefT (List ℕ)) → ent 𝓤 (ensured 𝓤 H A one.ended (one.clauses 𝓤 H A mem run) (κr, tt) a tt r) (fact 𝓤 (Viewed p m (placeOf pl) r))
-  said r = exE 𝓤 _ (λ ws. snd∗ 𝓤 (sem 𝓤 H A (lasts one.ended (κr, tt) a ws)) (fact 𝓤 (Viewed p m (placeOf pl) r)))
+  ensured-is : (r : RefT (List ℕ)) → ent 𝓤 (ensured 𝓤 H A one.ended (one.clauses 𝓤 H A mem run) (κr, tt) a tt r) (fact 𝓤 (Viewed p m (placeOf pl) r))
+  ensured-is r = exE 𝓤 _ (λ ws. snd∗ 𝓤 (sem 𝓤 H A (lasts one.ended (κr, tt) a ws)) (fact 𝓤 (Viewed p m (placeOf pl) r)))
 
   exits : (r : RefT (List ℕ)) (u : Val) → Viewed p m (placeOf pl) r
       → ent 𝓤 (⋆ 𝓤 H A (‵ (ShrSlice (named 0) κr u8 .own r (u ∷ [])) ∷ (‵ (flft κr qr) ⊛ ‵ ftrue) ∷ (‵ (flft κp qp) ⊛ ‵ OwnP ⊛ ‵ OwnM ⊛ ‵ OwnL) ∷ [])) (Post u)
@@ -154,7 +153,7 @@ module _ {M : Type 1} (𝓤 : URA M) (H : Heap 𝓤) (A : Atoms 𝓤) (W : Given
         (and-then ! (load ! (from ! (stop !)) (look ! 4 refl)) (and-then ! (load ! (from ! (stop !)) (look ! 2 refl)) (no-more !)))) (λ u.
         use1 W (later (some (λ (r : RefT (List ℕ)). ((‵ (flft κr qr) ⊛ ‵ ftrue) ⊛ ‵ (ShrSlice (named 0) κr u8 .own r (u ∷ []))) ⊛ raw
         (ensured 𝓤 H A one.ended (one.clauses 𝓤 H A mem run) (κr, tt) a tt r)))) (id⊢ 𝓤 _) $ await ! tt $ pick ! (λ r.
-        split ! $ move ! (1 ∷ []) $ use1 W (raw (fact 𝓤 (Viewed p m (placeOf pl) r))) (said r) $ heard ! (Viewed p m (placeOf pl) r)
+        split ! $ move ! (1 ∷ []) $ use1 W (raw (fact 𝓤 (Viewed p m (placeOf pl) r))) (ensured-is r) $ heard ! (Viewed p m (placeOf pl) r)
         (λ e. split ! $ move ! (1 ∷ []) $
         -- [the result; the token; what is kept; _3; …; _2; …; _1; …; room for _0; …]
         peeks ! (ShrSlice (named 0) κr u8) (Is (ShrSlice (named 0) κr u8)) (shows 𝓤 H A (ShrSlice (named 0) κr u8)) r (u ∷ []) (λ is.

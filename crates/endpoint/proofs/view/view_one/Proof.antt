@@ -1,5 +1,4 @@
 -- `view::view_one` meets its contract: the place's flag picks the slice, and `part` gives the part of it.
--- Assumes nothing.
 use mathlib.Core.Path.{_∙_, sym}
 use borrow.Author.Needs.{needs}
 use Rattle.reassembly.specs.Laws.Answers.{view-packet, view-memory}

@@ -1,5 +1,4 @@
 -- `endpoint::wrap::exceeds` meets its contract.
--- Assumes nothing.
 use Rattle.endpoint.specs.Laws.WrapExits.{exceeds-vxlan, exceeds-nvgre, exceeds-stt}
 use borrow.Author.Needs.{needs}
 use Rattle.endpoint.proofs.wrap.exceeds.Statement.{statement}

@@ -1,5 +1,4 @@
 -- `endpoint::wrap::put_packet` meets its contract, by kind.
--- Assumes nothing.
 use Prim.Native.Nat.{_+_, _*_, _-_, _<_}
 use lib.ListN.{length}
 use native.Mathlib.Omega.{arith}

@@ -1,5 +1,4 @@
 -- `endpoint::wrap::put_segment` meets its contract.
--- Assumes nothing.
 use mathlib.Core.Path.{ap}
 use Prim.Native.Nat.{ℕ, _*_, _-_}
 use Rattle.endpoint.specs.Laws.WrapExits.{put-piece}

@@ -1,5 +1,4 @@
 -- `endpoint::wrap::segments_of` meets its contract.
--- Assumes nothing.
 use native.Mathlib.Omega.{arith}
 use Rattle.endpoint.specs.Laws.WrapExits.{segments-vxlan, segments-nvgre, segments-none, segments-stt}
 use borrow.Author.Needs.{needs}

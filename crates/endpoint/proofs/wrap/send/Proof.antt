@@ -1,5 +1,4 @@
 -- `endpoint::wrap::send` meets its contract: its exit number n gives what check number n gives.
--- Assumes nothing.
 use Prim.Native.Nat.{_<_, _≤_}
 use mathlib.Core.Path.{_≡_, _∙_, sym}
 use lib.ListN.{length}

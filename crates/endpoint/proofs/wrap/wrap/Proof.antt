@@ -1,5 +1,4 @@
 -- `endpoint::wrap::wrap` meets its contract: that of `wrap_on`, lent this endpoint's columns.
--- Assumes nothing.
 use mathlib.Core.Path.{_∙_, ap}
 use Rattle.endpoint.specs.Wrap.{Wrote}
 use Rattle.endpoint.specs.Laws.WrapExits.{wrap-lent}

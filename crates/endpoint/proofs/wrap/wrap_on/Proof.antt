@@ -1,5 +1,4 @@
 -- `endpoint::wrap::wrap_on` meets its contract: the binding, and all the rest.
--- Assumes nothing.
 use Prim.Native.Nat.{_<_, _≤_, min}
 use mathlib.Core.List.{[]}
 use mathlib.Core.Path.{_∙_, sym, ap}

@@ -1,5 +1,4 @@
 -- `niulassenc::about::niulassenc_endpoint_bytes` meets its contract, and the number is the size of an endpoint in memory.
--- Assumes nothing.
 use mathlib.Core.Path.{_≡_, refl}
 use prog.Memory.{size}
 use Rattle.endpoint.proofs.config.Endpoint.Laws as T′

@@ -1,5 +1,4 @@
 -- `niulassenc::answer::flat_added` meets its contract.
--- Assumes nothing.
 use mathlib.Core.Path.{_≡_, _∙_, sym, ap}
 use Prim.Native.Nat.{ℕ}
 use Rattle.endpoint.specs.Answer.{configCode}

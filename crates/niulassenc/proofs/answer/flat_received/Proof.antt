@@ -1,5 +1,4 @@
 -- `niulassenc::answer::flat_received` meets its contract.
--- Assumes nothing.
 use mathlib.Core.Path.{_∙_, sym, ap}
 use Rattle.endpoint.specs.Answer.{valuesOf}
 use Rattle.endpoint.specs.declared.answer.Received.{Received}

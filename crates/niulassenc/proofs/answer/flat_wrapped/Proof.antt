@@ -1,5 +1,4 @@
 -- `niulassenc::answer::flat_wrapped` meets its contract.
--- Assumes nothing.
 use mathlib.Core.Path.{_≡_, _∙_, sym, ap}
 use Prim.Native.Nat.{ℕ, _≤_, _<_, _^_}
 use native.Mathlib.Omega.{arith}

@@ -1,5 +1,4 @@
 -- `niulassenc::config::binding_added` meets its contract.
--- Assumes nothing.
 use mathlib.Core.Path.{_∙_, ap}
 use borrow.Author.Needs.{needs}
 use Rattle.niulassenc.specs.Answer.{additionOf}

@@ -1,5 +1,4 @@
 -- `niulassenc::config::niulassenc_start` meets its contract.
--- Assumes nothing.
 use mathlib.Core.Path.{_∙_, ap}
 use Prim.Native.Nat.{ℕ}
 use Rattle.niulassenc.specs.Answer.{startedOf}

@@ -1,5 +1,4 @@
 -- `niulassenc::receive::flat_delivered` meets its contract.
--- Assumes nothing.
 use mathlib.Core.Path.{refl, ap, _∙_}
 use Rattle.endpoint.specs.Answer.{valuesOf}
 use Rattle.endpoint.specs.declared.answer.Received.{Received}

@@ -2,7 +2,6 @@
 -- three times, each time for a lifetime of its own: as `&` to `opened`, as `&mut` to `taken`, and as `&` to `delivered`. The packet, which is Copy, goes to
 -- each. The memory is lent on to `taken` (`Relent.antt`), comes back with what was put there, and is given up to `delivered`, which says its last bytes. Then
 -- the borrow is closed at the endpoint that `taken` left. All that the proof knows of the three functions is that they meet their contracts.
--- Assumes nothing.
 use mathlib.Core.Path.{_≡_, refl, ap, subst, _∙_}
 use mathlib.Core.List.{List, [], _∷_}
 use Prim.Native.Nat.{ℕ, _<_, _^_}

@@ -2,7 +2,6 @@
 -- borrow is shut again.
 -- Its addresses are lent on to `open`, at the same lifetime (`Columns.antt`), with the packet, which is Copy and so had twice. All that the proof knows of
 -- `open` is that it meets its contract.
--- Assumes nothing.
 use mathlib.Core.Path.{_≡_, refl}
 use mathlib.Core.List.{List, [], _∷_}
 use Prim.Native.Nat.{ℕ, _+_, _<_, _^_}
@@ -107,8 +106,8 @@ module _ {M : Type 1} (𝓤 : URA M) (H : Heap 𝓤) (A : Atoms 𝓤) (W : Given
   Post = walkOf 𝓤 H A f.ended stayed (f.clauses 𝓤 H A at-mem run) .post ((κs, qs, tt, a, at), tt)
 
   -- what `open` says of its result
-  abbrev Says : Arrival → Type 0
-  Says x = x ≡ openedBy h (p .now) n
+  abbrev Meets : Arrival → Type 0
+  Meets x = x ≡ openedBy h (p .now) n
 
   abbrev Addresses : GName → Fml
   Addresses g = Field 𝓤 H A W (Array u32 mostPeers) (named 0) κe (h .addresses) b (o + addressesAt) g
@@ -147,7 +146,7 @@ module _ {M : Type 1} (𝓤 : URA M) (H : Heap 𝓤) (A : Atoms 𝓤) (W : Given
         -- [all arguments; the tokens]
         move ! (1 ∷ 2 ∷ []) $ join ! $ join ! $ frame ! $ done !
 
-  exits : (x : Arrival) (v : Val) → Says x
+  exits : (x : Arrival) (v : Val) → Meets x
       → ent 𝓤 (⋆ 𝓤 H A (‵ (flft κe qe) ∷ ‵ (fres γ (T.the-row .coded .code h)) ∷ ‵ Shared ∷ Tokens ∷ ‵ OwnP ∷ ‵ (S.the-row .own x (v ∷ [])) ∷ [])) (Post v)
   exits x v e =
       qed W (‵ (flft κe qe) ∷ ‵ (fres γ (T.the-row .coded .code h)) ∷ ‵ Shared ∷ Tokens ∷ ‵ OwnP ∷ ‵ (S.the-row .own x (v ∷ [])) ∷ []) ∵
@@ -199,7 +198,7 @@ module _ {M : Type 1} (𝓤 : URA M) (H : Heap 𝓤) (A : Atoms 𝓤) (W : Given
         use1 W (later (some (λ (x : Arrival). ((‵ (flft κe qe) ⊛ Tokens) ⊛ ‵ (S.the-row .own x (v ∷ []))) ⊛ raw
         (ensured 𝓤 H A opening.ended (opening.clauses 𝓤 H A at-mem run) κs (args was g) tt x)))) (id⊢ 𝓤 _) $ await ! tt $ pick ! (λ x.
         split ! $ move ! (1 ∷ []) $ use1 W (some (λ (zs : Unit {0} × (Unit {0} × (Unit {0} × (Unit {0} × (Unit {0} × (Unit {0} × (Unit {0}))))))). ‵
-        (lasts opening.ended κs (args was g) zs) ⊛ raw (fact 𝓤 (Says x)))) (id⊢ 𝓤 _) $ pick ! (λ _. split ! $ drop ! $ heard ! (Says x) (λ e.
+        (lasts opening.ended κs (args was g) zs) ⊛ raw (fact 𝓤 (Meets x)))) (id⊢ 𝓤 _) $ pick ! (λ _. split ! $ drop ! $ heard ! (Meets x) (λ e.
         split ! $ move ! (1 ∷ []) $ peeks ! S.the-row (Is S.the-row) (shows 𝓤 H A S.the-row) x (v ∷ []) (λ is.
         -- [what the result owns; the tokens; the borrow; _7; …; _0; …; res; packet]
         land ! (from ! (stop !)) (init ! 17 refl (LL.lawful S.the-type S′.the-laws 𝓤 H A W .typed x _ is .0)) $

@@ -2,7 +2,6 @@
 -- the borrow of the endpoint stays shut and the memory is let go as it is. Else the borrow is opened, the sender's row is reached (`RowAt.antt`) and read, and
 -- goes to `take` with the packet and the memory, which is given up: `take` says its last bytes. The row that came is stored where the other was, and the borrow
 -- is closed at the endpoint with it. All that the proof knows of the three functions is that they meet their contracts.
--- Assumes nothing.
 use mathlib.Core.Path.{_≡_, refl, sym, ap, subst, _∙_}
 use mathlib.Core.Bool.{Bool, true, false, not}
 use mathlib.Core.List.{List, [], _∷_}

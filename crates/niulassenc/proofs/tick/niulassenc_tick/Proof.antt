@@ -3,7 +3,6 @@
 -- and stores what `tick_row` makes of it. The loop's invariant: the rows of the peers before p are older, and all else is as it came. At the end the borrow is
 -- closed at that endpoint.
 -- All that the proof knows of `tick_row` is that it meets its contract.
--- Assumes nothing.
 use mathlib.Core.Path.{_≡_, refl, sym, ap, _∙_}
 use mathlib.Core.List.{List, [], _∷_}
 use mathlib.Core.WellFounded.{WellFounded, InvImage·wf}
@@ -118,8 +117,8 @@ module _ {M : Type 1} (𝓤 : URA M) (H : Heap 𝓤) (A : Atoms 𝓤) (at-mem : 
   abbrev Ages : Contract 𝓤
   Ages = tripleOf 𝓤 H A ageing.signature (ageing.spec 𝓤 H A at-mem run)
 
-  said : (w r : Peer) → ent 𝓤 (ensured 𝓤 H A ageing.ended (ageing.clauses 𝓤 H A at-mem run) tt (w, tt) tt r) (fact 𝓤 (r ≡ olderRow w))
-  said w r = exE 𝓤 _ (λ ws. snd∗ 𝓤 (sem 𝓤 H A (lasts ageing.ended tt (w, tt) ws)) (fact 𝓤 (r ≡ olderRow w)))
+  ensured-is : (w r : Peer) → ent 𝓤 (ensured 𝓤 H A ageing.ended (ageing.clauses 𝓤 H A at-mem run) tt (w, tt) tt r) (fact 𝓤 (r ≡ olderRow w))
+  ensured-is w r = exE 𝓤 _ (λ ws. snd∗ 𝓤 (sem 𝓤 H A (lasts ageing.ended tt (w, tt) ws)) (fact 𝓤 (r ≡ olderRow w)))
 
 module _ {M : Type 1} (𝓤 : URA M) (H : Heap 𝓤) (A : Atoms 𝓤) (W : Given 𝓤 H A) (at-mem : Memory → SProp 𝓤) (run : Routine
     → Fun 𝓤) (κ : Lft) (q : Share) (b o : ℕ) (γ : GName) (h : Endpoint) where
@@ -236,7 +235,7 @@ module _ {M : Type 1} (𝓤 : URA M) (H : Heap 𝓤) (A : Atoms 𝓤) (W : Given
           calls-at ! (fmOf 𝓤 H (W .laws) 𝓣) (Ages 𝓤 H A at-mem run) known (to was) (and-then ! (load ! (from ! (stop !)) (look ! 23 refl)) (no-more !)) (λ v.
           use1 W (later (some (λ (r : Peer). (‵ ftrue ⊛ ‵ (R.the-row .own r (v ∷ []))) ⊛ raw (ensured 𝓤 H A ageing.ended (ageing.clauses 𝓤 H A at-mem run) tt
           (was, tt) tt r)))) (id⊢ 𝓤 _) $ await ! tt $ pick ! (λ r.
-          split ! $ move ! (1 ∷ []) $ use1 W (raw (fact 𝓤 (r ≡ olderRow was))) (said 𝓤 H A at-mem run was r) $ heard ! (r ≡ olderRow was) (λ e. split ! $
+          split ! $ move ! (1 ∷ []) $ use1 W (raw (fact 𝓤 (r ≡ olderRow was))) (ensured-is 𝓤 H A at-mem run was r) $ heard ! (r ≡ olderRow was) (λ e. split ! $
           drop ! $
           peeks ! R.the-row (Is R.the-row) (shows 𝓤 H A R.the-row) r (v ∷ []) (λ is.
           land ! (from ! (stop !)) (store ! 13 refl (LL.lawful R.the-type R′.the-laws 𝓤 H A W .typed r _ is .0)) $

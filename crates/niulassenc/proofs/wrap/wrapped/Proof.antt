@@ -1,5 +1,4 @@
 -- `niulassenc::wrap::wrapped` meets its contract.
--- Assumes nothing.
 use mathlib.Core.Path.{_∙_, ap}
 use Rattle.endpoint.specs.Answer.{wrapValuesOf}
 use Rattle.endpoint.specs.declared.answer.Wrapped.{Wrapped}

@@ -1,5 +1,4 @@
 -- `rack::report::bytes` is safe and ends: the measure is what is left of the slice. Nothing has to hold from turn to turn.
--- Assumes nothing.
 use Prim.Native.Nat.{_-_}
 use lib.ListN.{length}
 use borrow.Author.Needs.{needs}

@@ -1,5 +1,4 @@
 -- `reassembly::map::all_bits` meets its contract. The loop's invariant: `kept` is 255 so long as every bit below byte b is set.
--- Assumes nothing.
 use mathlib.Core.Path.{_≡_, refl}
 use Prim.Native.Nat.{_≤_, _<_, _*_, _-_}
 use native.Mathlib.Omega.{arith}

@@ -1,5 +1,4 @@
 -- `reassembly::map::any_bit` meets its contract. The loop's invariant: `found` is 0 so long as no bit from a up to byte b is set.
--- Assumes nothing.
 use mathlib.Core.Path.{_≡_}
 use mathlib.Core.Bool.{not}
 use Prim.Native.Nat.{_≤_, _<_, _+_, _*_, _-_}

@@ -1,5 +1,4 @@
 -- `reassembly::map::clear` meets its contract. The loop's invariant: the first i bytes are 0.
--- Assumes nothing.
 use mathlib.Core.Path.{_≡_, refl, _∙_}
 use Prim.Native.Nat.{ℕ, _≤_, _<_, _+_, _-_}
 use native.Mathlib.Omega.{arith}

@@ -1,5 +1,4 @@
 -- `reassembly::map::set_bits` meets its contract. The loop's invariant: the bits from the loop's first byte up to byte b are set.
--- Assumes nothing.
 use mathlib.Core.Path.{_≡_, ap, _∙_}
 use mathlib.Core.List.{List}
 use Prim.Native.Nat.{ℕ, _≤_, _<_, _+_, _*_, _-_, _/_}

@@ -1,5 +1,4 @@
 -- `reassembly::memory::all_received` meets its contract.
--- Assumes nothing.
 use mathlib.Core.Path.{_∙_}
 use Rattle.reassembly.proofs.Lent.{all-of}
 use borrow.Author.Needs.{needs}

@@ -1,5 +1,4 @@
 -- `reassembly::memory::clear` meets its contract.
--- Assumes nothing.
 use Rattle.reassembly.proofs.Lent.{cleared}
 use borrow.Author.Needs.{needs}
 use Rattle.reassembly.proofs.memory.clear.Statement.{statement}

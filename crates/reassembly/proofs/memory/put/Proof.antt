@@ -1,5 +1,4 @@
 -- `reassembly::memory::put` meets its contract.
--- Assumes nothing.
 use mathlib.Core.Path.{refl}
 use Rattle.reassembly.proofs.Lent.{landed}
 use borrow.Author.Needs.{needs}

@@ -1,5 +1,4 @@
 -- `reassembly::memory::some_received` meets its contract.
--- Assumes nothing.
 use mathlib.Core.Path.{_∙_}
 use Rattle.reassembly.proofs.Lent.{some-of}
 use borrow.Author.Needs.{needs}

@@ -1,5 +1,4 @@
 -- `reassembly::slot::bears_identifier` meets its contract.
--- Assumes nothing.
 use borrow.Author.Tests.{not-true, not-false}
 use Rattle.reassembly.specs.Slots.{bears}
 use Rattle.reassembly.proofs.slot.bears_identifier.Statement.{statement}

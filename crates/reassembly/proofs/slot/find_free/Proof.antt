@@ -1,5 +1,4 @@
 -- `reassembly::slot::find_free` meets its contract. The loop's invariant: no slot before s is free.
--- Assumes nothing.
 use mathlib.Core.Path.{_≡_}
 use mathlib.Core.Bool.{false}
 use Prim.Native.Nat.{ℕ, _≤_, _<_, _-_}

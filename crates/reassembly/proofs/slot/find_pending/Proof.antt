@@ -1,5 +1,4 @@
 -- `reassembly::slot::find_pending` meets its contract. The loop's invariant: no slot before s bears the identifier.
--- Assumes nothing.
 use mathlib.Core.Path.{_≡_, sym, _∙_}
 use mathlib.Core.Bool.{false}
 use Prim.Native.Nat.{ℕ, _≤_, _<_, _-_}

@@ -1,5 +1,4 @@
 -- `reassembly::take::decide` meets its contract: each way out cites its law.
--- Assumes nothing.
 use mathlib.Core.Path.{sym, _∙_}
 use Prim.Native.Nat.{_<_}
 use Rattle.reassembly.specs.Slots.{Slot, bears, mostSlots}

@@ -1,5 +1,4 @@
 -- `reassembly::take::finish` meets its contract.
--- Assumes nothing.
 use Rattle.reassembly.specs.Take.{slotNo}
 use Rattle.reassembly.specs.Laws.Take.{finish-complete, finish-pending}
 use borrow.Author.Needs.{needs}

@@ -1,5 +1,4 @@
 -- `reassembly::take::open` meets its contract.
--- Assumes nothing.
 use Rattle.reassembly.specs.Take.{slotNo}
 use Rattle.reassembly.specs.Take.{segOf}
 use Rattle.reassembly.specs.Laws.Take.{open-stored}

@@ -1,5 +1,4 @@
 -- `reassembly::take::rejection_code` meets its contract.
--- Assumes nothing.
 use mathlib.Core.Path.{sym, ap}
 use Rattle.reassembly.specs.Take.{rejectionCode}
 use borrow.Author.Needs.{needs}

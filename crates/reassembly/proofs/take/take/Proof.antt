@@ -1,5 +1,4 @@
 -- `reassembly::take::take` meets its contract: each way out cites its law.
--- Assumes nothing.
 use mathlib.Core.Path.{sym, _∙_}
 use Rattle.reassembly.specs.Take.{segOf}
 use Rattle.reassembly.specs.Laws.Take.{no-peer, no-memory, take-rejected, take-further, take-open, further-is, open-is}

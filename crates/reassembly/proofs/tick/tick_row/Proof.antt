@@ -1,5 +1,4 @@
 -- `reassembly::tick::tick_row` meets its contract.
--- Assumes nothing.
 use mathlib.Core.Path.{_≡_, ap}
 use mathlib.Core.List.{List, map}
 use lib.ListN.{length}

@@ -1,5 +1,4 @@
 -- `replay::call::lend` is safe.
--- Assumes nothing.
 use lib.Seq.{length-take-le}
 use borrow.Author.Needs.{needs}
 use Rattle.replay.proofs.call.lend.Statement.{statement}

@@ -1,5 +1,4 @@
 -- `replay::call::receive` is safe.
--- Assumes nothing.
 use lib.Seq.{length-take-le}
 use borrow.Author.Needs.{needs}
 use Rattle.replay.proofs.call.receive.Statement.{statement}

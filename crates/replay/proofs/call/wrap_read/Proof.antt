@@ -1,5 +1,4 @@
 -- `replay::call::wrap_read` is safe.
--- Assumes nothing.
 use lib.Seq.{length-take-le}
 use borrow.Author.Needs.{needs}
 use Rattle.replay.proofs.call.wrap_read.Statement.{statement}

@@ -1,5 +1,4 @@
 -- `replay::number::at` is safe and ends: the measure is how many bytes are left. Nothing has to hold from turn to turn.
--- Assumes nothing.
 use Prim.Native.Nat.{_-_}
 use borrow.Author.Needs.{needs}
 use Rattle.replay.proofs.number.at.Statement.{statement}

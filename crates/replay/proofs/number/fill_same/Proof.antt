@@ -1,5 +1,4 @@
 -- `replay::number::fill_same` is safe and ends: the slice keeps its length, and the measure is what is left of it.
--- Assumes nothing.
 use Prim.Native.Nat.{_-_}
 use mathlib.Core.Path.{_≡_}
 use lib.ListN.{length}

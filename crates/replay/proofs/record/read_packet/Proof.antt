@@ -1,5 +1,4 @@
 -- `replay::record::read_packet` is safe.
--- Assumes nothing.
 use lib.Seq.{length-take-le}
 use borrow.Author.Needs.{needs}
 use Rattle.replay.proofs.record.read_packet.Statement.{statement}

@@ -1,5 +1,4 @@
 -- `roundtrip::tally::step` is safe.
--- Assumes nothing.
 use lib.Seq.{length-take-le}
 use borrow.Author.Needs.{needs}
 use Rattle.roundtrip.proofs.tally.step.Statement.{statement}

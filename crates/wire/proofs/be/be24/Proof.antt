@@ -1,5 +1,4 @@
 -- `wire::be::be24` meets its contract.
--- Assumes nothing.
 use native.Mathlib.Omega.{arith}
 use Rattle.wire.specs.Laws.Bytes.{be-split}
 use borrow.Author.Needs.{needs}

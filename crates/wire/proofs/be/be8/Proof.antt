@@ -1,5 +1,4 @@
 -- `wire::be::be8` meets its contract.
--- Assumes nothing.
 use mathlib.Core.Path.{sym}
 use Rattle.wire.specs.Laws.Bytes.{be-one}
 use borrow.Author.Needs.{needs}

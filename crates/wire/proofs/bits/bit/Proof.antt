@@ -1,5 +1,4 @@
 -- `wire::bits::bit` meets its contract.
--- Assumes nothing.
 use Prim.Native.Nat.{_/_, _^_}
 use lib.Bits.{and-mask}
 use borrow.Author.Needs.{needs}

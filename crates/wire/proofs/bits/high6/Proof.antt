@@ -1,5 +1,4 @@
 -- `wire::bits::high6` meets its contract.
--- Assumes nothing.
 use mathlib.Core.Path.{_∙_}
 use native.Mathlib.Omega.{arith}
 use lib.Bits.{and-high}

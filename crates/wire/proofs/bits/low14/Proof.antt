@@ -1,5 +1,4 @@
 -- `wire::bits::low14` meets its contract.
--- Assumes nothing.
 use lib.Bits.{and-mask}
 use Rattle.wire.proofs.bits.low14.Statement.{statement}
 use Rattle.wire.proofs.bits.low14.Tie as tie

@@ -1,5 +1,4 @@
 -- `wire::bits::low2` meets its contract.
--- Assumes nothing.
 use lib.Bits.{and-mask}
 use Rattle.wire.proofs.bits.low2.Statement.{statement}
 use Rattle.wire.proofs.bits.low2.Tie as tie

@@ -1,5 +1,4 @@
 -- `wire::bits::low3` meets its contract.
--- Assumes nothing.
 use lib.Bits.{and-mask}
 use Rattle.wire.proofs.bits.low3.Statement.{statement}
 use Rattle.wire.proofs.bits.low3.Tie as tie

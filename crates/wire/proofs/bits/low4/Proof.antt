@@ -1,5 +1,4 @@
 -- `wire::bits::low4` meets its contract.
--- Assumes nothing.
 use lib.Bits.{and-mask}
 use Rattle.wire.proofs.bits.low4.Statement.{statement}
 use Rattle.wire.proofs.bits.low4.Tie as tie

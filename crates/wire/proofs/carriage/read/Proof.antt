@@ -1,5 +1,4 @@
 -- `wire::carriage::read` meets its contract.
--- Assumes nothing.
 use mathlib.Core.Path.{_∙_}
 use Rattle.wire.specs.Laws.Carriage.{by-udp, by-gre, by-tcp, by-none}
 use borrow.Author.Needs.{needs}

@@ -1,5 +1,4 @@
 -- `wire::head::checksum` meets its contract.
--- Assumes nothing.
 use Rattle.wire.specs.Bytes.{be}
 use borrow.Author.Needs.{needs}
 use Rattle.wire.proofs.head.checksum.Statement.{statement}

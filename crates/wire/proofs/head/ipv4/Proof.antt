@@ -1,5 +1,4 @@
 -- `wire::head::ipv4` meets its contract.
--- Assumes nothing.
 use mathlib.Core.Path.{_∙_, ap}
 use mathlib.Core.List.{List}
 use Prim.Native.Nat.{ℕ}

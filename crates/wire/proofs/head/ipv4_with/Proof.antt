@@ -1,5 +1,4 @@
 -- `wire::head::ipv4_with` meets its contract.
--- Assumes nothing.
 use mathlib.Core.Path.{_≡_}
 use mathlib.Core.List.{[], _∷_}
 use Prim.Native.Nat.{_%_}

@@ -1,5 +1,4 @@
 -- `wire::head::nvgre` meets its contract.
--- Assumes nothing.
 use Rattle.wire.specs.Bytes.{be}
 use Rattle.wire.specs.Nvgre.{gre}
 use borrow.Author.Needs.{needs}

@@ -1,5 +1,4 @@
 -- `wire::head::stt` meets its contract.
--- Assumes nothing.
 use mathlib.Core.Path.{_∙_, ap}
 use mathlib.Core.List.{[], _∷_}
 use Prim.Native.Nat.{ℕ, _/_, _%_}

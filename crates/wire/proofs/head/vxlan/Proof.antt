@@ -1,5 +1,4 @@
 -- `wire::head::vxlan` meets its contract.
--- Assumes nothing.
 use Rattle.wire.specs.Bytes.{be}
 use Rattle.wire.specs.Udp.{udp}
 use Rattle.wire.specs.Vxlan.{vxlan}

@@ -1,5 +1,4 @@
 -- `wire::ipv4::read` meets its contract: its exit number n gives what check number n gives.
--- Assumes nothing.
 use mathlib.Core.Path.{_≡_, _∙_, sym, ap}
 use mathlib.Core.List.{List}
 use Prim.Native.Nat.{ℕ, _*_, _%_}

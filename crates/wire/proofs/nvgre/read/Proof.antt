@@ -1,5 +1,4 @@
 -- `wire::nvgre::read` meets its contract.
--- Assumes nothing.
 use mathlib.Core.Path.{sym}
 use native.Mathlib.Omega.{arith}
 use Rattle.wire.specs.Laws.Checks.{deciding}

@@ -1,5 +1,4 @@
 -- `wire::put::put` meets its contract.
--- Assumes nothing.
 use native.Mathlib.Omega.{arith}
 use Rattle.wire.specs.Laws.Bytes.{laid-tail}
 use borrow.Author.Needs.{needs}

@@ -1,5 +1,4 @@
 -- `wire::put::put_part` meets its contract.
--- Assumes nothing.
 use Rattle.wire.specs.Bytes.{part}
 use borrow.Author.Needs.{needs}
 use Rattle.wire.proofs.put.put_part.Statement.{statement}

@@ -1,5 +1,4 @@
 -- `wire::refusal::code` meets its contract.
--- Assumes nothing.
 use mathlib.Core.Path.{sym, ap}
 use Rattle.wire.specs.Refusal.{codeOf}
 use borrow.Author.Needs.{needs}

@@ -1,5 +1,4 @@
 -- `wire::sum::sum_behind` meets its contract.
--- Assumes nothing.
 use mathlib.Core.Path.{_∙_, ap}
 use native.Mathlib.Omega.{arith}
 use lib.ListN.{length}

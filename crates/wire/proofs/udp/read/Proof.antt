@@ -1,5 +1,4 @@
 -- `wire::udp::read` meets its contract.
--- Assumes nothing.
 use mathlib.Core.Path.{_∙_, sym, ap}
 use native.Mathlib.Omega.{arith}
 use Rattle.wire.specs.Laws.Checks.{deciding}

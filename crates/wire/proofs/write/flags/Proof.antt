@@ -1,5 +1,4 @@
 -- `wire::write::flags` meets its contract.
--- Assumes nothing.
 use Rattle.wire.specs.Write.{flagsOf}
 use Rattle.wire.proofs.write.flags.Statement.{statement}
 use Rattle.wire.proofs.write.flags.Tie as tie

@@ -1,7 +1,6 @@
 -- `wire::write::nvgre` meets its contract.
--- Assumes nothing.
 use borrow.Author.Tests.{not-true, not-false}
-use Rattle.wire.specs.Laws.Write.{fits-says, refused, nvgre-done}
+use Rattle.wire.specs.Laws.Write.{fits-facts, refused, nvgre-done}
 use borrow.Author.Needs.{needs}
 use Rattle.wire.proofs.write.nvgre.Statement.{statement}
 use Rattle.wire.proofs.write.nvgre.Tie as tie
@@ -16,7 +15,7 @@ nvgre-packet-requires : tie.Need-nvgre-packet-requires
 nvgre-packet-requires c κs =
     let i = c .before in
     let f = i .before in
-    let g = fits-says _ _ _ _ (f .frame-fits .ensures) (not-false _ (i .if1 .left)) in
+    let g = fits-facts _ _ _ _ (f .frame-fits .ensures) (not-false _ (i .if1 .left)) in
     (g .least, g .short, g .room-is)
 
 add-result : tie.Need-add-result

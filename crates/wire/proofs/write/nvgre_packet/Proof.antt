@@ -1,5 +1,4 @@
 -- `wire::write::nvgre_packet` meets its contract.
--- Assumes nothing.
 use Rattle.wire.specs.Laws.Write.{nvgre-written}
 use borrow.Author.Needs.{needs}
 use Rattle.wire.proofs.write.nvgre_packet.Statement.{statement}

@@ -1,5 +1,4 @@
 -- `wire::write::seal` meets its contract.
--- Assumes nothing.
 use mathlib.Core.Path.{_∙_, ap}
 use Prim.Native.Nat.{ℕ, _-_}
 use Rattle.wire.specs.Bytes.{be, laid}

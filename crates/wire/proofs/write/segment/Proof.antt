@@ -1,8 +1,7 @@
 -- `wire::write::segment` meets its contract.
--- Assumes nothing.
 use native.Mathlib.Omega.{arith}
 use borrow.Author.Tests.{not-true, not-false}
-use Rattle.wire.specs.Laws.Write.{segment-fits-says, refused, segment-done}
+use Rattle.wire.specs.Laws.Write.{segment-fits-facts, refused, segment-done}
 use borrow.Author.Needs.{needs}
 use Rattle.wire.proofs.write.segment.Statement.{statement}
 use Rattle.wire.proofs.write.segment.Tie as tie
@@ -17,14 +16,14 @@ segment-packet-requires : tie.Need-segment-packet-requires
 segment-packet-requires c κs =
     let i = c .before in
     let f = i .before in
-    let g = segment-fits-says _ _ _ _ _ (f .segment-fits .ensures) (not-false _ (i .if1 .left)) in
+    let g = segment-fits-facts _ _ _ _ _ (f .segment-fits .ensures) (not-false _ (i .if1 .left)) in
     (g .least, omega arith, g .within, g .short, g .room-is)
 
 add-result : tie.Need-add-result
 add-result c =
     let i = c .before .before .before .before in
     let f = i .before in
-    let g = segment-fits-says _ _ _ _ _ (f .segment-fits .ensures) (not-false _ (i .if1 .left)) in
+    let g = segment-fits-facts _ _ _ _ _ (f .segment-fits .ensures) (not-false _ (i .if1 .left)) in
     search needs
 
 same-length : tie.Need-same-length

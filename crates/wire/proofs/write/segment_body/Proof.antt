@@ -1,5 +1,4 @@
 -- `wire::write::segment_body` meets its contract.
--- Assumes nothing.
 use native.Mathlib.Omega.{arith}
 use Rattle.wire.specs.Laws.Write.{segment-sealed}
 use borrow.Author.Needs.{needs}

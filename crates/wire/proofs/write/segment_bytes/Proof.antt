@@ -1,5 +1,4 @@
 -- `wire::write::segment_bytes` meets its contract.
--- Assumes nothing.
 use native.Mathlib.Omega.{arith}
 use Rattle.wire.specs.Laws.Write.{segment-pieces}
 use borrow.Author.Needs.{needs}

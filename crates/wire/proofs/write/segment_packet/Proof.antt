@@ -1,5 +1,4 @@
 -- `wire::write::segment_packet` meets its contract.
--- Assumes nothing.
 use mathlib.Core.Path.{refl}
 use native.Mathlib.Omega.{arith}
 use Rattle.wire.specs.Laws.Write.{segment-landed}

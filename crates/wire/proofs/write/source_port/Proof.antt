@@ -1,5 +1,4 @@
 -- `wire::write::source_port` meets its contract.
--- Assumes nothing.
 use native.Mathlib.Omega.{arith}
 use Rattle.wire.specs.Laws.Write.{port-from}
 use borrow.Author.Needs.{needs}

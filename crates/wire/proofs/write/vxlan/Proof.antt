@@ -1,7 +1,6 @@
 -- `wire::write::vxlan` meets its contract.
--- Assumes nothing.
 use borrow.Author.Tests.{not-true, not-false}
-use Rattle.wire.specs.Laws.Write.{fits-says, refused, vxlan-done}
+use Rattle.wire.specs.Laws.Write.{fits-facts, refused, vxlan-done}
 use borrow.Author.Needs.{needs}
 use Rattle.wire.proofs.write.vxlan.Statement.{statement}
 use Rattle.wire.proofs.write.vxlan.Tie as tie
@@ -16,7 +15,7 @@ vxlan-packet-requires : tie.Need-vxlan-packet-requires
 vxlan-packet-requires c κs =
     let i = c .before in
     let f = i .before in
-    let g = fits-says _ _ _ _ (f .frame-fits .ensures) (not-false _ (i .if1 .left)) in
+    let g = fits-facts _ _ _ _ (f .frame-fits .ensures) (not-false _ (i .if1 .left)) in
     (g .least, g .short, g .room-is)
 
 add-result : tie.Need-add-result

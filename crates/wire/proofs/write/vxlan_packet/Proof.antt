@@ -1,5 +1,4 @@
 -- `wire::write::vxlan_packet` meets its contract.
--- Assumes nothing.
 use Rattle.wire.specs.Laws.Write.{vxlan-written}
 use borrow.Author.Needs.{needs}
 use Rattle.wire.proofs.write.vxlan_packet.Statement.{statement}
