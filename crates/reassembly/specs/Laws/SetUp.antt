@@ -10,7 +10,7 @@ use lib.Dec.{eqb}
 use Rattle.reassembly.specs.Slots.{noRow, olderRow}
 use Rattle.reassembly.specs.Take.{Seg, Effect}
 use Rattle.reassembly.specs.Store.{bytesOf, takeIn}
-use Rattle.reassembly.specs.Receive.{viewOf, Answers, otherSender, direct, segment, Event, receive, tick, takeAnswer}
+use Rattle.reassembly.specs.Receive.{rowOf, viewOf, Answers, otherSender, direct, segment, Event, receive, tick, takeAnswer}
 use Rattle.reassembly.specs.Mix.{Frame, partOf, Item, other, frameOf, event}
 use Rattle.reassembly.specs.SetUp.{Layers, isPeer, peerOf, strike, World, receiveBy, receives, next, runs, handedBack, answerOf, from}
 use Rattle.reassembly.specs.Claim.{answerIn}
@@ -73,11 +73,11 @@ module _ (W : Answers) (Config : Type 0) (U : Layers W Config) where
   receive-direct w p a = refl
 
   pub receive-segment : (w : World Config) (p : ℕ) (g : Seg)
-      → let o : Effect bytesOf = takeIn p (getD (w .ends .peers) p noRow) (w .mem) g in
+      → let o : Effect bytesOf = takeIn p (getD (w .ends .peers) (rowOf p) noRow) (w .mem) g in
       receiveBy W Config U w (segment p g)
       ≡ record {
         reply = takeAnswer W (U .judge (w .ends .config)) bytesOf p g o (o .outcome) .reply;
-        world = record { ends = record { config = w .ends .config; peers = set (w .ends .peers) p (o .row) }; mem = o .mem };
+        world = record { ends = record { config = w .ends .config; peers = set (w .ends .peers) (rowOf p) (o .row) }; mem = o .mem };
       }
   unfolding receiveBy
   receive-segment w p g = refl
