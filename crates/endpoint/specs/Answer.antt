@@ -30,6 +30,7 @@ dropCode D.UnknownPeer = 7
 dropCode D.NoBinding = 12
 dropCode (D.Segment r) = rejectionCode r
 
+-- Open: three cases, three numbers
 abbrev pub configCode : ConfigRefusal → ℕ
 configCode C.OutOfRange = 18
 configCode C.AlreadyListed = 19
@@ -47,6 +48,7 @@ pub record Values : Type 0 where
   pub binding : Option ℕ
   pub place : P.Place
 
+-- Open: the record `answers` (Receive.antt) holds equations that compute with it
 abbrev pub valuesOf : Received → Values
 valuesOf (R.Delivered t p) = record { number = 0; tenant = some (t .tenant); binding = some (t .binding); place = placeOf p }
 valuesOf R.Pending = record { number = 1; tenant = none; binding = none; place = P.nowhere }

@@ -34,6 +34,7 @@ pub record Config : Type 0 where
   pub bindings : ℕ  -- how many are listed
 
 -- how many bindings may be listed
+-- Open: a numeral
 abbrev pub mostBindings : ℕ
 mostBindings = 64
 
@@ -52,6 +53,7 @@ configOf e = record {
 }
 
 -- the endpoint with these rows, and all else as it is
+-- Open: a record with one entry changed
 abbrev pub withRows : Endpoint → List Peer → Endpoint
 withRows e l = record {
   networks = e .networks;

@@ -154,6 +154,7 @@ pub record Step : Type 0 where
   pub answer : Received
   pub mem : List ℕ
 
+-- Open: an entry of a list
 abbrev pub rowAt : Endpoint → ℕ → Peer
 rowAt e p = getD (e .peers) p noRow
 
@@ -172,6 +173,7 @@ unfoldable pub stepOf : Endpoint → (memory packet : List ℕ) → Step
 stepOf e m k = cond (ltb (length m) 55296) (unchanged e 0 m (R.Dropped D.MemoryTooSmall)) (stepped e m (headerOf (configOf e) k))
 
 -- peer p's row is this one
+-- Open: a record with one entry changed
 abbrev pub withRow : Endpoint → ℕ → Peer → Endpoint
 withRow e p row = withRows e (set (e .peers) p row)
 

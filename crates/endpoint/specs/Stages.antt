@@ -104,12 +104,14 @@ Lies peer O.NoMemory size m = Unit {0}
 Lies peer (O.Complete s) size m = (peer < mostPeers) × ((s < mostSlots) × ((size ≤ 1532) × (55296 ≤ length m)))
 
 -- is there a segment to take
+-- Open: which case of an enum
 abbrev pub bringsSegment : Content → Bool
 bringsSegment (A.Refused d) = false
 bringsSegment (A.Frame f) = false
 bringsSegment (A.Segment d) = true
 
 -- what there is to deliver while nothing is taken
+-- Open: a case of an enum turned into another
 abbrev pub untakenOf : Content → Offer
 untakenOf (A.Refused d) = B.Refused d
 untakenOf (A.Frame f) = B.Frame f
@@ -121,6 +123,7 @@ pub record Change : Type 0 where
   pub offer : Offer
   pub mem : List ℕ
 
+-- Open: two fields of a record
 abbrev pub changedOf : Change → Changed
 changedOf c = record { row = c .row; offer = c .offer }
 
@@ -147,12 +150,15 @@ deliverOf networks kinds owners tenants n peer (B.Frame f) k m =
 
 -- ---- with an endpoint's own columns
 
+-- Open: a short name: a stage with an endpoint's own columns
 abbrev pub openedBy : Endpoint → (packet : List ℕ) → (room : ℕ) → Arrival
 openedBy e k room = openOf (e .addresses) (e .own) (e .port) (min (e .«peer_count») mostPeers) k room
 
 -- the row of the peer that sent it is taken with
+-- Open: a short name, likewise
 abbrev pub takenBy : Endpoint → Arrival → (packet memory : List ℕ) → Change
 takenBy e x k m = takeOf (rowAt e (x .peer)) x k m
 
+-- Open: a short name, likewise
 abbrev pub deliveredBy : Endpoint → (peer : ℕ) → Offer → (packet memory : List ℕ) → Received
 deliveredBy e peer offer k m = deliverOf (e .networks) (e .kinds) (e .owners) (e .tenants) (min (e .«binding_count») mostBindings) peer offer k m

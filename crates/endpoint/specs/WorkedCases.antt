@@ -12,7 +12,7 @@ use Rattle.wire.specs.Write.{sourcePort}
 use Rattle.wire.specs.declared.carriage.Carried.{Carried}
 use Rattle.wire.specs.declared.carriage.Carried.the-variants as C
 use Rattle.reassembly.specs.Base.{allBelow}
-use Rattle.reassembly.specs.Slots.{free, first, noMark}
+use Rattle.reassembly.specs.Slots.{free, noMark}
 use Rattle.reassembly.specs.Take.{Choice, reject, old, fresh, chosen, rejectionCode}
 use Rattle.reassembly.specs.Store.{bitAt, setBits}
 use Rattle.endpoint.specs.Wrap.{segmentsOf, segmentSize, packetOf}

@@ -62,6 +62,7 @@ isBad (F.Refused r) = true
 -- ---- the call: 23 (binding), 13, 22, 23 (segment), 21 in this order
 
 -- binding b of the endpoint: its kind, its network, its peer's number and address
+-- Open: an entry of a list
 abbrev pub kindAt : Endpoint → ℕ → ℕ
 kindAt e b = getD (e .kinds) b 0
 

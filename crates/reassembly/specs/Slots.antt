@@ -56,6 +56,7 @@ noRow = record { slots = [] }
 abbrev pub mostPeers : ℕ
 mostPeers = 8
 
+-- Open: a numeral
 abbrev pub mostSlots : ℕ
 mostSlots = 4
 

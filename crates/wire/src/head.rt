@@ -7,7 +7,6 @@ ghost use Rattle.wire.specs.Udp.{udp};
 ghost use Rattle.wire.specs.Vxlan.{vxlan};
 ghost use Rattle.wire.specs.Nvgre.{gre};
 ghost use Rattle.wire.specs.Write.{ipv4With, ipv4Head, tcpWith, sttFrame};
-use crate::number::ALL_ONES;
 use crate::number::GRE_KEY;
 use crate::number::GRE_TYPE_HIGH;
 use crate::number::GRE_TYPE_LOW;
@@ -82,7 +81,7 @@ pub(crate) fn ipv4(protocol: u8, size: u64, source: u64, destination: u64) -> [u
     ensures { λ r. ⌜ r ≡ ipv4Head protocol size source destination ⌝ }
 {
     let blank = ipv4_with(protocol, size, source, destination, 0);
-    let checksum = ALL_ONES as u64 - sum(0, &blank) as u64;
+    let checksum = 0xFFFF - sum(0, &blank) as u64;
     ipv4_with(protocol, size, source, destination, checksum)
 }
 

@@ -9,7 +9,6 @@ ghost use Rattle.wire.specs.Sum.{pseudo, complement};
 ghost use Rattle.wire.specs.Write.{sourcePort, flagsOf, fits, segmentFits, segmentBytes, segmentBody, vxlanPacket, nvgrePacket, segmentPacket, Written};
 use crate::be::be16;
 use crate::head;
-use crate::number::ALL_ONES;
 use crate::number::FRAME_MIN;
 use crate::number::IPV4_HEADER;
 use crate::number::NVGRE_OVERHEAD;
@@ -203,7 +202,7 @@ fn seal(s: &mut [u8], source: u32, destination: u32)
     ensures { λ _. ⌜ now (s .exit) ≡ laid (now (s .entry)) 16 (be 2 (complement (pseudo source destination 6 (length (now (s .entry))) ++ now (s .entry)))) ⌝ }
 {
     let sum = sum_behind(source, destination, PROTOCOL_TCP, &s[..]);
-    let field = head::checksum(ALL_ONES as u64 - sum as u64);
+    let field = head::checksum(0xFFFF - sum as u64);
     put(s, TCP_CHECKSUM, &field);
 }
 

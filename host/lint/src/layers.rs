@@ -13,7 +13,7 @@ use crate::tree::{crate_of, File, Modules, Place, Tree};
 use std::collections::{BTreeSet, HashMap};
 
 /// The crates that rule 6 holds: `endpoint` joins them by its name here.
-const HELD: [&str; 2] = ["wire", "reassembly"];
+const HELD: [&str; 3] = ["wire", "reassembly", "endpoint"];
 
 pub fn findings(tree: &Tree, modules: &Modules) -> Vec<Finding> {
     let mut found = Vec::new();

@@ -64,6 +64,7 @@ module _ (e : Endpoint) (peer kind network tenant : ℕ) where
 -- ---- an adding call reads and changes its own columns and count: what it makes of an endpoint of which only these are told makes up the whole call
 
 -- the endpoint e with these peers, and with these bindings
+-- Open: a record with some entries changed
 abbrev pub withPeers : Endpoint → (addresses : List ℕ) (count : ℕ) → Endpoint
 withPeers e addresses count = record {
   networks = e .networks;
@@ -79,6 +80,7 @@ withPeers e addresses count = record {
   owners = e .owners;
 }
 
+-- Open: a record with some entries changed
 abbrev pub withBindings : Endpoint → (networks kinds owners tenants : List ℕ) (count : ℕ) → Endpoint
 withBindings e networks kinds owners tenants count = record {
   networks = networks;

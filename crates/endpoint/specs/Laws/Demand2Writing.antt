@@ -21,7 +21,8 @@ use Rattle.wire.specs.Laws.Layout.{layouts}
 use Rattle.reassembly.specs.Laws.Base.{either}
 use Rattle.endpoint.specs.Config.{configOf}
 use Rattle.endpoint.specs.Wrap.{segmentsOf, segmentSize, packetOf, exceeds, kindAt, networkAt, peerAt, packetAt}
-use Rattle.endpoint.specs.Laws.Wrap.{WrittenFacts, written-facts, written-when, Ready, Listed, ready-listed, ByKind, vxlan, nvgre, stt, by-kind, packet-vxlan}
+use Rattle.endpoint.specs.Laws.Wrap.{WrittenFacts, written-facts, written-when, Ready, Listed, ready-listed, ByKind, vxlan, nvgre, stt, by-kind}
+use Rattle.endpoint.specs.Laws.Wrap.{packet-vxlan}
 use Rattle.endpoint.specs.Laws.Wrap.{packet-nvgre, packet-stt, one-vxlan, one-nvgre, many-stt, starts-within, ends-past}
 use Rattle.endpoint.specs.Reached.{Reached}
 use Rattle.endpoint.specs.Laws.Reached.{reached-ready}

@@ -31,7 +31,8 @@ use Rattle.endpoint.specs.Run.{Left, calls, endsOf}
 use Rattle.endpoint.specs.Formats.{ListedPeer, Bound, CarriesFrame, CarriesSegment, GoodFrame}
 use Rattle.endpoint.specs.Laws.Formats.{peer-listed, binding-bound, segment-complete, judge-complete}
 use Rattle.endpoint.specs.Wrap.{segmentsOf, kindAt, networkAt, ownerAt, peerAt, packetOf, packetAt}
-use Rattle.endpoint.specs.Laws.Wrap.{WrittenFacts, written-facts, Ready, Listed, ready-listed, ByKind, vxlan, nvgre, stt, by-kind, packet-vxlan, packet-nvgre}
+use Rattle.endpoint.specs.Laws.Wrap.{WrittenFacts, written-facts, Ready, Listed, ready-listed, ByKind, vxlan, nvgre, stt, by-kind, packet-vxlan}
+use Rattle.endpoint.specs.Laws.Wrap.{packet-nvgre}
 use Rattle.endpoint.specs.Laws.Wrap.{one-vxlan, one-nvgre, many-stt, starts-within, ends-past}
 use Rattle.endpoint.specs.Reached.{Reached}
 use Rattle.endpoint.specs.Laws.Reached.{reached-ready}

@@ -18,7 +18,8 @@ use Rattle.reassembly.specs.Laws.Slots.{First, first-some, first-none, f
 use Rattle.reassembly.specs.Take.{slotNo, Seg, Ops, Rejection, rejectionCode, Empty, FrameLength, PastEnd, Outcome, Rejected, Pending, Complete}
 use Rattle.reassembly.specs.Take.{LengthDiffers, AlreadyReceived, NoSlot, Choice, reject, old, fresh, choose, chosen, testedBytes, storedBytes, noteAfter}
 use Rattle.reassembly.specs.Take.{openedSlot, furtherSlot, Effect, complete, overlaps, finish, placed, takeSegment, Fits}
-use Rattle.reassembly.specs.Laws.TakeFacts.{Fits, ChoiceFacts, chosen-facts, chosen-fits, bears-is, bears-pending, bears-identifier, is-free-false, not-free}
+use Rattle.reassembly.specs.Laws.TakeFacts.{Fits, ChoiceFacts, chosen-facts, chosen-fits, bears-is, bears-pending, bears-identifier, is-free-false}
+use Rattle.reassembly.specs.Laws.TakeFacts.{not-free}
 use Rattle.reassembly.specs.Laws.Memory.{within-low, within-high, within-is}
 use Rattle.reassembly.specs.Laws.Sim.{set-cases}
 use Rattle.reassembly.specs.Laws.Runs.{older-at}

@@ -16,7 +16,8 @@ use Rattle.reassembly.specs.Laws.Base.{caseB, clash}
 use Rattle.reassembly.specs.Slots.{Slot, Peer, free, first, bears, isFree, Note, noNote, noteOf, foundOf, mostPeers, mostSlots}
 use Rattle.reassembly.specs.Laws.Slots.{first-some, first-is, first-not}
 use Rattle.reassembly.specs.Take.{Seg, Choice, reject, old, fresh, chosen, Effect, finish, placed, rejects, takeSegment, complete, overlaps, furtherSlot}
-use Rattle.reassembly.specs.Take.{openedSlot, noteAfter, Rejection, Empty, FrameLength, PastEnd, LengthDiffers, AlreadyReceived, NoSlot, Rejected, Pending}
+use Rattle.reassembly.specs.Take.{openedSlot, noteAfter, Rejection, Empty, FrameLength, PastEnd, LengthDiffers, AlreadyReceived, NoSlot, Rejected}
+use Rattle.reassembly.specs.Take.{Pending}
 use Rattle.reassembly.specs.Take.{Complete, NoMemory, Fits, Old, Fresh, decisionOf, slotNo}
 use Rattle.reassembly.specs.Laws.TakeFacts.{chosen-facts, chosen-fits, finish-mem}
 use Rattle.reassembly.specs.Store.{bytesOf, takeIn, hasSlots, receivedAt, clearAt, putAt, takenOf, finished}

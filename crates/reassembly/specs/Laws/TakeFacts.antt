@@ -12,7 +12,8 @@ use borrow.Author.Tests.{ltb-false, eqb-true, eqb-false, le-ltb, eq-eqb, ne-eqb}
 use Rattle.reassembly.specs.Laws.Base.{length-table, caseB, clash, and-l, and-r, or-false-l, or-false-r}
 use Rattle.reassembly.specs.Slots.{Slot, Peer, Note, noNote, noteOf, free, first, bears, isFree, mostSlots}
 use Rattle.reassembly.specs.Laws.Slots.{First, first-some, first-none}
-use Rattle.reassembly.specs.Take.{slotNo, Seg, Ops, Rejection, Empty, FrameLength, PastEnd, LengthDiffers, AlreadyReceived, NoSlot, rejectionCode, Outcome}
+use Rattle.reassembly.specs.Take.{slotNo, Seg, Ops, Rejection, Empty, FrameLength, PastEnd, LengthDiffers, AlreadyReceived, NoSlot, rejectionCode}
+use Rattle.reassembly.specs.Take.{Outcome}
 use Rattle.reassembly.specs.Take.{Rejected, Pending, Complete, NoMemory, storedBytes, noteAfter, openedSlot, furtherSlot, complete, overlaps, frameIn}
 use Rattle.reassembly.specs.Take.{finish, placed, takeSegment, Choice, reject, old, fresh, choose, chooseNew, chosen}
 pub use Rattle.reassembly.specs.Take.{Fits, Old, Fresh}

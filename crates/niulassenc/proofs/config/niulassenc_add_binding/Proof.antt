@@ -108,8 +108,8 @@ module _ {M : Type 1} (𝓤 : URA M) (H : Heap 𝓤) (A : Atoms 𝓤) (W : Given
   Post = walkOf 𝓤 H A f.ended stayed (f.clauses 𝓤 H A at-mem run) .post (((κ, tt), (q, tt), tt, x, at), tt)
 
   -- what `binding_added` says of its result and of what it leaves
-  abbrev Meets : Addition → List ℕ → List ℕ → List ℕ → List ℕ → ℕ → Type 0
-  Meets r ns ks os ts m =
+  abbrev Gives : Addition → List ℕ → List ℕ → List ℕ → List ℕ → ℕ → Type 0
+  Gives r ns ks os ts m =
       let s = addBindingOf (bindingsOf (h .networks) (h .kinds) (h .owners) (h .tenants) (h .«peer_count») (h .«binding_count»)) p k n t in
       (r ≡ additionOf (s .answer))
       × ((ns ≡ s .endpoint .networks)
@@ -194,7 +194,7 @@ module _ {M : Type 1} (𝓤 : URA M) (H : Heap 𝓤) (A : Atoms 𝓤) (W : Given
         move ! (1 ∷ 0 ∷ []) $ join ! $ move ! (1 ∷ 0 ∷ []) $ join ! $ move ! (1 ∷ 0 ∷ []) $ join ! $ move ! (1 ∷ 0 ∷ []) $ join ! $ move ! (1 ∷ 0 ∷ []) $
         join ! $ frame ! $ done !
 
-  exits : (r : Addition) (v : Val) (is : Is N.the-row r (v ∷ [])) (ns ks os ts : List ℕ) (m : ℕ) → Meets r ns ks os ts m
+  exits : (r : Addition) (v : Val) (is : Is N.the-row r (v ∷ [])) (ns ks os ts : List ℕ) (m : ℕ) → Gives r ns ks os ts m
       → ent 𝓤 (⋆ 𝓤 H A (‵ (fobs γ (T.the-row .coded .code (withBindings h ns ks os ts m))) ∷ ‵ (fbor κ (Body (mem T.the-row) b o γ)) ∷ ‵ (flft κ q) ∷ []))
       (Post v)
   exits r v is ns ks os ts m e =
@@ -263,9 +263,9 @@ module _ {M : Type 1} (𝓤 : URA M) (H : Heap 𝓤) (A : Atoms 𝓤) (W : Given
         (adding.clauses 𝓤 H A at-mem run) (κs was α₀ α₁ α₂ α₃ α₄ g) (args was α₀ α₁ α₂ α₃ α₄ g) tt r)))) (id⊢ 𝓤 _) $ await ! tt $ pick ! (λ r.
         split ! $ move ! (1 ∷ []) $
         use1 W (some (λ (zs : List ℕ × (List ℕ × (List ℕ × (List ℕ × (ℕ × (Unit {0} × (Unit {0} × (Unit {0} × (Unit {0} × (Unit {0} × (Unit {0}))))))))))). ‵
-        (lasts adding.ended (κs was α₀ α₁ α₂ α₃ α₄ g) (args was α₀ α₁ α₂ α₃ α₄ g) zs) ⊛ raw (fact 𝓤 (Meets r (zs .0) (zs .1 .0) (zs .1 .1 .0) (zs .1 .1 .1 .0)
+        (lasts adding.ended (κs was α₀ α₁ α₂ α₃ α₄ g) (args was α₀ α₁ α₂ α₃ α₄ g) zs) ⊛ raw (fact 𝓤 (Gives r (zs .0) (zs .1 .0) (zs .1 .1 .0) (zs .1 .1 .1 .0)
         (zs .1 .1 .1 .1 .0))))) (id⊢ 𝓤 _) $ pick ! (λ zs.
-        split ! $ move ! (1 ∷ []) $ heard ! (Meets r (zs .0) (zs .1 .0) (zs .1 .1 .0) (zs .1 .1 .1 .0) (zs .1 .1 .1 .1 .0)) (λ e. fsplit ! $
+        split ! $ move ! (1 ∷ []) $ heard ! (Gives r (zs .0) (zs .1 .0) (zs .1 .1 .0) (zs .1 .1 .1 .0) (zs .1 .1 .1 .1 .0)) (λ e. fsplit ! $
         move ! (1 ∷ []) $ fsplit ! $ move ! (1 ∷ []) $ fsplit ! $ move ! (1 ∷ []) $ fsplit ! $ move ! (1 ∷ []) $ fsplit ! $ move ! (6 ∷ []) $ split ! $
         move ! (1 ∷ []) $ peeks ! N.the-row (Is N.the-row) (shows 𝓤 H A N.the-row) r (v ∷ []) (λ is. drop ! $
         -- [the tokens; …; the last values; …; what is owed; the open borrow; obs; auth; the locals]

@@ -92,8 +92,8 @@ module _ {M : Type 1} (𝓤 : URA M) (H : Heap 𝓤) (A : Atoms 𝓤) (W : Given
   Post = walkOf 𝓤 H A f.ended stayed (f.clauses 𝓤 H A at-mem run) .post (((κ, tt), (q, tt), tt, x, at), tt)
 
   -- what `peer_added` says of its result and of what it leaves
-  abbrev Meets : Addition → List ℕ → ℕ → Type 0
-  Meets r xs m =
+  abbrev Gives : Addition → List ℕ → ℕ → Type 0
+  Gives r xs m =
       let s = addPeerOf (peersOf (h .addresses) (h .own) (h .port) (h .«peer_count»)) n in
       (r ≡ additionOf (s .answer))
       × ((xs ≡ s .endpoint .addresses)
@@ -136,7 +136,7 @@ module _ {M : Type 1} (𝓤 : URA M) (H : Heap 𝓤) (A : Atoms 𝓤) (W : Given
         owned ! u32 (Is u32) (uint-makes 𝓤 H A W w32) (h .own) _ (refl, own-fits h was) $ join ! $ move ! (2 ∷ 0 ∷ []) $ join ! $ move ! (1 ∷ 0 ∷ []) $
         join ! $ move ! (1 ∷ 0 ∷ []) $ join ! $ frame ! $ done !
 
-  exits : (r : Addition) (v : Val) (is : Is N.the-row r (v ∷ [])) (xs : List ℕ) (m : ℕ) → Meets r xs m
+  exits : (r : Addition) (v : Val) (is : Is N.the-row r (v ∷ [])) (xs : List ℕ) (m : ℕ) → Gives r xs m
       → ent 𝓤 (⋆ 𝓤 H A (‵ (fobs γ (T.the-row .coded .code (withPeers h xs m))) ∷ ‵ (fbor κ (Body (mem T.the-row) b o γ)) ∷ ‵ (flft κ q) ∷ [])) (Post v)
   exits r v is xs m e =
       qed W (‵ (fobs γ (T.the-row .coded .code (withPeers h xs m))) ∷ ‵ (fbor κ (Body (mem T.the-row) b o γ)) ∷ ‵ (flft κ q) ∷ []) ∵
@@ -187,8 +187,8 @@ module _ {M : Type 1} (𝓤 : URA M) (H : Heap 𝓤) (A : Atoms 𝓤) (W : Given
         (adding.clauses 𝓤 H A at-mem run) (κs was α₀ α₁ g) (args was α₀ α₁ g) tt r)))) (id⊢ 𝓤 _) $ await ! tt $ pick ! (λ r.
         split ! $ move ! (1 ∷ []) $
         use1 W (some (λ (zs : List ℕ × (ℕ × (Unit {0} × (Unit {0} × (Unit {0} × (Unit {0})))))). ‵ (lasts adding.ended (κs was α₀ α₁ g)
-        (args was α₀ α₁ g) zs) ⊛ raw (fact 𝓤 (Meets r (zs .0) (zs .1 .0))))) (id⊢ 𝓤 _) $ pick ! (λ zs.
-        split ! $ move ! (1 ∷ []) $ heard ! (Meets r (zs .0) (zs .1 .0)) (λ e. fsplit ! $ move ! (1 ∷ []) $ fsplit ! $ move ! (3 ∷ []) $ split ! $
+        (args was α₀ α₁ g) zs) ⊛ raw (fact 𝓤 (Gives r (zs .0) (zs .1 .0))))) (id⊢ 𝓤 _) $ pick ! (λ zs.
+        split ! $ move ! (1 ∷ []) $ heard ! (Gives r (zs .0) (zs .1 .0)) (λ e. fsplit ! $ move ! (1 ∷ []) $ fsplit ! $ move ! (3 ∷ []) $ split ! $
         move ! (1 ∷ []) $ peeks ! N.the-row (Is N.the-row) (shows 𝓤 H A N.the-row) r (v ∷ []) (λ is. drop ! $
         -- [the tokens; …; the last values; …; what is owed; the open borrow; obs; auth; the locals]
         land ! (from ! (stop !)) (init ! 20 refl (LL.lawful N.the-type N′.the-laws 𝓤 H A W .typed r _ is .0)) $

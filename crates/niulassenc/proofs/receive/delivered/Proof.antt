@@ -130,8 +130,8 @@ module _ {M : Type 1} (𝓤 : URA M) (H : Heap 𝓤) (A : Atoms 𝓤) (W : Given
   Post = walkOf 𝓤 H A f.ended stayed (f.clauses 𝓤 H A at-mem run) .post ((κs, qs, tt, a, at), tt)
 
   -- what `flat_delivered` says of its result and of the memory's last bytes
-  abbrev Meets : Receipt → List ℕ → Type 0
-  Meets r zs = (r ≡ flatOf (valuesOf (deliveredBy h n x (p .now) (m .now)))) × (zs ≡ m .now)
+  abbrev Gives : Receipt → List ℕ → Type 0
+  Gives r zs = (r ≡ flatOf (valuesOf (deliveredBy h n x (p .now) (m .now)))) × (zs ≡ m .now)
 
   abbrev Cols : Names → Item 𝓤
   Cols g = columns 𝓤 H A W (named 0) κe h b o (Array u16 64) (h .tenants) 804 g
@@ -178,7 +178,7 @@ module _ {M : Type 1} (𝓤 : URA M) (H : Heap 𝓤) (A : Atoms 𝓤) (W : Given
         -- [all arguments; the tokens]
         move ! (1 ∷ 2 ∷ []) $ join ! $ join ! $ frame ! $ done !
 
-  exits : (r : Receipt) (v : Val) (zs : List ℕ) → length zs ≡ length (m .now) → Meets r zs
+  exits : (r : Receipt) (v : Val) (zs : List ℕ) → length zs ≡ length (m .now) → Gives r zs
       → ent 𝓤 (⋆ 𝓤 H A (‵ (flft κe qe) ∷ ‵ (fres γ (T.the-row .coded .code h)) ∷ ‵ Shared ∷ Tokens ∷ ‵ (finally u8 (m .name) zs) ∷ ‵ OwnP
       ∷ ‵ (O.the-row .own r (v ∷ [])) ∷ [])) (Post v)
   exits r v zs l e =
@@ -249,8 +249,8 @@ module _ {M : Type 1} (𝓤 : URA M) (H : Heap 𝓤) (A : Atoms 𝓤) (W : Given
         (ensured 𝓤 H A delivering.ended (delivering.clauses 𝓤 H A at-mem run) κs (args was g) tt r)))) (id⊢ 𝓤 _) $ await ! tt $ pick ! (λ r.
         split ! $ move ! (1 ∷ []) $
         use1 W (some (λ (zs : Unit {0} × (Unit {0} × (Unit {0} × (Unit {0} × (Unit {0} × (Unit {0} × (Unit {0} × (Unit {0} × (List ℕ × Unit {0}))))))))).
-        ‵ (lasts delivering.ended κs (args was g) zs) ⊛ raw (fact 𝓤 (Meets r (zs .1 .1 .1 .1 .1 .1 .1 .1 .0))))) (id⊢ 𝓤 _) $ pick ! (λ zs.
-        split ! $ move ! (1 ∷ []) $ heard ! (Meets r (zs .1 .1 .1 .1 .1 .1 .1 .1 .0))
+        ‵ (lasts delivering.ended κs (args was g) zs) ⊛ raw (fact 𝓤 (Gives r (zs .1 .1 .1 .1 .1 .1 .1 .1 .0))))) (id⊢ 𝓤 _) $ pick ! (λ zs.
+        split ! $ move ! (1 ∷ []) $ heard ! (Gives r (zs .1 .1 .1 .1 .1 .1 .1 .1 .0))
         (λ e. fsplit3 ! $ drop ! $ drop ! $ fsplit3 ! $ drop ! $ drop ! $ fsplit3 ! $ drop ! $ drop ! $ fsplit3 ! $ drop ! $ drop ! $ fsplit ! $ fsplit ! $
         move ! (1 ∷ []) $ feqL ! (λ l.
         move ! (2 ∷ []) $ split ! $ move ! (1 ∷ []) $ peeks ! O.the-row (Is O.the-row) (shows 𝓤 H A O.the-row) r (v ∷ []) (λ is.

@@ -106,8 +106,8 @@ module _ {M : Type 1} (𝓤 : URA M) (H : Heap 𝓤) (A : Atoms 𝓤) (W : Given
   Post = walkOf 𝓤 H A f.ended stayed (f.clauses 𝓤 H A at-mem run) .post ((κs, qs, tt, a, at), tt)
 
   -- what `open` says of its result
-  abbrev Meets : Arrival → Type 0
-  Meets x = x ≡ openedBy h (p .now) n
+  abbrev Gives : Arrival → Type 0
+  Gives x = x ≡ openedBy h (p .now) n
 
   abbrev Addresses : GName → Fml
   Addresses g = Field 𝓤 H A W (Array u32 mostPeers) (named 0) κe (h .addresses) b (o + addressesAt) g
@@ -146,7 +146,7 @@ module _ {M : Type 1} (𝓤 : URA M) (H : Heap 𝓤) (A : Atoms 𝓤) (W : Given
         -- [all arguments; the tokens]
         move ! (1 ∷ 2 ∷ []) $ join ! $ join ! $ frame ! $ done !
 
-  exits : (x : Arrival) (v : Val) → Meets x
+  exits : (x : Arrival) (v : Val) → Gives x
       → ent 𝓤 (⋆ 𝓤 H A (‵ (flft κe qe) ∷ ‵ (fres γ (T.the-row .coded .code h)) ∷ ‵ Shared ∷ Tokens ∷ ‵ OwnP ∷ ‵ (S.the-row .own x (v ∷ [])) ∷ [])) (Post v)
   exits x v e =
       qed W (‵ (flft κe qe) ∷ ‵ (fres γ (T.the-row .coded .code h)) ∷ ‵ Shared ∷ Tokens ∷ ‵ OwnP ∷ ‵ (S.the-row .own x (v ∷ [])) ∷ []) ∵
@@ -198,7 +198,7 @@ module _ {M : Type 1} (𝓤 : URA M) (H : Heap 𝓤) (A : Atoms 𝓤) (W : Given
         use1 W (later (some (λ (x : Arrival). ((‵ (flft κe qe) ⊛ Tokens) ⊛ ‵ (S.the-row .own x (v ∷ []))) ⊛ raw
         (ensured 𝓤 H A opening.ended (opening.clauses 𝓤 H A at-mem run) κs (args was g) tt x)))) (id⊢ 𝓤 _) $ await ! tt $ pick ! (λ x.
         split ! $ move ! (1 ∷ []) $ use1 W (some (λ (zs : Unit {0} × (Unit {0} × (Unit {0} × (Unit {0} × (Unit {0} × (Unit {0} × (Unit {0}))))))). ‵
-        (lasts opening.ended κs (args was g) zs) ⊛ raw (fact 𝓤 (Meets x)))) (id⊢ 𝓤 _) $ pick ! (λ _. split ! $ drop ! $ heard ! (Meets x) (λ e.
+        (lasts opening.ended κs (args was g) zs) ⊛ raw (fact 𝓤 (Gives x)))) (id⊢ 𝓤 _) $ pick ! (λ _. split ! $ drop ! $ heard ! (Gives x) (λ e.
         split ! $ move ! (1 ∷ []) $ peeks ! S.the-row (Is S.the-row) (shows 𝓤 H A S.the-row) x (v ∷ []) (λ is.
         -- [what the result owns; the tokens; the borrow; _7; …; _0; …; res; packet]
         land ! (from ! (stop !)) (init ! 17 refl (LL.lawful S.the-type S′.the-laws 𝓤 H A W .typed x _ is .0)) $

@@ -128,8 +128,8 @@ module _ {M : Type 1} (𝓤 : URA M) (H : Heap 𝓤) (A : Atoms 𝓤) (W : Given
   wrote = wrapOf (lent (h .networks) (h .kinds) (h .owners) [] (h .addresses) (h .own) (h .port) (h .mtu) 0 (h .«binding_count»)) n (p .now) s i (m .now)
 
   -- what `wrapped` says of its result and of the output's last bytes
-  abbrev Meets : Writing → List ℕ → Type 0
-  Meets r zs = (r ≡ writingOf (wrapValuesOf (wrote .answer))) × (zs ≡ wrote .output)
+  abbrev Gives : Writing → List ℕ → Type 0
+  Gives r zs = (r ≡ writingOf (wrapValuesOf (wrote .answer))) × (zs ≡ wrote .output)
 
   abbrev Cols : Names → Item 𝓤
   Cols g = columns 𝓤 H A W (named 0) κe h b o Addresses (h .addresses) addressesAt g
@@ -204,7 +204,7 @@ module _ {M : Type 1} (𝓤 : URA M) (H : Heap 𝓤) (A : Atoms 𝓤) (W : Given
         -- [all arguments; the tokens]
         move ! (1 ∷ 2 ∷ []) $ join ! $ join ! $ frame ! $ done !
 
-  exits : (r : Writing) (v : Val) → Is N.the-row r (v ∷ []) → (zs : List ℕ) → length zs ≡ length (m .now) → Meets r zs
+  exits : (r : Writing) (v : Val) → Is N.the-row r (v ∷ []) → (zs : List ℕ) → length zs ≡ length (m .now) → Gives r zs
       → ent 𝓤 (⋆ 𝓤 H A (‵ (flft κe qe) ∷ ‵ (fres γ (T.the-row .coded .code h)) ∷ ‵ Shared ∷ Tokens ∷ ‵ (finally u8 (m .name) zs) ∷ ‵ OwnP ∷ [])) (Post v)
   exits r v is zs l e =
       let same = wrap-lent h n (p .now) s i (m .now) in
@@ -289,9 +289,9 @@ module _ {M : Type 1} (𝓤 : URA M) (H : Heap 𝓤) (A : Atoms 𝓤) (W : Given
         (ensured 𝓤 H A wrapped.ended (wrapped.clauses 𝓤 H A at-mem run) (κe, (κp, (κm, tt))) (args was g) tt r)))) (id⊢ 𝓤 _) $ await ! tt $ pick ! (λ r.
         -- what `wrapped` ensures, at some last bytes of the output
         split ! $ move ! (1 ∷ []) $ use1 W (some (λ (zs : Unit {0} × (Unit {0} × (Unit {0} × (Unit {0} × (Unit {0} × (Unit {0} × (Unit {0} × (Unit {0} × (Unit {0} × (Unit {0} × (Unit {0} × (Unit {0} × (List ℕ × Unit {0}))))))))))))).
-        ‵ (lasts wrapped.ended (κe, (κp, (κm, tt))) (args was g) zs) ⊛ raw (fact 𝓤 (Meets r (zs .1 .1 .1 .1 .1 .1 .1 .1 .1 .1 .1 .1 .0)))))
+        ‵ (lasts wrapped.ended (κe, (κp, (κm, tt))) (args was g) zs) ⊛ raw (fact 𝓤 (Gives r (zs .1 .1 .1 .1 .1 .1 .1 .1 .1 .1 .1 .1 .0)))))
         (id⊢ 𝓤 _) $ pick ! (λ zs.
-        split ! $ move ! (1 ∷ []) $ heard ! (Meets r (zs .1 .1 .1 .1 .1 .1 .1 .1 .1 .1 .1 .1 .0))
+        split ! $ move ! (1 ∷ []) $ heard ! (Gives r (zs .1 .1 .1 .1 .1 .1 .1 .1 .1 .1 .1 .1 .0))
         (λ e. fsplit3 ! $ drop ! $ drop ! $ fsplit3 ! $ drop ! $ drop ! $ fsplit3 ! $ drop ! $ drop ! $ fsplit3 ! $ drop ! $ drop ! $ fsplit3 ! $ drop ! $
         drop ! $ fsplit3 ! $ drop ! $ drop ! $ fsplit ! $ fsplit ! $ move ! (1 ∷ []) $ feqL ! (λ l.
         move ! (2 ∷ []) $ split ! $ move ! (1 ∷ []) $ peeks ! N.the-row (Is N.the-row) (shows 𝓤 H A N.the-row) r (v ∷ []) (λ is.
