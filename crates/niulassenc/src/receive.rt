@@ -1,4 +1,4 @@
-// Receiving: the three steps, over an endpoint that is lent. Each reads or changes it where it lies.
+// Receiving: the three stages, over an endpoint that is lent. Each reads or changes it where it lies.
 ghost use mathlib.Core.Path.{_≡_};
 ghost use Prim.Native.Nat.{_<_, min};
 ghost use Rattle.endpoint.specs.Answer.{valuesOf};
