@@ -12,7 +12,7 @@ use crate::report::{Finding, Rule};
 use crate::tree::{crate_of, File, Modules, Place, Tree};
 use std::collections::{BTreeSet, HashMap};
 
-/// The crates that rule 6 holds: `endpoint` joins them by its name here.
+/// The crates that rule 6 holds.
 const HELD: [&str; 3] = ["wire", "reassembly", "endpoint"];
 
 pub fn findings(tree: &Tree, modules: &Modules) -> Vec<Finding> {
