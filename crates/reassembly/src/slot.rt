@@ -24,7 +24,7 @@ pub enum FoundSlot {
     Nothing,
 }
 
-pub fn free_slot() -> Slot
+pub(crate) fn free_slot() -> Slot
     ensures { λ r. ⌜ r ≡ free ⌝ }
 {
     Slot {
@@ -56,7 +56,7 @@ fn bears_identifier(slot: Slot, identifier: u32) -> bool
 }
 
 // The lowest slot in which a frame with this identifier is pending.
-pub fn find_pending(row: Peer, identifier: u32) -> FoundSlot
+pub(crate) fn find_pending(row: Peer, identifier: u32) -> FoundSlot
     ensures { λ r. ⌜ r ≡ foundOf (first (bears identifier) (row .slots)) ⌝ }
 {
     let mut s: usize = 0;
@@ -71,7 +71,7 @@ pub fn find_pending(row: Peer, identifier: u32) -> FoundSlot
 }
 
 // The lowest free slot.
-pub fn find_free(row: Peer) -> FoundSlot
+pub(crate) fn find_free(row: Peer) -> FoundSlot
     ensures { λ r. ⌜ r ≡ foundOf (first isFree (row .slots)) ⌝ }
 {
     let mut s: usize = 0;

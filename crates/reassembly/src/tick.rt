@@ -6,7 +6,7 @@ use crate::slot;
 use crate::slot::Peer;
 use crate::slot::Slot;
 
-pub fn older_slot(slot: Slot) -> Slot
+pub(crate) fn older_slot(slot: Slot) -> Slot
     ensures { λ r. ⌜ r ≡ older slot ⌝ }
 {
     if !slot.pending {

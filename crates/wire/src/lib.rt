@@ -1,17 +1,17 @@
 // The wire formats: for each protocol what its bytes mean, a reader that answers an enum, and a writer into a lent output.
-pub mod be;
-pub mod bits;
+mod be;
+mod bits;
 pub mod carriage;
 pub mod frame;
-pub mod head;
+mod head;
 pub mod ipv4;
 pub mod number;
 pub mod nvgre;
-pub mod put;
+mod put;
 pub mod refusal;
 pub mod segment;
 pub mod stt;
-pub mod sum;
+mod sum;
 pub mod udp;
 pub mod vxlan;
 pub mod write;

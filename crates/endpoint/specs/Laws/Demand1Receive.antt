@@ -250,7 +250,8 @@ module _ (e : Endpoint) (m k : List ℕ) (p : ℕ) (g : Seg) (h : headerOf (conf
 -- ---- a refusal
 
 -- too little memory, or what the layers make of the packet
-step-cases : (e : Endpoint) (m k : List ℕ) {a : Received} (P : Step → Type 0) → (R.Dropped D.MemoryTooSmall ≡ a → P (unchanged e 0 m (R.Dropped D.MemoryTooSmall)))
+step-cases : (e : Endpoint) (m k : List ℕ) {a : Received} (P : Step → Type 0) →
+    (R.Dropped D.MemoryTooSmall ≡ a → P (unchanged e 0 m (R.Dropped D.MemoryTooSmall)))
     → ((x : Reading answers) → headerOf (configOf e) k ≡ x → stepped e m x .answer ≡ a → P (stepped e m x)) → stepOf e m k .answer ≡ a → P (stepOf e m k)
 unfolding stepOf
 step-cases e m k P f g q = caseB (ltb (length m) 55296) (λ b. rw b (f (rw b at q))) (λ b. rw b (g (headerOf (configOf e) k) refl (rw b at q)))
@@ -266,7 +267,8 @@ module _ (e : Endpoint) (m k : List ℕ) (d : Drop) where
       → takeAnswer answers (judgeOf (configOf e)) bytesOf p g (takeIn p (rowAt e p) m g) o .reply ≡ R.Dropped d → Refused (stepped e m (segment p g))
   taken p g h (O.Rejected r) q t = let x = take-refused p (rowAt e p) m g r q in same p _ _ (R.Dropped d) (x .0) (x .1)
   taken p g h O.NoMemory q t = let x = take-no-memory p (rowAt e p) m g q in same p _ _ (R.Dropped d) (x .0) (x .1)
-  taken p g h O.Pending q t = let z : R.Pending ≡ R.Dropped d = sym (pending-reply answers (judgeOf (configOf e)) bytesOf p g (takeIn p (rowAt e p) m g)) ∙ t in clash (cc (z))
+  taken p g h O.Pending q t = let z : R.Pending ≡ R.Dropped d = sym (pending-reply answers (judgeOf (configOf e)) bytesOf p g (takeIn p (rowAt e p) m g))
+      ∙ t in clash (cc (z))
   taken p g h (O.Complete s) q t = inr (found-bad e m k p g h s q d (verdict-bad _ _ _ _ d
       (sym (ap (λ (a : Answer answers). a .reply) (complete-reply answers (judgeOf (configOf e)) bytesOf p g (takeIn p (rowAt e p) m g) s)) ∙ t)))
 
@@ -337,9 +339,12 @@ module _ (e : Endpoint) (m k : List ℕ) where
         → takeAnswer answers (judgeOf (configOf e)) bytesOf p g (takeIn p (rowAt e p) m g) o .reply ≡ R.Delivered t place
         → Deliveries t place (stepped e m (segment p g))
     taken-whole p g h (O.Rejected r) q a =
-        let z : R.Dropped (D.Segment r) ≡ R.Delivered t place = sym (rejected-reply answers (judgeOf (configOf e)) bytesOf p g (takeIn p (rowAt e p) m g) r) ∙ a in clash (cc (z))
-    taken-whole p g h O.NoMemory q a = let z : R.Dropped D.MemoryTooSmall ≡ R.Delivered t place = sym (no-memory-reply answers (judgeOf (configOf e)) bytesOf p g (takeIn p (rowAt e p) m g)) ∙ a in clash (cc (z))
-    taken-whole p g h O.Pending q a = let z : R.Pending ≡ R.Delivered t place = sym (pending-reply answers (judgeOf (configOf e)) bytesOf p g (takeIn p (rowAt e p) m g)) ∙ a in clash (cc (z))
+        let z : R.Dropped (D.Segment r) ≡ R.Delivered t place = sym (rejected-reply answers (judgeOf (configOf e)) bytesOf p g (takeIn p (rowAt e p) m g) r)
+        ∙ a in clash (cc (z))
+    taken-whole p g h O.NoMemory q a = let z : R.Dropped D.MemoryTooSmall ≡ R.Delivered t place = sym
+        (no-memory-reply answers (judgeOf (configOf e)) bytesOf p g (takeIn p (rowAt e p) m g)) ∙ a in clash (cc (z))
+    taken-whole p g h O.Pending q a = let z : R.Pending ≡ R.Delivered t place = sym
+        (pending-reply answers (judgeOf (configOf e)) bytesOf p g (takeIn p (rowAt e p) m g)) ∙ a in clash (cc (z))
     taken-whole p g h (O.Complete s) q a =
         let frame : List ℕ = frameIn bytesOf (takeIn p (rowAt e p) m g .mem) (slotNo p s) (g .frame-length) in
         let x = verdict-good (judgeOf (configOf e) p (takeIn p (rowAt e p) m g .note) frame) (slotNo p s) (g .frame-length) frame t place
@@ -366,8 +371,10 @@ module _ (e : Endpoint) (m k : List ℕ) where
 
   taken-part : (p : ℕ) (g : Seg) → headerOf (configOf e) k ≡ segment p g → (o : Outcome) → takeIn p (rowAt e p) m g .outcome ≡ o
       → takeAnswer answers (judgeOf (configOf e)) bytesOf p g (takeIn p (rowAt e p) m g) o .reply ≡ R.Pending → Waiting (stepped e m (segment p g))
-  taken-part p g h (O.Rejected r) q a = let z : R.Dropped (D.Segment r) ≡ R.Pending = sym (rejected-reply answers (judgeOf (configOf e)) bytesOf p g (takeIn p (rowAt e p) m g) r) ∙ a in clash (cc (z))
-  taken-part p g h O.NoMemory q a = let z : R.Dropped D.MemoryTooSmall ≡ R.Pending = sym (no-memory-reply answers (judgeOf (configOf e)) bytesOf p g (takeIn p (rowAt e p) m g)) ∙ a in clash (cc (z))
+  taken-part p g h (O.Rejected r) q a = let z : R.Dropped (D.Segment r) ≡ R.Pending = sym
+      (rejected-reply answers (judgeOf (configOf e)) bytesOf p g (takeIn p (rowAt e p) m g) r) ∙ a in clash (cc (z))
+  taken-part p g h O.NoMemory q a = let z : R.Dropped D.MemoryTooSmall ≡ R.Pending = sym
+      (no-memory-reply answers (judgeOf (configOf e)) bytesOf p g (takeIn p (rowAt e p) m g)) ∙ a in clash (cc (z))
   taken-part p g h O.Pending q a = not-yet e m k p g h q
   taken-part p g h (O.Complete s) q a =
       let frame : List ℕ = frameIn bytesOf (takeIn p (rowAt e p) m g .mem) (slotNo p s) (g .frame-length) in

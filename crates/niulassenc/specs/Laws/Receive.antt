@@ -41,5 +41,9 @@ module _ (e : Endpoint) (m k : List ℕ) (x : Arrival) (is : x ≡ openedBy e k 
   received-out o e′ m′ took r m″ gave =
       let same = turn-is e k m x is in (
         rw (took .0, took .1 .0, took .1 .1) at (gave .0) ∙ ap (λ (s : Step). flatOf (valuesOf (s .answer))) same,
-        (took .1 .0 ∙ (ap (λ (s : Step). withRow e (s .peer) (s .row)) same ∙ sym (receipt-left e (stepOf e m k))), gave .1 ∙ (took .1 .1 ∙ ap (λ (s : Step). s .mem) same)),
+        (
+          took .1 .0 ∙ (ap (λ (s : Step). withRow e (s .peer) (s .row)) same ∙ sym (receipt-left e (stepOf e m k))),
+          gave .1 ∙
+              (took .1 .1 ∙ ap (λ (s : Step). s .mem) same),
+        ),
       )

@@ -128,7 +128,8 @@ module _ (W : Answers) (Config : Type 0) (U : Layers W Config) (p : ℕ) (p< : p
       let l = alike W Config U p p< c promise past s g L h k x e′ in
       let r : getD (set (s .peers) p (o .row)) p noRow ≡ takeSegment ghost p (rowIn s) (g .mem) x .row =
       getD-set-same (s .peers) p (o .row) noRow (omega (arith, h .sim .eightA)) ∙ l .row in
-      rw (m, z, same-outcome W Config U p p< c promise past s g L h k x e′) (rw r (take-stand p (rowIn s) (g .mem) (history-of L C) x (logs-in past s g L h) st)))
+      rw (m, z, same-outcome W Config U p p< c promise past s g L h k x e′)
+      (rw r (take-stand p (rowIn s) (g .mem) (history-of L C) x (logs-in past s g L h) st)))
       (λ m. let n : p ≢ q = λ z. eqb-false q p m (sym z) in
       let r : getD (set (s .peers) q (takeSegment bytesOf q (getD (s .peers) q noRow) (s .mem) x .row)) p noRow ≡ rowIn s =
       getD-set-other (s .peers) q p _ noRow n in
@@ -179,7 +180,8 @@ module _ (W : Answers) (Config : Type 0) (U : Layers W Config) (p : ℕ) (p< : p
 
   -- ---- one more packet, which carries segment x of peer p's
 
-  module _ (past : List Event) (s : State bytesOf) (g : State ghost) (L : Log) (C : ℕ → ℕ) (h : Holding past s g L) (st : Stand (rowIn s .slots) (history-of L C))
+  module _ (past : List Event) (s : State bytesOf) (g : State ghost) (L : Log) (C : ℕ → ℕ) (h : Holding past s g L)
+      (st : Stand (rowIn s .slots) (history-of L C))
       (k : List ℕ) (x : Seg) (e : header k ≡ segment p x) where
     abbrev before : History
     before = history-of L C

@@ -52,7 +52,8 @@ module _ (W : Answers) (judge : ℕ → Note → List ℕ → Verdict W) where
       → Backs packet (takeSegment bytesOf p row m g .mem) (takeAnswer W judge bytesOf p g (takeSegment bytesOf p row m g)
       (takeSegment bytesOf p row m g .outcome))
   take-back p row packet m g lp r o =
-      outcome-back p packet g (takeSegment bytesOf p row m g) (takeSegment bytesOf p row m g .outcome) lp (take-apart bytesOf bytes-laws p lp row m g r o .0 .ok)
+      outcome-back p packet g (takeSegment bytesOf p row m g) (takeSegment bytesOf p row m g .outcome) lp
+      (take-apart bytesOf bytes-laws p lp row m g r o .0 .ok)
       (λ s e. take-complete bytesOf p s row m g e)
 
   -- so what a run's answer has of the packet changes nothing of it

@@ -375,7 +375,8 @@ module _ (p : ℕ) (row : Peer) (m : ℕ → List Piece) (h : History) (lg : Log
       let pieces : m′ (slotNo p s) ≡ map pieceOf (g ∷ h .taken s) = upd-same m (slotNo p s) _ ∙ ap (λ (x : List Piece). pieceOf g ∷ x) (lg .pieces s ls) in
       outcome-by (old s) (chosen-old (row .slots) h st g f s (x .bears) (x .same))
       ∙ rw (apart-overlaps m (slotNo p s) g (h .taken s) (lg .pieces s ls) (x .apart))
-      (finish-outcome s (set (row .slots) s (furtherSlot (getD (row .slots) s free) g)) m′ (noteAfter (noteOf (getD (row .slots) s free)) g) (h .taken s) pieces)
+      (finish-outcome s (set (row .slots) s (furtherSlot (getD (row .slots) s free) g)) m′ (noteAfter (noteOf (getD (row .slots) s free)) g)
+      (h .taken s) pieces)
 
   pub outcome-opens : (s : ℕ) → Opens h g s → takeAnswer ≡ cond (frameComplete (g ∷ [])) (Complete s) Pending
   outcome-opens s x =

@@ -60,7 +60,8 @@ enum-known-read : tie.Need-enum-known-read
 enum-known-read c = search needs
 
 returns-4 : tie.Need-returns-4
-returns-4 c = deliver-bad _ _ _ _ _ _ _ _ _ _ (c .before .before .before .before .before .before .before .before .before .before .before .before .offer2 .given .1)
+returns-4 c = deliver-bad _ _ _ _ _ _ _ _ _ _
+    (c .before .before .before .before .before .before .before .before .before .before .before .before .offer2 .given .1)
     _ (found-some _ _ _ (sym (found (c .before .before .before .before .before .before .before .before .before))
     ∙ c .before .before .before .before .before .before .before .found .given .1)) _ (c .before .before .before .before .view-one .ensures .bytes) _
     (sym (c .before .before .before .read .ensures) ∙ c .before .read2 .given .1)
@@ -86,7 +87,8 @@ cast-t26 : tie.Need-cast-t26
 cast-t26 c = omega (arith, below (c .before))
 
 returns-5 : tie.Need-returns-5
-returns-5 c = deliver-good _ _ _ _ _ _ _ _ _ _ (c .before .before .before .before .before .before .before .before .before .before .before .before .offer2 .given .1)
+returns-5 c = deliver-good _ _ _ _ _ _ _ _ _ _
+    (c .before .before .before .before .before .before .before .before .before .before .before .before .offer2 .given .1)
     _ (found-some _ _ _ (sym (found (c .before .before .before .before .before .before .before .before .before))
     ∙ c .before .before .before .before .before .before .before .found .given .1)) _ (c .before .before .before .before .view-one .ensures .bytes)
     (sym (c .before .before .before .read .ensures) ∙ c .before .enum-told3 .given .1)

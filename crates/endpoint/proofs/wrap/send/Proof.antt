@@ -106,7 +106,8 @@ returns-5 c =
     let a = r .before .before .before .args in
     let n : s .segments-of .result ≡ segmentsOf (a .route .kind) (length (a .frame .now)) (a .route .mtu) = s .segments-of .ensures in
     let h : a .segment < segmentsOf (a .route .kind) (length (a .frame .now)) (a .route .mtu) = omega arith in
-    send-written (a .route) (a .frame .now) (a .segment) (a .identifier) (a .output .now) (sym (r .read .ensures) ∙ m .enum-told .given .1) (sym (x .exceeds .ensures) ∙ i .if1 .left) h _ _ (p .put-packet .ensures) (c .if3 .left) _ n
+    send-written (a .route) (a .frame .now) (a .segment) (a .identifier) (a .output .now) (sym (r .read .ensures) ∙ m .enum-told .given .1)
+    (sym (x .exceeds .ensures) ∙ i .if1 .left) h _ _ (p .put-packet .ensures) (c .if3 .left) _ n
 
 pub send-spec : {M : Type 1} → statement M
 send-spec =

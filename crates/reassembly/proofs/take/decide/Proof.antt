@@ -115,7 +115,9 @@ returns-8 : tie.Need-returns-8
 returns-8 c =
     let in4 = c .before .before .before .before .before .before .before in
     let found = c .before .free .given in
-    decide-open (rowAt in4) (segAt in4) (passed in4) (sym (c .before .before .before .before .enum-told .given .1) ∙ c .before .before .before .before .before .before .find-pending .ensures) (found .0 .0) (sym (found .1) ∙ c .before .before .before .find-free .ensures)
+    decide-open (rowAt in4) (segAt in4) (passed in4) (sym (c .before .before .before .before .enum-told .given .1)
+    ∙ c .before .before .before .before .before .before .find-pending .ensures) (found .0 .0) (sym (found .1)
+    ∙ c .before .before .before .find-free .ensures)
 
 pub decide-spec : {M : Type 1} → statement M
 decide-spec =

@@ -98,7 +98,8 @@ returns-8 : tie.Need-returns-8
 unfolding ipv4Checks
 returns-8 c =
     let sm = c .before .before .before .before .before .before .before in
-    ipv4-accepts _ _ _ _ _ _ (omega (arith, deciding, right sm)) (omega arith) (sm .before .before .before .before .be16 .ensures) (c .before .before .be32 .ensures) (c .before .be322 .ensures) (c .be82 .ensures)
+    ipv4-accepts _ _ _ _ _ _ (omega (arith, deciding, right sm)) (omega arith) (sm .before .before .before .before .be16 .ensures)
+    (c .before .before .be32 .ensures) (c .before .be322 .ensures) (c .be82 .ensures)
 
 pub read-spec : {M : Type 1} → statement M
 read-spec =
