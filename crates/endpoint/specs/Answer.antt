@@ -22,6 +22,8 @@ use Rattle.endpoint.specs.declared.answer.WrapRefusal.the-variants as X
 use Rattle.endpoint.specs.declared.answer.Wrapped.{Wrapped}
 use Rattle.endpoint.specs.declared.answer.Wrapped.the-variants as Y
 
+-- ---- need not be believed: a number for each refusal
+
 abbrev pub dropCode : Drop → ℕ
 dropCode D.MemoryTooSmall = 2
 dropCode (D.Format r) = W.codeOf r
@@ -35,6 +37,8 @@ abbrev pub configCode : ConfigRefusal → ℕ
 configCode C.OutOfRange = 18
 configCode C.AlreadyListed = 19
 configCode C.Full = 20
+
+-- ---- what the calls give back
 
 -- a place as the theory of runs has it
 abbrev pub placeOf : Place → P.Place
@@ -74,12 +78,16 @@ startCode (S.Refused r) = configCode r
 unfoldable pub tickCode : Tick → ℕ
 tickCode T.Done = 0
 
+-- ---- need not be believed: a number for each refusal to write
+
 abbrev pub wrapRefusalCode : WrapRefusal → ℕ
 wrapRefusalCode X.NoBinding = 23
 wrapRefusalCode X.BadFrame = 13
 wrapRefusalCode X.ExceedsMtu = 22
 wrapRefusalCode X.NoSegment = 23
 wrapRefusalCode X.OutputTooShort = 21
+
+-- ---- what writing gives back
 
 -- what writing gives back: its number, and the packet's length and the number of segments. A refusal carries 0 and 0
 pub record WrapValues : Type 0 where

@@ -52,6 +52,8 @@ configOf e = record {
   bindings = min (e .«binding_count») mostBindings;
 }
 
+-- ---- need not be believed: an endpoint with one part changed, or with some parts lent
+
 -- the endpoint with these rows, and all else as it is
 -- Open: a record with one entry changed
 abbrev pub withRows : Endpoint → List Peer → Endpoint
@@ -92,11 +94,13 @@ peersOf addresses own port count = lent [] [] [] [] addresses own port 0 count 0
 unfoldable pub bindingsOf : (networks kinds owners tenants : List ℕ) (peers count : ℕ) → Endpoint
 bindingsOf networks kinds owners tenants peers count = lent networks kinds owners tenants [] 0 0 0 peers count
 
--- ---- lookups: the lowest-numbered one that matches
+-- ---- a peer of the listing
 
 -- the address of peer number i
 unfoldable pub addressAt : Endpoint → ℕ → ℕ
 addressAt e i = getD (e .addresses) i 0
+
+-- ---- need not be believed: lookups. The lowest-numbered one that matches
 
 -- number i of these addresses is this one
 unfoldable pub hasAddress : (addresses : List ℕ) (address : ℕ) → ℕ → Bool
@@ -116,7 +120,7 @@ abbrev pub isSome : Option ℕ → Bool
 isSome none = false
 isSome (some i) = true
 
--- ---- start
+-- ---- need not be believed: start
 
 abbrev pub freeRow : Peer
 freeRow = freePeer
@@ -160,7 +164,7 @@ refusedStart r = record { endpoint = fresh 0 0 0; answer = S.Refused r }
 unfoldable pub startOf : (own port mtu : ℕ) → StartResult
 startOf own port mtu = first refusedStart (startChecks own port mtu) (record { endpoint = fresh own port mtu; answer = S.Done })
 
--- ---- adding: 18, 19, 20 in this order; a refusal changes nothing
+-- ---- need not be believed: adding: 18, 19, 20 in this order; a refusal changes nothing
 
 abbrev pub refusedAdd : Endpoint → ConfigRefusal → AddResult
 refusedAdd e r = record { endpoint = e; answer = A.Refused r }
@@ -231,8 +235,8 @@ addBindingOf e peer kind network tenant =
     first (refusedAdd e) (addBindingChecks e peer kind network tenant)
     (record { endpoint = withBinding e (e .«binding_count») peer kind network tenant; answer = A.Number (e .«binding_count») })
 
--- ---- a tick (document 01, "Reassembly memory"): every pending frame grows older by 1, and those that reach 4 are freed. It changes nothing else, and always
--- succeeds
+-- ---- need not be believed: a tick (document 01, "Reassembly memory"). Every pending frame grows older by 1, and those that reach 4 are freed. It changes
+-- nothing else, and always succeeds
 
 unfoldable pub tickOf : Endpoint → TickResult
 tickOf e = record { endpoint = withRows e (map olderRow (e .peers)); answer = T.Done }

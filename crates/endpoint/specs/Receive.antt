@@ -72,7 +72,7 @@ answers = record {
   gives-is = λ t start n. refl;
 }
 
--- ---- the inner frame: 12, then 13. `networks`, `kinds`, `owners` and `tenants` are the bindings' columns, of which n are listed
+-- ---- need not be believed: the inner frame: 12, then 13. `networks`, `kinds`, `owners` and `tenants` are the bindings' columns, of which n are listed
 
 abbrev pub byFrame : FrameRead → Target → Verdict answers
 byFrame F.Good t = good t
@@ -87,7 +87,7 @@ unfoldable pub innerFrom : (networks kinds owners tenants : List ℕ) (n peer ki
 innerFrom networks kinds owners tenants n peer kind network frame =
     byBinding tenants (lowest (binds networks kinds owners peer kind network) n) (frameOf frame)
 
--- ---- what is made of a packet: checks 3 to 10, and for VXLAN and NVGRE 11 to 13
+-- ---- need not be believed: what is made of a packet: checks 3 to 10, and for VXLAN and NVGRE 11 to 13
 
 -- the answer on a frame that lies at a place
 abbrev pub answerAt : Verdict answers → Place → Received
@@ -129,7 +129,7 @@ bySender c (I.Packet h) = cond (eqb (h .destination) (c .own)) (findPeer c (h .s
 unfoldable pub sourceOf : Config → List ℕ → Option ℕ
 sourceOf c k = bySender c (ipv4Of k)
 
--- ---- what a complete STT frame from peer p is worth: checks 11, 12, 13
+-- ---- need not be believed: what a complete STT frame from peer p is worth: checks 11, 12, 13
 
 abbrev pub byStt : SttRead → (ℕ → Verdict answers) → Verdict answers
 byStt (T.Refused r) next = bad (D.Format r)
@@ -142,10 +142,12 @@ sttFrom networks kinds owners tenants n peer frame =
 unfoldable pub judgeOf : Config → (peer : ℕ) → Note → List ℕ → Verdict answers
 judgeOf c p note frame = sttFrom (c .networks) (c .kinds) (c .owners) (c .tenants) (c .bindings) p frame
 
+-- ---- the three layers of the theory of runs
+
 abbrev pub layers : Layers answers Config
 layers = record { header = headerOf; judge = judgeOf; source = sourceOf }
 
--- ---- one receive, whole: check 2, then what the layers make of the packet
+-- ---- one receive, whole
 
 -- the row of one peer that it leaves, its answer, and the memory that it leaves
 pub record Step : Type 0 where
@@ -157,6 +159,8 @@ pub record Step : Type 0 where
 -- Open: an entry of a list
 abbrev pub rowAt : Endpoint → ℕ → Peer
 rowAt e p = getD (e .peers) p noRow
+
+-- ---- need not be believed: how a receive comes to it. Check 2, then what the layers make of the packet
 
 -- nothing changes: peer p keeps its row
 abbrev pub unchanged : Endpoint → ℕ → List ℕ → Received → Step
@@ -171,6 +175,8 @@ stepped e m (segment p g) =
 
 unfoldable pub stepOf : Endpoint → (memory packet : List ℕ) → Step
 stepOf e m k = cond (ltb (length m) 55296) (unchanged e 0 m (R.Dropped D.MemoryTooSmall)) (stepped e m (headerOf (configOf e) k))
+
+-- ---- what the call gives back
 
 -- peer p's row is this one
 -- Open: a record with one entry changed

@@ -7,6 +7,8 @@ use Rattle.endpoint.specs.declared.search.Lookup.the-variants as F
 unfoldable pub use Rattle.reassembly.specs.Search.{from, lowest}
 pub use Rattle.reassembly.specs.Search.{Lowest}
 
+-- ---- need not be believed: the answer of a lookup
+
 -- as the code answers it: the number, or the refusal where the listing ends
 abbrev pub foundOf : Drop → Option ℕ → Lookup
 foundOf d none = F.Refused d

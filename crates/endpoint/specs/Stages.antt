@@ -41,7 +41,8 @@ use Rattle.endpoint.specs.declared.receive.Offer.the-variants as B
 use Rattle.endpoint.specs.declared.receive.Changed.{Changed}
 use Rattle.reassembly.specs.Slots.{mostPeers, mostSlots}
 
--- ---- a packet is opened: check 2, then 3 to 10, and 11 for VXLAN and NVGRE. `room` is the memory's length, and `peers` of the addresses are listed
+-- ---- need not be believed: a packet is opened: check 2, then 3 to 10, and 11 for VXLAN and NVGRE. `room` is the memory's length, and `peers` of the
+-- addresses are listed
 
 -- what a listed peer's packet brings, by what it carries
 abbrev pub carriedFrom : (start end : ℕ) → Carried → Content
@@ -77,7 +78,7 @@ openIp (I.Packet h) next = next h
 unfoldable pub openOf : (addresses : List ℕ) (own port peers : ℕ) → (packet : List ℕ) → (room : ℕ) → Arrival
 openOf addresses own port peers k room = cond (ltb room 55296) (fromOther D.MemoryTooSmall) (openIp (ipv4Of k) (openHeader addresses own port peers k))
 
--- ---- a segment is taken: 14 to 17, then 11 where the frame is complete
+-- ---- need not be believed: a segment is taken: 14 to 17, then 11 where the frame is complete
 
 -- a complete STT frame that lies in the memory from `at` on
 abbrev pub sttOffer : (at size : ℕ) → SttRead → Offer
@@ -140,7 +141,7 @@ takeContent peer row k m (A.Segment d) = takenFrom peer row k m d
 unfoldable pub takeOf : Peer → Arrival → (packet memory : List ℕ) → Change
 takeOf row a k m = takeContent (a .peer) row k m (a .content)
 
--- ---- a frame is delivered: 12, then 13. `networks`, `kinds`, `owners` and `tenants` are the bindings' columns, of which n are listed
+-- ---- need not be believed: a frame is delivered: 12, then 13. `networks`, `kinds`, `owners` and `tenants` are the bindings' columns, of which n are listed
 
 unfoldable pub deliverOf : (networks kinds owners tenants : List ℕ) (n peer : ℕ) → Offer → (packet memory : List ℕ) → Received
 deliverOf networks kinds owners tenants n peer (B.Refused d) k m = R.Dropped d
@@ -148,7 +149,7 @@ deliverOf networks kinds owners tenants n peer B.Pending k m = R.Pending
 deliverOf networks kinds owners tenants n peer (B.Frame f) k m =
     answerAt (innerFrom networks kinds owners tenants n peer (f .kind) (f .network) (viewOf k m (placeOf (f .place)))) (f .place)
 
--- ---- with an endpoint's own columns
+-- ---- need not be believed: with an endpoint's own columns
 
 -- Open: a short name: a stage with an endpoint's own columns
 abbrev pub openedBy : Endpoint → (packet : List ℕ) → (room : ℕ) → Arrival

@@ -17,6 +17,8 @@ use Rattle.reassembly.specs.Take.{Choice, reject, old, fresh, chosen, rejection
 use Rattle.reassembly.specs.Store.{bitAt, setBits}
 use Rattle.endpoint.specs.Wrap.{segmentsOf, segmentSize, packetOf}
 
+-- ---- examples: nothing rests on them
+
 -- T, our own address 10.0.0.1 and the peer's 10.0.0.2
 abbrev T : List ℕ
 T = 0x02 ∷ 0x00 ∷ 0x00 ∷ 0x00 ∷ 0x00 ∷ 0x02 ∷ 0x02 ∷ 0x00 ∷ 0x00 ∷ 0x00 ∷ 0x00 ∷ 0x01 ∷ 0x88 ∷ 0xb5 ∷ []

@@ -32,14 +32,15 @@ segmentsOf kind size mtu =
     pick (eqb kind 1) 1 (pick (eqb kind 2) 1
     (pick (eqb (capacity mtu) 0) 0 ((18 + size + capacity mtu - 1) / capacity mtu)))
 
--- where segment k begins, and how many bytes it carries
+-- ---- need not be believed: where segment k begins, and how many bytes it carries
+
 abbrev pub segmentStart : (mtu k : ℕ) → ℕ
 segmentStart mtu k = k * capacity mtu
 
 abbrev pub segmentSize : (size mtu k : ℕ) → ℕ
 segmentSize size mtu k = min (18 + size) (segmentStart mtu k + capacity mtu) - segmentStart mtu k
 
--- ---- the packet. A listed VNI or VSID has 24 bits; of any other number the lowest 32 are taken
+-- ---- need not be believed: the packet. A listed VNI or VSID has 24 bits; of any other number the lowest 32 are taken
 
 abbrev pub low32 : ℕ → ℕ
 low32 x = x % 4294967296
@@ -59,7 +60,7 @@ abbrev pub isBad : FrameRead → Bool
 isBad F.Good = false
 isBad (F.Refused r) = true
 
--- ---- the call: 23 (binding), 13, 22, 23 (segment), 21 in this order
+-- ---- a binding of the endpoint
 
 -- binding b of the endpoint: its kind, its network, its peer's number and address
 -- Open: an entry of a list
@@ -75,6 +76,8 @@ ownerAt e b = getD (e .owners) b 0
 abbrev pub peerAt : Endpoint → ℕ → ℕ
 peerAt e b = getD (configOf e .addresses) (ownerAt e b) 0
 
+-- ---- need not be believed: the checks of the call: 23 (binding), 13, 22, 23 (segment), 21 in this order
+
 abbrev pub packetAt : Endpoint → (b : ℕ) (frame : List ℕ) (segment identifier : ℕ) → List ℕ
 packetAt e b frame segment identifier = packetOf (kindAt e b) (e .own) (peerAt e b) (e .port) (networkAt e b) (e .mtu) frame segment identifier
 
@@ -89,10 +92,14 @@ wrapChecks e b frame segment identifier output =
     ∷ (ltb (length output) (length (packetAt e b frame segment identifier)) ⇒ X.OutputTooShort)
     ∷ []
 
+-- ---- what the call leaves
+
 -- the answer, and the output that it leaves: the packet at its front, and nothing else changed; or the output as it came
 pub record Wrote : Type 0 where
   pub answer : Wrapped
   pub output : List ℕ
+
+-- ---- need not be believed: the call
 
 abbrev pub refusedWrap : List ℕ → WrapRefusal → Wrote
 refusedWrap output r = record { answer = Y.Refused r; output = output }
@@ -105,7 +112,7 @@ wrapOf e b frame segment identifier output =
       output = wrote output (packetAt e b frame segment identifier);
     })
 
--- ---- the call once the binding is found, as the code makes it: 13, 22, 23 (segment), 21
+-- ---- need not be believed: the call once the binding is found, as the code makes it: 13, 22, 23 (segment), 21
 
 -- the packet on a route
 abbrev pub packetOn : Route → (frame : List ℕ) (segment identifier : ℕ) → List ℕ
@@ -130,7 +137,7 @@ module _ (t : Route) (frame : List ℕ) (segment identifier : ℕ) (output : Lis
   unfoldable pub sendOf : Wrote
   sendOf = first (refusedWrap output) sendChecks sent
 
--- ---- what is put at the front of an output: the packet if there is room for it, or else nothing
+-- ---- need not be believed: what is put at the front of an output: the packet if there is room for it, or else nothing
 
 abbrev pub Put : (packet old new : List ℕ) (r : ℕ) → Type 0
 Put packet old new r = Written (leb (length packet) (length old)) packet old new r

@@ -135,7 +135,7 @@ pub record Opens (h : History) (g : Seg) (s : ℕ) : Type 0 where
 abbrev pub Gathers : History → Seg → List Seg → Type 0
 Gathers h g gs = ((s : ℕ) × (Bears h (g .identifier) s × (gs ≡ g ∷ h .taken s))) ⊎ ((s : ℕ) × (Opens h g s × (gs ≡ g ∷ [])))
 
--- ---- the history of a run. How it is kept need not be believed: `EveryRun` (EveryRun.antt) gives it anew after every event, from what it was before
+-- ---- need not be believed: how the history of a run is kept. `EveryRun` (EveryRun.antt) gives it anew after every event, from what it was before
 
 abbrev pub Log : Type 0
 Log = ℕ → List Seg
@@ -172,6 +172,8 @@ restarted c x Pending = restarts c x
 restarted c x (Complete s) = restarts c x
 restarted c x NoMemory = c
 
+-- ---- a tick, for each slot; and what taking a segment gives in a run
+
 abbrev pub onceMore : (ℕ → ℕ) → ℕ → ℕ
 onceMore c t = c t + 1
 
@@ -180,6 +182,8 @@ module _ (W : Answers) (Config : Type 0) (U : Layers W Config) (p : ℕ) where
   -- Open: short for `takeIn` with the row and the memory of a world
   abbrev pub taking : World Config → Seg → Effect bytesOf
   taking w g = takeIn p (getD (w .ends .peers) p noRow) (w .mem) g
+
+  -- ---- need not be believed: the history, kept event by event
 
   abbrev pub logSeen : World Config → Log → Reading W → Log
   logSeen w L (otherSender a) = L
@@ -216,6 +220,8 @@ module _ (W : Answers) (Config : Type 0) (U : Layers W Config) (p : ℕ) where
 
   abbrev pub historyOf : World Config → List Event → History
   historyOf w es = record { taken = takenSince w es; ticks = ticksSince w es }
+
+  -- ---- what came in a run
 
   -- a segment that some packet of the run carries, which is peer p's and sound
   pub record CameIn (c : Config) (es : List Event) (g : Seg) : Type 0 where

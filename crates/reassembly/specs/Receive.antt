@@ -60,9 +60,13 @@ pub data Event : Type 0 where
   receive : List ℕ → Event
   tick : Event
 
+-- ---- need not be believed: peer p's row, as taking finds it
+
 -- peer p's row, among the eight: a frame's key is its peer and its identifier
 abbrev pub rowOf : ℕ → ℕ
 rowOf p = p
+
+-- ---- answers, and what is answered to a segment
 
 module _ (W : Answers) where
   -- an answer, as demand 3 has it: what the receive gives back, and the bytes handed back before the next receive

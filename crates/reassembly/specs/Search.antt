@@ -14,11 +14,15 @@ module _ (test : ℕ → Bool) where
   unfoldable pub lowest : ℕ → Option ℕ
   lowest n = from 0 n
 
+  -- ---- need not be believed: what the search finds, for its laws
+
   -- what is found is below the bound, passes, and no lower one does
   pub record Lowest (n i : ℕ) : Type 0 where
     pub below : i < n
     pub passes : test i ≡ true
     pub least : (j : ℕ) → j < i → test j ≡ false
+
+-- ---- what was found
 
 -- what was found, or 0
 unfoldable pub found : Option ℕ → ℕ

@@ -25,6 +25,8 @@ unfoldable pub isPeer : ℕ → Option ℕ → Bool
 isPeer p none = false
 isPeer p (some q) = eqb q p
 
+-- ---- need not be believed: what a configuration's layers promise
+
 unfoldable pub peerOf : (W : Answers) → Reading W → Option ℕ
 peerOf W (otherSender a) = none
 peerOf W (direct q a) = some q
@@ -40,6 +42,8 @@ Kept W (segment q g) = q < 8
 pub record Promised (W : Answers) (Config : Type 0) (U : Layers W Config) (c : Config) : Type 0 where
   pub kept : (k : List ℕ) → Kept W (U .header c k)
   pub whose : (k : List ℕ) → peerOf W (U .header c k) ≡ U .source c k
+
+-- ---- the endpoint with its memory, and the packets of a run
 
 -- other senders' packets struck out, where `own` says of a packet that it is the peer's
 abbrev pub keeps : (List ℕ → Bool) → Event → Bool
@@ -60,6 +64,8 @@ pub record World (Config : Type 0) : Type 0 where
   pub ends : Endpoint Config
   pub mem : List ℕ
 
+-- ---- need not be believed: a set-up. The crate above has its own, `setUp`
+
 module _ (Config Adding : Type 0) (adds : Config → Adding → Config) where
   -- adding calls, of which only the configuration's part matters here: they leave the rows. A refused one gives the configuration back
   abbrev pub added : Endpoint Config → List Adding → Endpoint Config
@@ -71,10 +77,14 @@ module _ (Config Adding : Type 0) (adds : Config → Adding → Config) where
   abbrev pub setUp : Config → List Adding → Endpoint Config
   setUp c as′ = added (record { config = c; peers = emptyRows }) as′
 
+-- ---- a receive, a tick, and a run of them
+
 module _ (W : Answers) (Config : Type 0) (U : Layers W Config) where
   pub record Replied : Type 0 where
     pub reply : W .A
     pub world : World Config
+
+  -- ---- need not be believed: how a receive comes to it
 
   -- one receive: what it answers, the endpoint and the memory that it leaves. Check 2 is first
   unfoldable pub receiveBy : World Config → Reading W → Replied
@@ -89,6 +99,8 @@ module _ (W : Answers) (Config : Type 0) (U : Layers W Config) where
 
   unfoldable pub receives : World Config → List ℕ → Replied
   receives w k = cond (ltb (length (w .mem)) 55296) (record { reply = W .tooSmall; world = w }) (receiveBy w (U .header (w .ends .config) k))
+
+  -- ---- a run and its answers
 
   -- a receive or a tick, and a run of them: each gets the endpoint and the memory that the last one left
   unfoldable pub next : World Config → Event → World Config

@@ -39,12 +39,16 @@ noted n at k = n
 abbrev pub free : Slot
 free = record { identifier = 0; «frame_length» = 0; age = 0; pending = false }
 
+-- ---- need not be believed: a slot with a pending frame
+
 -- a slot with a pending frame: its identifier, its length, its age, and what is noted of its segments
 abbrev pub pendingSlot : ℕ → ℕ → ℕ → Note → Slot
 pendingSlot identifier size age note = record { identifier = identifier; «frame_length» = size; age = age; pending = true }
 
 unfoldable pub noteOf : Slot → Note
 noteOf s = noNote
+
+-- ---- no row, and how many there are
 
 -- no row: what a list of rows has past its end
 -- Open: only data
@@ -59,6 +63,8 @@ mostPeers = 8
 -- Open: a numeral
 abbrev pub mostSlots : ℕ
 mostSlots = 4
+
+-- ---- need not be believed: rows with every slot free, and ageing
 
 -- a row with every slot free, a peer record with it, and the eight of them that a set-up leaves
 abbrev pub emptyRow : List Slot
@@ -82,7 +88,7 @@ older s = cond (s .pending) (cond (ltb (s .age + 1) lifetime) (pendingSlot (s .i
 unfoldable pub olderRow : Peer → Peer
 olderRow r = record { slots = map older (r .slots) }
 
--- ---- the search of a row, by number, lowest first
+-- ---- need not be believed: the search of a row, by number, lowest first
 
 unfoldable pub first : (Slot → Bool) → List Slot → Option ℕ
 first f l =

@@ -11,6 +11,8 @@ use Rattle.reassembly.specs.Slots.{Peer, noNote, free, mostPeers}
 use Rattle.reassembly.specs.Take.{Ops, Seg, NoMemory, Effect, slotNo, takeSegment, complete, Complete, Pending}
 use Rattle.reassembly.specs.declared.take.Taken.{Taken}
 
+-- ---- need not be believed: the map's bits
+
 -- bit j of the number x
 unfoldable pub isOn : ℕ → ℕ → Bool
 isOn x j = eqb (x / 2 ^ j % 2) 1
@@ -26,9 +28,12 @@ unfoldable pub setBits : List ℕ → ℕ → ℕ → ℕ → List ℕ
 setBits m b a zero = m
 setBits m b a (suc n) = setBit (setBits m b a n) b (a + n)
 
--- the bytes of a slot, of the frame in it, of its map, and of the slots of all peers
+-- ---- the bytes of a slot
+
 abbrev pub slotSize : ℕ
 slotSize = 1728
+
+-- ---- need not be believed: the bytes of the frame in it, of its map, and of the slots of all peers
 
 abbrev pub frameSize : ℕ
 frameSize = 1536
@@ -39,9 +44,13 @@ mapSize = 192
 abbrev pub memorySize : ℕ
 memorySize = 55296
 
+-- ---- where a slot starts
+
 -- slot k: its first byte, and its map's
 unfoldable pub slotStart : ℕ → ℕ
 slotStart k = k * slotSize
+
+-- ---- need not be believed: the memory as taking asks it, and what `take` gives over it
 
 unfoldable pub mapStart : ℕ → ℕ
 mapStart k = k * slotSize + frameSize

@@ -57,7 +57,7 @@ module _ (peer : ℕ) (row : Peer) (memory : List ℕ) (g : Seg) where
   unfoldable pub completeFrame : List ℕ
   completeFrame = table (g .frame-length) (λ i. cond (carried i) (getD (g .bytes) (i - g .offset) 0) (getD memory (start + i) 0))
 
--- ---- THE STATEMENT
+-- ---- need not be believed: THE STATEMENT of taking, and its words
 
 -- the number of what taking gave: a rejection's, 1 of a pending frame, and what is made of a complete one, by its bytes in the memory
 unfoldable pub takenNumber : (List ℕ → ℕ) → (peer : ℕ) → Seg → Effect bytesOf → Outcome → ℕ

@@ -62,7 +62,7 @@ pub record Ops : Type 1 where
   pub clear : S → ℕ → S
   pub put : S → ℕ → ℕ → List ℕ → S
 
--- ---- the decision: rejected, or for the frame pending in a slot, or for a new frame in a slot
+-- ---- need not be believed: the decision: rejected, or for the frame pending in a slot, or for a new frame in a slot
 
 pub data Choice : Type 0 where
   reject : Rejection → Choice
@@ -106,11 +106,13 @@ decisionOf (reject r) = Reject r
 decisionOf (old s) = Further s
 decisionOf (fresh s) = Open s
 
--- ---- the effect
+-- ---- a slot's number
 
 -- slot s of peer p, among the 32
 unfoldable pub slotNo : ℕ → ℕ → ℕ
 slotNo p s = mostSlots * p + s
+
+-- ---- need not be believed: the effect
 
 -- how many bytes of a segment check 16 looks at: all
 abbrev pub testedBytes : Seg → ℕ
@@ -120,8 +122,12 @@ testedBytes g = length (g .bytes)
 abbrev pub storedBytes : Seg → List ℕ
 storedBytes g = g .bytes
 
+-- ---- the note once a segment is taken
+
 abbrev pub noteAfter : Note → Seg → Note
 noteAfter t g = noted t (g .offset) (g .mark)
+
+-- ---- need not be believed: the effect, further
 
 -- what a slot holds once its first segment is taken; and once a further one is: only its note changes
 abbrev pub openedSlot : Seg → Slot

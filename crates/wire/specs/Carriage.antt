@@ -32,7 +32,7 @@ Tunnels kind protocol source destination id frame payload =
     ((kind ≡ 1) × (protocol ≡ 17) × IsVxlanUdp source destination id frame payload)
     ⊎ ((kind ≡ 2) × (protocol ≡ 47) × IsNvgre id frame payload)
 
--- ---- what the reader answers
+-- ---- need not be believed: what the reader answers
 
 unfoldable pub carriageOf : (protocol source destination port : ℕ) → List ℕ → Carried
 carriageOf protocol source destination port s =
@@ -41,8 +41,8 @@ carriageOf protocol source destination port s =
     (pick (eqb protocol 6) (segmentOf source destination port s)
     (C.Refused R.Protocol)))
 
--- ---- THE STATEMENT: every payload that carries a frame or a segment is read, as what it says and where it lies; what is read is one; what document 01 ignores
--- does not count
+-- ---- need not be believed: THE STATEMENT of this reader. Every payload that carries a frame or a segment is read, as what it says and where it lies; what is
+-- read is one; what document 01 ignores does not count
 
 -- the reader answers the network, and where the frame lies
 pub record TunnelRead (read : Carried) (kind id : ℕ) (frame payload : List ℕ) : Type 0 where

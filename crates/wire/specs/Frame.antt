@@ -18,6 +18,8 @@ pub record IsFrame (frame : List ℕ) : Type 0 where
   pub no-tag : beAt frame 12 2 ≢ 0x8100
   pub no-service-tag : beAt frame 12 2 ≢ 0x88A8
 
+-- ---- need not be believed: what the reader answers, and its statement
+
 -- The check 13 of document 01.
 unfoldable pub frameChecks : List ℕ → List (Check Refusal)
 frameChecks s =

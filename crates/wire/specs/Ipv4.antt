@@ -73,6 +73,8 @@ pub record IsIpv4 (source destination protocol : ℕ) (payload packet : List ℕ
   pub destination-is : f .destination ≡ destination
   pub protocol-is : f .protocol ≡ protocol
 
+-- ---- need not be believed: what the reader answers, and its statement
+
 -- Fields of the header at a packet's front, by their places.
 abbrev pub versionAt : List ℕ → ℕ
 versionAt s = beAt s 0 1 / 16

@@ -94,7 +94,7 @@ sttFields context =
     ∷ field 16 2 0  -- padding
     ∷ []
 
--- ---- THE STATEMENT: what is written is laid out so, for all numbers that fit their fields
+-- ---- the packets, laid out so
 
 abbrev pub VxlanLaidOut : (source destination vni : ℕ) (frame packet : List ℕ) → Type 0
 VxlanLaidOut source destination vni frame packet = LaidOut 0 (vxlanFields source destination vni frame packet) frame packet
@@ -110,6 +110,8 @@ abbrev pub SegmentLaidOut : (source destination port offset end identifier : ℕ
 SegmentLaidOut source destination port offset end identifier last frame whole packet =
     LaidOut 0 (segmentFields source destination (portOf frame) port (length whole) offset identifier last (part whole offset end) packet)
     (part whole offset end) packet
+
+-- ---- need not be believed: THE STATEMENT of the builders. What they build is laid out so, for all numbers that fit their fields
 
 pub record Layouts : Type 0 where
   pub vxlan : (source destination vni : ℕ) (frame : List ℕ)

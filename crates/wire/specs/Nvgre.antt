@@ -28,6 +28,8 @@ pub record IsNvgre (vsid : ℕ) (frame payload : List ℕ) : Type 0 where
   pub low-fits : low < 32
   pub vsid-fits : vsid < 256 ^ 3
 
+-- ---- need not be believed: what the reader answers
+
 -- The checks 9 and 11 of document 01, in their order.
 unfoldable pub nvgreChecks : List ℕ → List (Check Refusal)
 nvgreChecks s =

@@ -3,6 +3,8 @@ use Prim.Native.Nat.{ℕ}
 use Rattle.wire.specs.declared.refusal.Refusal.{Refusal}
 use Rattle.wire.specs.declared.refusal.Refusal.the-variants as R
 
+-- ---- need not be believed: a number for each cause
+
 unfoldable pub codeOf : Refusal → ℕ
 -- 3: under 20 bytes; version not 4; header length under 5 words; total length below the header or above the bytes given
 codeOf R.Truncated = 3

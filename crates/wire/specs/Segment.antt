@@ -65,6 +65,8 @@ pub record IsSegment (source destination port frameLength offset identifier : �
   pub offset-is : f .offset ≡ offset
   pub identifier-is : f .identifier ≡ identifier
 
+-- ---- need not be believed: what the reader answers
+
 abbrev pub wordsAt : List ℕ → ℕ
 wordsAt s = beAt s 12 1 / 16
 

@@ -39,6 +39,8 @@ pub record IsStt (context : ℕ) (frame whole : List ℕ) : Type 0 where
   pub not-both : flags % 4 ≢ 3
   pub context-fits : context < 256 ^ 8
 
+-- ---- need not be believed: what the reader answers, and its statement
+
 -- The check 11 of document 01. A complete frame has at least 32 bytes.
 unfoldable pub sttChecks : List ℕ → List (Check Refusal)
 sttChecks s =

@@ -157,7 +157,7 @@ sttRows frame = (beAt frame 0 1 isnt 0 || beAt frame 1 1 % 4 is 3 ⇒ 11) ∷ []
 unfoldable pub badFrame : (frame : List ℕ) → Bool
 badFrame frame = length frame below 14 || length frame above 1514 || beAt frame 12 2 is 0x8100 || beAt frame 12 2 is 0x88A8
 
--- ---- THE STATEMENT
+-- ---- need not be believed: THE STATEMENT of the readers, and its words
 
 -- the number of what a reader answers: a refusal's, and what is made of what was read
 -- Open: a match on `Ipv4Read`, with what the reader of the page makes of each case

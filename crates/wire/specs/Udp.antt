@@ -29,6 +29,8 @@ pub record IsUdp (source destination port : ℕ) (payload datagram : List ℕ) :
   pub size-fits : 8 + length payload < 256 ^ 2
   pub checksum-fits : checksum < 256 ^ 2
 
+-- ---- need not be believed: what the reader answers
+
 -- The sum by which a datagram is judged: all ones where there is no checksum.
 unfoldable pub udpSum : (source destination : ℕ) → List ℕ → ℕ
 udpSum source destination s =

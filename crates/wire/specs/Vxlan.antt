@@ -27,6 +27,8 @@ pub record IsVxlan (vni : ℕ) (frame payload : List ℕ) : Type 0 where
   pub flags-fit : flags < 256
   pub vni-fits : vni < 256 ^ 3
 
+-- ---- need not be believed: what the reader answers
+
 abbrev pub vniAt : List ℕ → ℕ
 vniAt s = beAt s 4 3
 

@@ -15,7 +15,7 @@ use Rattle.wire.specs.Nvgre.{gre}
 use Rattle.wire.specs.Stt.{stt}
 use Rattle.wire.specs.Segment as S
 
--- ---- the outer IPv4 header (RFC 791, 3.1)
+-- ---- need not be believed: the outer IPv4 header (RFC 791, 3.1)
 
 -- no options, service and identification 0, don't fragment (flags word 0x4000), time to live 64
 abbrev pub plain : (protocol size source destination checksum : ℕ) → I.Header
@@ -48,7 +48,7 @@ ipv4Head protocol size source destination = I.header (outer protocol size source
 unfoldable pub packet : (protocol source destination : ℕ) → List ℕ → List ℕ
 packet protocol source destination payload = ipv4Head protocol (20 + length payload) source destination ++ payload
 
--- ---- what it carries
+-- ---- need not be believed: what it carries
 
 -- the source port of VXLAN and STT: 49,152 and the plain sum of the seven words of the first 14 inner bytes modulo 16,384
 unfoldable pub sourcePort : List ℕ → ℕ
@@ -66,7 +66,7 @@ nvgreBody vsid frame = gre 0 0 vsid 0 frame
 unfoldable pub sttFrame : (context : ℕ) → List ℕ → List ℕ
 sttFrame context frame = stt 0 0 0 0 0 0 context 0 frame
 
--- ---- a segment of an STT frame (draft-davie-stt-06, 3.2)
+-- ---- need not be believed: a segment of an STT frame (draft-davie-stt-06, 3.2)
 
 -- ACK, and PSH besides on a frame's last segment
 unfoldable pub flagsOf : Bool → ℕ
@@ -109,7 +109,7 @@ segmentBody source destination port context identifier offset count last frame =
     (segmentBytes context offset count frame))
     ++ segmentBytes context offset count frame
 
--- ---- whole packets
+-- ---- need not be believed: whole packets
 
 unfoldable pub vxlanPacket : (source destination vni : ℕ) → List ℕ → List ℕ
 vxlanPacket source destination vni frame = packet 17 source destination (vxlanBody vni frame)
@@ -121,7 +121,7 @@ unfoldable pub segmentPacket : (source destination port context identifier offse
 segmentPacket source destination port context identifier offset count last frame =
     packet 6 source destination (segmentBody source destination port context identifier offset count last frame)
 
--- ---- when a packet is written: the frame has its Ethernet header, the numbers fit 16 bits, and the output has room
+-- ---- need not be believed: when a packet is written: the frame has its Ethernet header, the numbers fit 16 bits, and the output has room
 
 -- `headers` bytes in front of a frame of n bytes
 unfoldable pub fitChecks : (headers n room : ℕ) → List (Check (Unit {0}))

@@ -135,9 +135,9 @@ fn is_proof(file: &File, declared: &Declaration) -> bool {
 }
 
 /// The words in backquotes, with the ends of paths: `Sum.total` names `total`.
-fn words_of_documents(documents: &[String]) -> HashSet<String> {
+fn words_of_documents(documents: &[(String, String)]) -> HashSet<String> {
     let mut words = HashSet::new();
-    for document in documents {
+    for (_, document) in documents {
         for code in document.split('`').skip(1).step_by(2) {
             words.extend(
                 antt(code)
@@ -197,7 +197,7 @@ mod tests {
         let tree = Tree {
             sources,
             edits,
-            documents: vec![document.to_string()],
+            documents: vec![("README.md".to_string(), document.to_string())],
             crates: Vec::new(),
         };
         let files = tree.files();

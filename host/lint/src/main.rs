@@ -4,10 +4,11 @@
 //!
 //! Each finding is printed as `file:line: what`, then how many there are of each rule. The status
 //! is 1 if something was found that is no note. `--notes` prints the notes one by one, `--strict`
-//! refuses long lines. What a machine can mend: `--fix` takes unused imports out and breaks long
-//! comments and imports, `--prune` takes out what nobody cites, `--break` breaks long lines of
-//! antt (run `rt fmt` behind it).
+//! refuses long lines. What a machine can mend: `--fix` takes unused imports out, breaks long
+//! comments and imports and writes how many lines are to be believed, `--prune` takes out what
+//! nobody cites, `--break` breaks long lines of antt (run `rt fmt` behind it).
 
+mod believed;
 mod breaking;
 mod cited;
 mod columns;
@@ -67,6 +68,7 @@ fn findings(tree: &Tree) -> Vec<Finding> {
     found.extend(layers::findings(tree, &modules));
     found.extend(edits::inapplicable(&tree.edits, &tree.sources));
     found.extend(layers::open(tree, &modules));
+    found.extend(believed::findings(tree, &files));
     found.extend(columns::findings(&tree.sources));
     found.sort();
     found
@@ -78,6 +80,7 @@ fn mend(options: &Options) -> std::io::Result<()> {
     let mut changed = 1;
     while changed > 0 {
         changed = fix::fix(root, &Tree::load(root)?)?;
+        changed += believed::fix(root, &Tree::load(root)?)?;
         if options.prune {
             changed += prune::prune(root, &Tree::load(root)?)?;
         }

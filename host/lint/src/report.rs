@@ -13,11 +13,13 @@ pub enum Rule {
     Open,
     /// Those that no crate above names, or whose crate is not held to it.
     OpenUnnamed,
+    /// Numbers of the documents that are not those counted.
+    Believed,
     Columns,
 }
 
 impl Rule {
-    pub const ALL: [Rule; 8] = [
+    pub const ALL: [Rule; 9] = [
         Rule::Imports,
         Rule::Uncited,
         Rule::Storeys,
@@ -25,6 +27,7 @@ impl Rule {
         Rule::Edits,
         Rule::Open,
         Rule::OpenUnnamed,
+        Rule::Believed,
         Rule::Columns,
     ];
 
@@ -37,11 +40,12 @@ impl Rule {
         match self {
             Rule::Imports => "unused imports",
             Rule::Uncited => "declarations that nobody cites",
-            Rule::Storeys => "imports from the second storey",
+            Rule::Storeys => "imports from the second storey, or proofs in the first",
             Rule::Layers => "definitions of a lower crate unfolded",
             Rule::Edits => "must-fail edits that do not apply",
             Rule::Open => "`abbrev pub` that crates above see through, with no reason given",
             Rule::OpenUnnamed => "`abbrev pub` of lower crates that are no type and have no reason",
+            Rule::Believed => "lines to be believed that the documents do not count so",
             Rule::Columns => "lines over 160 columns",
         }
     }

@@ -91,7 +91,8 @@ impl<'a> File<'a> {
 pub struct Tree {
     pub sources: Vec<Source>,
     pub edits: Vec<Edit>,
-    pub documents: Vec<String>,
+    /// By their paths.
+    pub documents: Vec<(String, String)>,
     /// Each crate and those that it may name.
     pub crates: Vec<(String, Vec<String>)>,
 }
@@ -123,10 +124,16 @@ impl Tree {
                 tree.edits
                     .push(Edit::new(&name, &fs::read_to_string(&path)?));
             } else if name.ends_with(".md") {
-                tree.documents.push(fs::read_to_string(&path)?);
+                let text = fs::read_to_string(&path)?;
+                tree.documents.push((name, text));
             }
         }
         Ok(tree)
+    }
+
+    pub fn document(&self, path: &str) -> &str {
+        let found = self.documents.iter().find(|(name, _)| name == path);
+        found.map_or("", |(_, text)| text)
     }
 
     pub fn files(&self) -> Vec<File<'_>> {
