@@ -38,8 +38,7 @@ pub(crate) fn taken(
 ) -> Offer
     requires { ⌜ arrival .peer < mostPeers ⌝ }
     ensures { λ r. ⌜ (r ≡ takenBy (now (endpoint .entry)) arrival (now (packet .entry)) (now (memory .entry)) .offer)
-        × ((now (endpoint .exit) ≡ withRow (now (endpoint .entry)) (arrival .peer)
-        (takenBy (now (endpoint .entry)) arrival (now (packet .entry)) (now (memory .entry)) .row))
+        × ((now (endpoint .exit) ≡ withRow (now (endpoint .entry)) (arrival .peer) (takenBy (now (endpoint .entry)) arrival (now (packet .entry)) (now (memory .entry)) .row))
         × (now (memory .exit) ≡ takenBy (now (endpoint .entry)) arrival (now (packet .entry)) (now (memory .entry)) .mem)) ⌝ }
 {
     if !receive::brings_segment(arrival) {
