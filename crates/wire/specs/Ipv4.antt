@@ -16,13 +16,13 @@ use Rattle.wire.specs.declared.ipv4.Ipv4Read.the-variants as I
 
 -- The header's fields.
 pub record Header : Type 0 where
-  pub words : ℕ  -- 32-bit words of options
-  pub service : ℕ
+  pub option-words : ℕ  -- 32-bit words of options
+  pub tos : ℕ
   pub size : ℕ  -- total length
   pub id : ℕ
   pub flags : ℕ  -- reserved, don't fragment, more fragments
   pub offset : ℕ  -- of the fragment
-  pub life : ℕ  -- time to live
+  pub ttl : ℕ  -- time to live
   pub protocol : ℕ
   pub checksum : ℕ
   pub source : ℕ
@@ -32,12 +32,12 @@ pub record Header : Type 0 where
 -- A header's bytes.
 unfoldable pub header : Header → List ℕ
 header f =
-    be 1 (4 * 16 + (5 + f .words))
-    then be 1 (f .service)
+    be 1 (4 * 16 + (5 + f .option-words))
+    then be 1 (f .tos)
     then be 2 (f .size)
     then be 2 (f .id)
     then be 2 (f .flags * 2 ^ 13 + f .offset)
-    then be 1 (f .life)
+    then be 1 (f .ttl)
     then be 1 (f .protocol)
     then be 2 (f .checksum)
     then be 4 (f .source)
@@ -46,18 +46,18 @@ header f =
 
 -- Each field fits its bits.
 pub record Fits (f : Header) : Type 0 where
-  pub words : 5 + f .words < 2 ^ 4
-  pub service : f .service < 256
+  pub option-words : 5 + f .option-words < 2 ^ 4
+  pub tos : f .tos < 256
   pub size : f .size < 256 ^ 2
   pub id : f .id < 256 ^ 2
   pub flags : f .flags < 2 ^ 3
   pub offset : f .offset < 2 ^ 13
-  pub life : f .life < 256
+  pub ttl : f .ttl < 256
   pub protocol : f .protocol < 256
   pub checksum : f .checksum < 256 ^ 2
   pub source : f .source < 256 ^ 4
   pub destination : f .destination < 256 ^ 4
-  pub options : length (f .options) ≡ 4 * f .words
+  pub options : length (f .options) ≡ 4 * f .option-words
 
 -- `packet` begins with a whole IPv4 packet from source to destination that carries `payload` and is no fragment.
 pub record IsIpv4 (source destination protocol : ℕ) (payload packet : List ℕ) : Type 0 where
@@ -79,8 +79,8 @@ pub record IsIpv4 (source destination protocol : ℕ) (payload packet : List ℕ
 abbrev pub versionAt : List ℕ → ℕ
 versionAt s = beAt s 0 1 / 16
 
-abbrev pub wordsAt : List ℕ → ℕ
-wordsAt s = beAt s 0 1 % 16
+abbrev pub ihlAt : List ℕ → ℕ
+ihlAt s = beAt s 0 1 % 16
 
 abbrev pub sizeAt : List ℕ → ℕ
 sizeAt s = beAt s 2 2
@@ -93,16 +93,16 @@ unfoldable pub ipv4Checks : List ℕ → List (Check Refusal)
 ipv4Checks s =
     (ltb (length s) 20 ⇒ R.Truncated)
     ∷ (not (eqb (versionAt s) 4) ⇒ R.Version)
-    ∷ (ltb (wordsAt s) 5 ⇒ R.HeaderLength)
-    ∷ (ltb (sizeAt s) (4 * wordsAt s) ⇒ R.TotalLength)
+    ∷ (ltb (ihlAt s) 5 ⇒ R.HeaderLength)
+    ∷ (ltb (sizeAt s) (4 * ihlAt s) ⇒ R.TotalLength)
     ∷ (ltb (length s) (sizeAt s) ⇒ R.TotalLength)
-    ∷ (not (eqb (ones (total (take (4 * wordsAt s) s))) 0xFFFF) ⇒ R.HeaderChecksum)
+    ∷ (not (eqb (ones (total (take (4 * ihlAt s) s))) 0xFFFF) ⇒ R.HeaderChecksum)
     ∷ (not (eqb (beAt s 6 2 % 2 ^ 14) 0) ⇒ R.Fragment)
     ∷ []
 
 -- What is accepted: who sent it to whom, what it carries, and where the payload lies.
 unfoldable pub ipv4At : List ℕ → Ipv4
-ipv4At s = record { start = 4 * wordsAt s; end = sizeAt s; source = beAt s 12 4; destination = beAt s 16 4; protocol = beAt s 9 1 }
+ipv4At s = record { start = 4 * ihlAt s; end = sizeAt s; source = beAt s 12 4; destination = beAt s 16 4; protocol = beAt s 9 1 }
 
 unfoldable pub ipv4Of : List ℕ → Ipv4Read
 ipv4Of s = first I.Refused (ipv4Checks s) (I.Packet (ipv4At s))

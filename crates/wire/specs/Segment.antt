@@ -21,7 +21,7 @@ pub record Header : Type 0 where
   pub frame-length : ℕ  -- upper half of the sequence number: the STT frame's length
   pub offset : ℕ  -- lower half: the place of this segment in that frame
   pub identifier : ℕ  -- the acknowledgement number
-  pub words : ℕ  -- 32-bit words of options
+  pub option-words : ℕ  -- 32-bit words of options
   pub reserved : ℕ
   pub flags : ℕ
   pub window : ℕ
@@ -36,7 +36,7 @@ header f =
     then be 2 (f .frame-length)
     then be 2 (f .offset)
     then be 4 (f .identifier)
-    then be 1 ((5 + f .words) * 16 + f .reserved)
+    then be 1 ((5 + f .option-words) * 16 + f .reserved)
     then be 1 (f .flags)
     then be 2 (f .window)
     then be 2 (f .checksum)
@@ -49,9 +49,9 @@ pub record Fits (f : Header) : Type 0 where
   pub frame-length : f .frame-length < 256 ^ 2
   pub offset : f .offset < 256 ^ 2
   pub identifier : f .identifier < 256 ^ 4
-  pub words : 5 + f .words < 2 ^ 4
+  pub option-words : 5 + f .option-words < 2 ^ 4
   pub reserved : f .reserved < 2 ^ 4
-  pub options : length (f .options) ≡ 4 * f .words
+  pub options : length (f .options) ≡ 4 * f .option-words
 
 -- `payload`, of an IPv4 packet from source to destination, is a segment for the port that carries `bytes` of a frame.
 pub record IsSegment (source destination port frameLength offset identifier : ℕ) (bytes payload : List ℕ) : Type 0 where
@@ -67,8 +67,8 @@ pub record IsSegment (source destination port frameLength offset identifier : �
 
 -- ---- need not be believed: what the reader answers
 
-abbrev pub wordsAt : List ℕ → ℕ
-wordsAt s = beAt s 12 1 / 16
+abbrev pub dataOffsetAt : List ℕ → ℕ
+dataOffsetAt s = beAt s 12 1 / 16
 
 -- The checks of document 01 in their order: 9 (short), 8 (port), 9 (too long, which no IPv4 payload is; data offset) and 10.
 unfoldable pub segmentChecks : (source destination port : ℕ) → List ℕ → List (Check Refusal)
@@ -76,13 +76,13 @@ segmentChecks source destination port s =
     (ltb (length s) 20 ⇒ R.Short)
     ∷ (not (eqb (beAt s 2 2) port) ⇒ R.Port)
     ∷ (ltb 65535 (length s) ⇒ R.TcpLength)
-    ∷ (ltb (wordsAt s) 5 ⇒ R.DataOffset)
-    ∷ (ltb (length s) (4 * wordsAt s) ⇒ R.DataOffset)
+    ∷ (ltb (dataOffsetAt s) 5 ⇒ R.DataOffset)
+    ∷ (ltb (length s) (4 * dataOffsetAt s) ⇒ R.DataOffset)
     ∷ (not (eqb (ones (total (pseudo source destination 6 (length s) ++ s))) 0xFFFF) ⇒ R.TcpChecksum)
     ∷ []
 
 unfoldable pub segmentAt : List ℕ → Segment
-segmentAt s = record { start = 4 * wordsAt s; identifier = beAt s 8 4; «frame_length» = beAt s 4 2; offset = beAt s 6 2 }
+segmentAt s = record { start = 4 * dataOffsetAt s; identifier = beAt s 8 4; «frame_length» = beAt s 4 2; offset = beAt s 6 2 }
 
 unfoldable pub segmentOf : (source destination port : ℕ) → List ℕ → Carried
 segmentOf source destination port s = first C.Refused (segmentChecks source destination port s) (C.Segment (segmentAt s))

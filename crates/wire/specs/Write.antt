@@ -20,13 +20,13 @@ use Rattle.wire.specs.Segment as S
 -- no options, service and identification 0, don't fragment (flags word 0x4000), time to live 64
 abbrev pub plain : (protocol size source destination checksum : ℕ) → I.Header
 plain protocol size source destination checksum = record {
-  words = 0;
-  service = 0;
+  option-words = 0;
+  tos = 0;
   size = size;
   id = 0;
   flags = 2;
   offset = 0;
-  life = 64;
+  ttl = 64;
   protocol = protocol;
   checksum = checksum;
   source = source;
@@ -81,7 +81,7 @@ tcp from to frameLength offset identifier flags sum = record {
   frame-length = frameLength;
   offset = offset;
   identifier = identifier;
-  words = 0;
+  option-words = 0;
   reserved = 0;
   flags = flags;
   window = 0;

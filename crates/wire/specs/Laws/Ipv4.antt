@@ -13,7 +13,7 @@ use Rattle.wire.specs.Laws.Bytes.{as-fields, be-value, be-lt, be-take, p
 use Rattle.wire.specs.Sum.{total, ones}
 use Rattle.wire.specs.Checks.{first, Passed}
 use Rattle.wire.specs.Laws.Checks.{pass, passed, tests, passing, At, given, decided}
-use Rattle.wire.specs.Ipv4.{Header, header, Fits, versionAt, wordsAt, sizeAt, offsetAt, ipv4At, IsIpv4, ipv4Checks, ipv4Of, ReadsIpv4}
+use Rattle.wire.specs.Ipv4.{Header, header, Fits, versionAt, ihlAt, sizeAt, offsetAt, ipv4At, IsIpv4, ipv4Checks, ipv4Of, ReadsIpv4}
 use Rattle.wire.specs.declared.ipv4.Ipv4.{Ipv4}
 use Rattle.wire.specs.declared.ipv4.Ipv4Read.the-variants as I
 
@@ -25,7 +25,7 @@ header-length f = omega arith
 
 -- the fields that are read of a header's bytes, whatever stands behind them, are those that were written
 pub record ReadsBack (f : Header) (s : List ℕ) : Type 0 where
-  pub first : beAt s 0 1 ≡ 4 * 16 + (5 + f .words)
+  pub first : beAt s 0 1 ≡ 4 * 16 + (5 + f .option-words)
   pub size : beAt s 2 2 ≡ f .size
   pub fragment : beAt s 6 2 ≡ f .flags * 2 ^ 13 + f .offset
   pub protocol : beAt s 9 1 ≡ f .protocol
@@ -35,7 +35,7 @@ pub record ReadsBack (f : Header) (s : List ℕ) : Type 0 where
 pub reads-back : (f : Header) → Fits f → (rest : List ℕ) → ReadsBack f (header f ++ rest)
 unfolding header be beAt
 reads-back f w rest = record {
-  first = be-value 1 (4 * 16 + (5 + f .words)) (omega (arith, w .words));
+  first = be-value 1 (4 * 16 + (5 + f .option-words)) (omega (arith, w .option-words));
   size = be-value 2 (f .size) (w .size);
   fragment = be-value 2 (f .flags * 2 ^ 13 + f .offset) (omega (arith, w .flags, w .offset));
   protocol = be-value 1 (f .protocol) (w .protocol);
@@ -48,46 +48,46 @@ reads-back f w rest = record {
 -- all the fields of the header at a packet's front
 unfoldable pub headerAt : List ℕ → Header
 headerAt s = record {
-  words = wordsAt s - 5;
-  service = beAt s 1 1;
+  option-words = ihlAt s - 5;
+  tos = beAt s 1 1;
   size = sizeAt s;
   id = beAt s 4 2;
   flags = beAt s 6 2 / 2 ^ 13;
   offset = offsetAt s;
-  life = beAt s 8 1;
+  ttl = beAt s 8 1;
   protocol = beAt s 9 1;
   checksum = beAt s 10 2;
   source = beAt s 12 4;
   destination = beAt s 16 4;
-  options = part s 20 (4 * wordsAt s);
+  options = part s 20 (4 * ihlAt s);
 }
 
 -- a list that says version 4 and a header length that fits it begins with that header
-pub as-header : (s : List ℕ) → Bytes s → versionAt s ≡ 4 → 5 ≤ wordsAt s → 4 * wordsAt s ≤ length s
-    → s ≡ header (headerAt s) ++ drop (4 * wordsAt s) s
+pub as-header : (s : List ℕ) → Bytes s → versionAt s ≡ 4 → 5 ≤ ihlAt s → 4 * ihlAt s ≤ length s
+    → s ≡ header (headerAt s) ++ drop (4 * ihlAt s) s
 unfolding header headerAt be
 as-header s b v l h =
-    let n = 4 * wordsAt s in
-    let e0 : beAt s 0 1 ≡ 4 * 16 + (5 + (wordsAt s - 5)) = omega arith in
+    let n = 4 * ihlAt s in
+    let e0 : beAt s 0 1 ≡ 4 * 16 + (5 + (ihlAt s - 5)) = omega arith in
     let k : 20 ≤ n = omega arith in
     let e6 : beAt s 6 2 ≡ beAt s 6 2 / 2 ^ 13 * 2 ^ 13 + beAt s 6 2 % 2 ^ 13 = omega arith in
     rw (← e0, ← e6, ← part-cut s 20 n) (as-fields s b (1 ∷ 1 ∷ 2 ∷ 2 ∷ 2 ∷ 1 ∷ 1 ∷ 2 ∷ 4 ∷ 4 ∷ []) 0 (omega arith))
 
-pub header-fits : (s : List ℕ) → Bytes s → 5 ≤ wordsAt s → 4 * wordsAt s ≤ length s → Fits (headerAt s)
+pub header-fits : (s : List ℕ) → Bytes s → 5 ≤ ihlAt s → 4 * ihlAt s ≤ length s → Fits (headerAt s)
 unfolding headerAt
 header-fits s b l h = record {
-  words = omega arith;
-  service = omega (arith, be-lt s b 1 1);
+  option-words = omega arith;
+  tos = omega (arith, be-lt s b 1 1);
   size = be-lt s b 2 2;
   id = be-lt s b 4 2;
   flags = omega (arith, be-lt s b 6 2);
   offset = omega arith;
-  life = omega (arith, be-lt s b 8 1);
+  ttl = omega (arith, be-lt s b 8 1);
   protocol = omega (arith, be-lt s b 9 1);
   checksum = be-lt s b 10 2;
   source = be-lt s b 12 4;
   destination = be-lt s b 16 4;
-  options = part-length s 20 (4 * wordsAt s) h ∙ omega arith;
+  options = part-length s 20 (4 * ihlAt s) h ∙ omega arith;
 }
 
 -- ---- complete: what is a packet is read as one
@@ -108,11 +108,11 @@ complete {source} {destination} {protocol} {payload} {s} w =
     let r : ReadsBack (w .f) s = rw (w .whole) (reads-back (w .f) (w .fits) rest) in
     let n : length h ≡ 20 + length (w .f .options) = header-length (w .f) in
     let l : length s ≡ length h + (length payload + length (w .trailing)) = ap length (w .whole) ∙ simp length-append in
-    let start : 4 * wordsAt s ≡ length h = omega (arith, r .first, w .fits .words, w .fits .options) in
+    let start : 4 * ihlAt s ≡ length h = omega (arith, r .first, w .fits .option-words, w .fits .options) in
     let end : beAt s 2 2 ≡ length h + length payload = r .size ∙ w .size in
     let t : take (length h) s ≡ h = ap (take (length h)) (w .whole) ∙ take-at h rest (length h) refl in
-    let c : ones (total (take (4 * wordsAt s) s)) ≡ 65535 = rw (start, t) (w .checksum) in (
-      pass I.Refused (ipv4Checks s) _ (omega (arith, passing, r .first, r .fragment, w .fits .words, w .fits .offset, w .last, w .offset))
+    let c : ones (total (take (4 * ihlAt s) s)) ≡ 65535 = rw (start, t) (w .checksum) in (
+      pass I.Refused (ipv4Checks s) _ (omega (arith, passing, r .first, r .fragment, w .fits .option-words, w .fits .offset, w .last, w .offset))
           ∙ rw (start, end, r .source, r .destination, r .protocol, w .source-is, w .destination-is, w .protocol-is),
       rw (w .whole) (part-mid h payload (w .trailing) (length h) (length h + length payload) refl refl),
     )
@@ -127,9 +127,9 @@ pub record Accepted (s : List ℕ) (h : Ipv4) : Type 0 where
 sound-at : (s : List ℕ) → Bytes s → Passed (ipv4Checks s) → Accepted s (ipv4At s)
 unfolding ipv4Checks ipv4At headerAt
 sound-at s b p =
-    let n = 4 * wordsAt s in
+    let n = 4 * ihlAt s in
     let size = beAt s 2 2 in
-    let least : 5 ≤ wordsAt s = omega (arith, tests) in
+    let least : 5 ≤ ihlAt s = omega (arith, tests) in
     let ordered : n ≤ size = omega (arith, tests) in
     let within : size ≤ length s = omega (arith, tests) in
     let c : ones (total (take n s)) ≡ 65535 = omega (arith, tests) in

@@ -10,7 +10,7 @@ use Rattle.wire.specs.Laws.Bytes.{as-fields, be-value, be-lt, part-cut, 
 use Rattle.wire.specs.Sum.{total, ones, pseudo}
 use Rattle.wire.specs.Checks.{Passed}
 use Rattle.wire.specs.Laws.Checks.{pass, passed, tests, passing, At, given, decided}
-use Rattle.wire.specs.Segment.{Header, header, Fits, IsSegment, wordsAt, segmentChecks, segmentAt, segmentOf}
+use Rattle.wire.specs.Segment.{Header, header, Fits, IsSegment, dataOffsetAt, segmentChecks, segmentAt, segmentOf}
 use Rattle.wire.specs.declared.segment.Segment.{Segment}
 use Rattle.wire.specs.declared.carriage.Tunnel.{Tunnel}
 use Rattle.wire.specs.declared.carriage.Carried.the-variants as C
@@ -26,7 +26,7 @@ record ReadsBack (f : Header) (s : List ℕ) : Type 0 where
   frame-length : beAt s 4 2 ≡ f .frame-length
   offset : beAt s 6 2 ≡ f .offset
   identifier : beAt s 8 4 ≡ f .identifier
-  words : beAt s 12 1 ≡ (5 + f .words) * 16 + f .reserved
+  option-words : beAt s 12 1 ≡ (5 + f .option-words) * 16 + f .reserved
 
 reads-back : (f : Header) → Fits f → (rest : List ℕ) → ReadsBack f (header f ++ rest)
 unfolding header be beAt
@@ -35,7 +35,7 @@ reads-back f w rest = record {
   frame-length = be-value 2 (f .frame-length) (w .frame-length);
   offset = be-value 2 (f .offset) (w .offset);
   identifier = be-value 4 (f .identifier) (w .identifier);
-  words = be-value 1 ((5 + f .words) * 16 + f .reserved) (omega (arith, w .words, w .reserved));
+  option-words = be-value 1 ((5 + f .option-words) * 16 + f .reserved) (omega (arith, w .option-words, w .reserved));
 }
 
 pub complete : {source destination port frameLength offset identifier : ℕ} {bytes s : List ℕ}
@@ -49,7 +49,7 @@ complete {source} {destination} {port} {frameLength} {offset} {identifier} {byte
     let r : ReadsBack (w .f) s = rw (w .whole) (reads-back (w .f) (w .fits) bytes) in
     let n : length h ≡ 20 + length (w .f .options) = header-length (w .f) in
     let l : length s ≡ length h + length bytes = ap length (w .whole) ∙ length-append h bytes in
-    let skip : 4 * wordsAt s ≡ length h = omega (arith, r .words, w .fits .words, w .fits .reserved, w .fits .options) in (
+    let skip : 4 * dataOffsetAt s ≡ length h = omega (arith, r .option-words, w .fits .option-words, w .fits .reserved, w .fits .options) in (
       pass C.Refused (segmentChecks source destination port s) _ (omega (arith, passing, r .to, w .port-is, w .checksum, w .short))
           ∙ rw (skip, r .frame-length, r .offset, r .identifier, w .frame-length-is, w .offset-is, w .identifier-is),
       rw (w .whole) (drop-at h bytes (length h) refl),
@@ -65,21 +65,21 @@ headerAt s = record {
   frame-length = beAt s 4 2;
   offset = beAt s 6 2;
   identifier = beAt s 8 4;
-  words = wordsAt s - 5;
+  option-words = dataOffsetAt s - 5;
   reserved = beAt s 12 1 % 16;
   flags = beAt s 13 1;
   window = beAt s 14 2;
   checksum = beAt s 16 2;
   urgent = beAt s 18 2;
-  options = part s 20 (4 * wordsAt s);
+  options = part s 20 (4 * dataOffsetAt s);
 }
 
-as-header : (s : List ℕ) → Bytes s → 5 ≤ wordsAt s → 4 * wordsAt s ≤ length s → s ≡ header (headerAt s) ++ drop (4 * wordsAt s) s
+as-header : (s : List ℕ) → Bytes s → 5 ≤ dataOffsetAt s → 4 * dataOffsetAt s ≤ length s → s ≡ header (headerAt s) ++ drop (4 * dataOffsetAt s) s
 unfolding header headerAt be
 as-header s b l h =
-    let n = 4 * wordsAt s in
+    let n = 4 * dataOffsetAt s in
     let k : 20 ≤ n = omega arith in
-    let e : beAt s 12 1 ≡ (5 + (wordsAt s - 5)) * 16 + beAt s 12 1 % 16 = omega arith in
+    let e : beAt s 12 1 ≡ (5 + (dataOffsetAt s - 5)) * 16 + beAt s 12 1 % 16 = omega arith in
     rw (← e, ← part-cut s 20 n) (as-fields s b (2 ∷ 2 ∷ 2 ∷ 2 ∷ 4 ∷ 1 ∷ 1 ∷ 2 ∷ 2 ∷ 2 ∷ []) 0 (omega arith))
 
 pub record Accepted (source destination port : ℕ) (s : List ℕ) (g : Segment) : Type 0 where
@@ -90,8 +90,8 @@ sound-at : (source destination port : ℕ) (s : List ℕ) → Bytes s → Passed
     → Accepted source destination port s (segmentAt s)
 unfolding segmentChecks segmentAt headerAt
 sound-at source destination port s b p =
-    let least : 5 ≤ wordsAt s = omega (arith, tests) in
-    let within : 4 * wordsAt s ≤ length s = omega (arith, tests) in
+    let least : 5 ≤ dataOffsetAt s = omega (arith, tests) in
+    let within : 4 * dataOffsetAt s ≤ length s = omega (arith, tests) in
     record {
       is = record {
         f = headerAt s;
@@ -100,9 +100,9 @@ sound-at source destination port s b p =
           frame-length = be-lt s b 4 2;
           offset = be-lt s b 6 2;
           identifier = be-lt s b 8 4;
-          words = omega (arith, be-lt s b 12 1);
+          option-words = omega (arith, be-lt s b 12 1);
           reserved = omega arith;
-          options = part-length s 20 (4 * wordsAt s) within ∙ omega arith;
+          options = part-length s 20 (4 * dataOffsetAt s) within ∙ omega arith;
         };
         whole = as-header s b least within;
         short = omega (arith, tests);
@@ -157,7 +157,7 @@ unfolding segmentOf
 segment-exit source destination port s n p = decided C.Refused (segmentChecks source destination port s) (C.Segment (segmentAt s)) n p
 
 pub segment-accepts : (source destination port : ℕ) (s : List ℕ) (start identifier frameLength offset : ℕ) → Passed (segmentChecks source destination port s)
-    → start ≡ 4 * wordsAt s → identifier ≡ beAt s 8 4 → frameLength ≡ beAt s 4 2 → offset ≡ beAt s 6 2
+    → start ≡ 4 * dataOffsetAt s → identifier ≡ beAt s 8 4 → frameLength ≡ beAt s 4 2 → offset ≡ beAt s 6 2
     → C.Segment (record { start = start; identifier = identifier; «frame_length» = frameLength; offset = offset }) ≡ segmentOf source destination port s
 unfolding segmentOf segmentAt
 segment-accepts source destination port s start identifier frameLength offset p e1 e2 e3 e4 =

@@ -46,13 +46,13 @@ outer-fits : (protocol size source destination : ℕ) → protocol < 256 → siz
     → I.Fits (outer protocol size source destination)
 unfolding outer
 outer-fits protocol size source destination h1 h2 h3 h4 = record {
-  words = omega arith;
-  service = omega arith;
+  option-words = omega arith;
+  tos = omega arith;
   size = h2;
   id = omega arith;
   flags = omega arith;
   offset = omega arith;
-  life = omega arith;
+  ttl = omega arith;
   protocol = h1;
   checksum = complement-fits (ipv4With protocol size source destination 0);
   source = h3;
@@ -207,7 +207,7 @@ sealed-is source destination from port frameLength offset identifier flags bytes
     omega (arith, pseudo-total source destination 6 size (tcpWith from port frameLength offset identifier flags 0 ++ bytes) h1 h2 (omega arith) h7) in
     record {
       f = f;
-      fits = record { to = h3; frame-length = h4; offset = h5; identifier = h6; words = omega arith; reserved = omega arith; options = refl };
+      fits = record { to = h3; frame-length = h4; offset = h5; identifier = h6; option-words = omega arith; reserved = omega arith; options = refl };
       whole = refl;
       short = rw n h7;
       checksum =
