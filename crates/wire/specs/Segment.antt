@@ -16,8 +16,8 @@ use Rattle.wire.specs.declared.carriage.Carried.the-variants as C
 
 -- The header's fields.
 pub record Header : Type 0 where
-  pub from : ℕ
-  pub to : ℕ
+  pub source-port : ℕ
+  pub destination-port : ℕ
   pub frame-length : ℕ  -- upper half of the sequence number: the STT frame's length
   pub offset : ℕ  -- lower half: the place of this segment in that frame
   pub identifier : ℕ  -- the acknowledgement number
@@ -31,8 +31,8 @@ pub record Header : Type 0 where
 
 unfoldable pub header : Header → List ℕ
 header f =
-    be 2 (f .from)
-    then be 2 (f .to)
+    be 2 (f .source-port)
+    then be 2 (f .destination-port)
     then be 2 (f .frame-length)
     then be 2 (f .offset)
     then be 4 (f .identifier)
@@ -45,7 +45,7 @@ header f =
 
 -- Each field that is read fits its bits.
 pub record Fits (f : Header) : Type 0 where
-  pub to : f .to < 256 ^ 2
+  pub destination-port : f .destination-port < 256 ^ 2
   pub frame-length : f .frame-length < 256 ^ 2
   pub offset : f .offset < 256 ^ 2
   pub identifier : f .identifier < 256 ^ 4
@@ -60,7 +60,7 @@ pub record IsSegment (source destination port frameLength offset identifier : �
   pub whole : payload ≡ header f ++ bytes
   pub short : length payload < 256 ^ 2  -- the pseudo header can tell its length
   pub checksum : ones (total (pseudo source destination 6 (length payload) ++ payload)) ≡ 0xFFFF
-  pub port-is : f .to ≡ port
+  pub port-is : f .destination-port ≡ port
   pub frame-length-is : f .frame-length ≡ frameLength
   pub offset-is : f .offset ≡ offset
   pub identifier-is : f .identifier ≡ identifier

@@ -76,8 +76,8 @@ flagsOf false = 0x10
 -- no options, window and urgent pointer 0
 abbrev pub tcp : (from to frameLength offset identifier flags sum : ℕ) → S.Header
 tcp from to frameLength offset identifier flags sum = record {
-  from = from;
-  to = to;
+  source-port = from;
+  destination-port = to;
   frame-length = frameLength;
   offset = offset;
   identifier = identifier;

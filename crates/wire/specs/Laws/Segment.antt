@@ -22,7 +22,7 @@ header-length f = omega arith
 -- ---- complete
 
 record ReadsBack (f : Header) (s : List ℕ) : Type 0 where
-  to : beAt s 2 2 ≡ f .to
+  destination-port : beAt s 2 2 ≡ f .destination-port
   frame-length : beAt s 4 2 ≡ f .frame-length
   offset : beAt s 6 2 ≡ f .offset
   identifier : beAt s 8 4 ≡ f .identifier
@@ -31,7 +31,7 @@ record ReadsBack (f : Header) (s : List ℕ) : Type 0 where
 reads-back : (f : Header) → Fits f → (rest : List ℕ) → ReadsBack f (header f ++ rest)
 unfolding header be beAt
 reads-back f w rest = record {
-  to = be-value 2 (f .to) (w .to);
+  destination-port = be-value 2 (f .destination-port) (w .destination-port);
   frame-length = be-value 2 (f .frame-length) (w .frame-length);
   offset = be-value 2 (f .offset) (w .offset);
   identifier = be-value 4 (f .identifier) (w .identifier);
@@ -50,7 +50,7 @@ complete {source} {destination} {port} {frameLength} {offset} {identifier} {byte
     let n : length h ≡ 20 + length (w .f .options) = header-length (w .f) in
     let l : length s ≡ length h + length bytes = ap length (w .whole) ∙ length-append h bytes in
     let skip : 4 * dataOffsetAt s ≡ length h = omega (arith, r .option-words, w .fits .option-words, w .fits .reserved, w .fits .options) in (
-      pass C.Refused (segmentChecks source destination port s) _ (omega (arith, passing, r .to, w .port-is, w .checksum, w .short))
+      pass C.Refused (segmentChecks source destination port s) _ (omega (arith, passing, r .destination-port, w .port-is, w .checksum, w .short))
           ∙ rw (skip, r .frame-length, r .offset, r .identifier, w .frame-length-is, w .offset-is, w .identifier-is),
       rw (w .whole) (drop-at h bytes (length h) refl),
     )
@@ -60,8 +60,8 @@ complete {source} {destination} {port} {frameLength} {offset} {identifier} {byte
 -- All the fields of the header at a payload's front.
 headerAt : List ℕ → Header
 headerAt s = record {
-  from = beAt s 0 2;
-  to = beAt s 2 2;
+  source-port = beAt s 0 2;
+  destination-port = beAt s 2 2;
   frame-length = beAt s 4 2;
   offset = beAt s 6 2;
   identifier = beAt s 8 4;
@@ -96,7 +96,7 @@ sound-at source destination port s b p =
       is = record {
         f = headerAt s;
         fits = record {
-          to = be-lt s b 2 2;
+          destination-port = be-lt s b 2 2;
           frame-length = be-lt s b 4 2;
           offset = be-lt s b 6 2;
           identifier = be-lt s b 8 4;

@@ -207,7 +207,7 @@ sealed-is source destination from port frameLength offset identifier flags bytes
     omega (arith, pseudo-total source destination 6 size (tcpWith from port frameLength offset identifier flags 0 ++ bytes) h1 h2 (omega arith) h7) in
     record {
       f = f;
-      fits = record { to = h3; frame-length = h4; offset = h5; identifier = h6; option-words = omega arith; reserved = omega arith; options = refl };
+      fits = record { destination-port = h3; frame-length = h4; offset = h5; identifier = h6; option-words = omega arith; reserved = omega arith; options = refl };
       whole = refl;
       short = rw n h7;
       checksum =
