@@ -29,7 +29,6 @@ use denote.Laws.{Is, shows}
 use denote.Memory.{partAt}
 use denote.Builtin.{u8, u16, u64}
 use denote.Plain.{uint-makes, uint-vals, uint-tells}
-use denote.Array.{Array}
 use denote.Ref.{RefT, ShrRef, ptr-vals, shr-tells}
 use denote.Signature.{plain}
 use denote.Slice.{sliceVal, ShrSlice, MutSlice, finally, slice-vals, shr-slice-tells, shr-slice-lawful, shr-slice-copy, mut-slice-tells, mut-slice-lawful}
@@ -58,6 +57,8 @@ use Rattle.endpoint.proofs.receive.Offer as S
 use Rattle.endpoint.proofs.receive.Offer.Laws as S′
 use Rattle.niulassenc.proofs.answer.Receipt as O
 use Rattle.niulassenc.proofs.answer.Receipt.Laws as O′
+use Rattle.endpoint.specs.Config.{mostBindings}
+use Rattle.niulassenc.proofs.Offsets.{networksAt, tenantsAt, bindingCountAt, kindsAt, ownersAt, Tenants}
 use Rattle.niulassenc.proofs.Columns.{Names, columns, col, bindings-fit, lends-columns, lends-tenants}
 use Rattle.niulassenc.proofs.receive.flat_delivered as delivering
 use Rattle.niulassenc.proofs.receive.flat_delivered.Symbol as delivering-def
@@ -134,16 +135,16 @@ module _ {M : Type 1} (𝓤 : URA M) (H : Heap 𝓤) (A : Atoms 𝓤) (W : Given
   Gives r zs = (r ≡ flatOf (valuesOf (deliveredBy h n x (p .now) (m .now)))) × (zs ≡ m .now)
 
   abbrev Cols : Names → Item 𝓤
-  Cols g = columns 𝓤 H A W (named 0) κe h b o (Array u16 64) (h .tenants) 804 g
+  Cols g = columns 𝓤 H A W (named 0) κe h b o Tenants (h .tenants) tenantsAt g
 
   -- the call of `flat_delivered`
   module _ (was : Is T.the-row h (mach ∷ [])) (g : Names) where
     abbrev args : Args delivering.signature κs
     args = (
-      col b o (h .networks) 0 (g .0),
+      col b o (h .networks) networksAt (g .0),
       (
-        col b o (h .kinds) 940 (g .1 .0),
-        (col b o (h .owners) 1004 (g .1 .1 .0), (col b o (h .tenants) 804 (g .1 .1 .1), (h .«binding_count», (n, (x, (p, (m, tt))))))),
+        col b o (h .kinds) kindsAt (g .1 .0),
+        (col b o (h .owners) ownersAt (g .1 .1 .0), (col b o (h .tenants) tenantsAt (g .1 .1 .1), (h .«binding_count», (n, (x, (p, (m, tt))))))),
       ),
     )
 
@@ -155,10 +156,10 @@ module _ {M : Type 1} (𝓤 : URA M) (H : Heap 𝓤) (A : Atoms 𝓤) (W : Given
         tt,
         args,
         (
-          vptr b (o + 0) ∷ [],
+          vptr b (o + networksAt) ∷ [],
           (
-            vptr b (o + 940) ∷ [],
-            (vptr b (o + 1004) ∷ [], (vptr b (o + 804) ∷ [], (vint w16 (h .«binding_count») ∷ [], (vint w64 n ∷ [], (vx ∷ [], (vp ∷ [], (vm ∷ [], tt))))))),
+            vptr b (o + kindsAt) ∷ [],
+            (vptr b (o + ownersAt) ∷ [], (vptr b (o + tenantsAt) ∷ [], (vint w16 (h .«binding_count») ∷ [], (vint w64 n ∷ [], (vx ∷ [], (vp ∷ [], (vm ∷ [], tt))))))),
           ),
         ),
       ),
@@ -215,15 +216,15 @@ module _ {M : Type 1} (𝓤 : URA M) (H : Heap 𝓤) (A : Atoms 𝓤) (W : Given
         spelt ! T.the-row (Is T.the-row) (shows 𝓤 H A T.the-row) (LL.vals T.the-type T′.the-laws) (LL.tells T.the-type T′.the-laws) q′ h vs b o $
         move ! (1 ∷ []) $ peeks ! T.the-row (Is T.the-row) (shows 𝓤 H A T.the-row) h (mach ∷ []) (λ was. move ! (1 ∷ 0 ∷ []) $
         -- [a share of the endpoint's cell; what it owns; what shuts it; the borrow; _12; …; _0; …; res; packet; packet; memory; true; the other tokens]
-        assigns ! (addr ! (from ! (hop ! (look ! 26 refl) (fld ! {τ = tyArray (tyInt w64) 64} {d = 0} refl (stop !))))) (from ! (stop !))
+        assigns ! (addr ! (from ! (hop ! (look ! 26 refl) (fld ! {τ = tyArray (tyInt w64) mostBindings} {d = networksAt} refl (stop !))))) (from ! (stop !))
         (init ! 16 refl (tt, tt)) $
-        assigns ! (addr ! (from ! (hop ! (look ! 26 refl) (fld ! {τ = tyArray (tyInt w8) 64} {d = 940} refl (stop !))))) (from ! (stop !))
+        assigns ! (addr ! (from ! (hop ! (look ! 26 refl) (fld ! {τ = tyArray (tyInt w8) mostBindings} {d = kindsAt} refl (stop !))))) (from ! (stop !))
         (init ! 14 refl (tt, tt)) $
-        assigns ! (addr ! (from ! (hop ! (look ! 26 refl) (fld ! {τ = tyArray (tyInt w8) 64} {d = 1004} refl (stop !))))) (from ! (stop !))
+        assigns ! (addr ! (from ! (hop ! (look ! 26 refl) (fld ! {τ = tyArray (tyInt w8) mostBindings} {d = ownersAt} refl (stop !))))) (from ! (stop !))
         (init ! 12 refl (tt, tt)) $
-        assigns ! (addr ! (from ! (hop ! (look ! 26 refl) (fld ! {τ = tyArray (tyInt w16) 64} {d = 804} refl (stop !))))) (from ! (stop !))
+        assigns ! (addr ! (from ! (hop ! (look ! 26 refl) (fld ! {τ = tyArray (tyInt w16) mostBindings} {d = tenantsAt} refl (stop !))))) (from ! (stop !))
         (init ! 10 refl (tt, tt)) $
-        assigns ! (of-opd ! (load ! (from ! (hop ! (look ! 26 refl) (fld ! {τ = tyInt w16} {d = 938} refl (stop !)))) (look-in ! 0 (sub ! 8 refl (whole !)))))
+        assigns ! (of-opd ! (load ! (from ! (hop ! (look ! 26 refl) (fld ! {τ = tyInt w16} {d = bindingCountAt} refl (stop !)))) (look-in ! 0 (sub ! 8 refl (whole !)))))
         (from ! (stop !)) (init ! 8 refl (tt, record { fits = bindings-fit h was })) $
         shuts ! tt T.the-row q′ h (mach ∷ []) b o $
         assigns ! (addr ! (from ! (fld ! refl (hop ! (look-in ! 16 (sub ! 0 refl (whole !))) (stop !))))) (from ! (stop !)) (init ! 4 refl (tt, tt)) $
@@ -231,7 +232,7 @@ module _ {M : Type 1} (𝓤 : URA M) (H : Heap 𝓤) (A : Atoms 𝓤) (W : Given
         (and-then ! (load ! (from ! (fld ! refl (stop !))) (look-in ! 16 (sub ! 1 refl (whole !)))) (no-more !)))) (from ! (stop !))
         (init ! 2 refl (tt, (tt, (record { fits = im .0 .1 .0 }, tt)))) $
         move ! (1 ∷ 0 ∷ []) $ use2 W (later (some (λ (g : Names). Cols g ⊛ (‵ Shared ⊛ ‵ (flft κe qe)))))
-        (lends-columns 𝓤 H A W (named 0) κe qe h b o (Array u16 64) (h .tenants) 804 (lends-tenants 𝓤 H A W (named 0) κe qe h b o)) $ await ! tt $ pick !
+        (lends-columns 𝓤 H A W (named 0) κe qe h b o Tenants (h .tenants) tenantsAt (lends-tenants 𝓤 H A W (named 0) κe qe h b o)) $ await ! tt $ pick !
         (λ g. split ! $ move ! (1 ∷ []) $ split ! $
         -- [the borrow; its token; columns; _12; …; res; packet; packet; memory; true; the other tokens]
         move ! (2 ∷ 30 ∷ 32 ∷ 1 ∷ 34 ∷ []) $ join ! $ join ! $ use3 W (raw (Delivers 𝓤 H A at-mem run .pre (to was g)))
