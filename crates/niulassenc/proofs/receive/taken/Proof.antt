@@ -21,7 +21,8 @@ use ghost.Atoms.{Atoms, sem}
 use contract.Lifetimes.{Lfts, Shares}
 use contract.Monad.{Fun, fact}
 use contract.Running.{givenOf, tables, tablesOf}
-use types.Kit.{Go, Given, Item, ‵, raw, prop, runs, frees, anyQ, atRet, Sq, _⊛_, ⋆, some, later, _$_, _∵_, !, qed, by, move, keep, drop, use1, use2, use3, split}
+use types.Kit.{Go, Given, Item, ‵, raw, prop, runs, frees, anyQ, atRet, Sq, _⊛_, ⋆, some, later, _$_, _∵_, !, qed, by, move, keep, drop, use1, use2, use3}
+use types.Kit.{split}
 use types.Kit.{join, pick}
 use types.Kit.{rewrite, fsplit}
 use types.Kit.{fsplit3, fjoin, fjoin3, feqL, feqI, suffices, frame, await, done}
@@ -42,7 +43,6 @@ use denote.Signature.{plain}
 use denote.Slice.{sliceVal, ShrSlice, MutSlice, finally, codedHoleys, heres, res-finally, slice-vals, shr-slice-tells, shr-slice-lawful, shr-slice-copy}
 use denote.Slice.{mut-slice-tells, mut-slice-lawful}
 use denote.Steps.{only, opens, owned, peeks, facts, heard, nothing}
-use denote.Struct.Steps.{spelt}
 use denote.Struct.Laws as LL
 use denote.Enum.Laws as EL
 use denote.Triple.Statement.{Contract, Triple}
