@@ -3,6 +3,9 @@
 --     Reached      the row of peer p, at (b, p * peerBytes + (o + peersAt)), which is the pointer that MIR computes, and all that was set aside on the way
 --     reaches      the endpoint at (b, o)  ⊢  Reached at the row it has
 --     comes-back   Reached at any row  ⊢  the endpoint with that row at (b, o)
+--     Aside        all that is set aside while the row is held, as one entry of a walk
+--     row-out      the endpoint at (b, o)  ⊢  the row's cell, what the row owns, and Aside
+--     row-in       any row's cell there, what it owns, and Aside  ⊢  the endpoint with that row at (b, o)
 -- Assumes `Given`.
 use mathlib.Core.Path.{_≡_, sym, subst, _∙_}
 use Prim.Native.Nat.{ℕ, _+_, _*_, _<_, _^_}
@@ -16,7 +19,7 @@ use base.Logic.{SProp, ent, sep, ex, via, id⊢, monoL, monoR, emp, ex∗, guard
 use base.Fml.{Share, Fml, feq, fsep}
 use prog.Wp.{Heap}
 use ghost.Atoms.{Atoms, sem}
-use types.Kit.{Given, Item, ‵, raw, _⊛_, _$_, _∵_, !, qed, fjoin, fpack, done}
+use types.Kit.{Given, Item, ‵, raw, _⊛_, some, _$_, _∵_, !, qed, move, use1, use2, split, join, pick, fjoin, fpack, done}
 use types.Share.{parts}
 use denote.RattleType.{RattleType}
 use denote.Builtin.{u16, u32}
@@ -26,6 +29,9 @@ use denote.ArrayMemory.{array-apart, array-whole}
 use denote.Index.{place, place-is, others, takes, puts}
 use denote.Struct.Declared.{field}
 use denote.Struct.Laws.{lawfuls}
+use denote.Struct.Laws as LL
+use denote.Struct.Steps.{spelt}
+use denote.Laws.{Is, shows}
 use denote.Struct.Members.{Member}
 use denote.Struct.Parts.{PartsBack}
 use denote.Struct.Pick.{restAt, record-field-out, record-field-back}
@@ -180,3 +186,27 @@ module _ {M : Type 1} (𝓤 : URA M) (H : Heap 𝓤) (A : Atoms 𝓤) (W : Given
   -- `Reached`, part by part, as a walk holds it
   abbrev pub AtRow : Peer → Item 𝓤
   AtRow r = (‵ Eight ⊛ (‵ (TheRow (rowPlace o p) r) ⊛ ‵ Others)) ⊛ (‵ EndpointRest ⊛ raw EndpointBack)
+
+  -- the same for a walk that holds the row alone: what is set aside is one entry, shut, so that no step writes it out
+  unfoldable pub Aside : Pr
+  Aside = ⟦ Others ⟧ ∗ (⟦ Eight ⟧ ∗ kept)
+
+  abbrev pub Cell : List Val → Fml
+  Cell vs = cellAt q (R.the-row .mir) vs b (rowPlace o p)
+
+  pub row-out : p < mostPeers → ⟦ partAt T.the-row q h b o ⟧ ⊢ (⟦ Cell (LL.val R.the-type R′.the-laws (rowAt h p) ∷ []) ⟧
+      ∗ (⟦ R.the-row .own (rowAt h p) (LL.val R.the-type R′.the-laws (rowAt h p) ∷ []) ⟧ ∗ Aside))
+  unfolding Aside
+  row-out l =
+      qed W (‵ (partAt T.the-row q h b o) ∷ []) ∵ use1 W (AtRow (rowAt h p)) (reaches l) $ split ! $ split ! $ move ! (1 ∷ []) $ split ! $
+      use1 W (some (λ (us : List Val). ‵ (cellAt q (RowS .mir) us b (rowPlace o p)) ⊛ ‵ (RowS .own (into-row (rowAt h p)) us)))
+      (lies-out 𝓤 H A W q RowS (into-row (rowAt h p)) b (rowPlace o p)) $ pick ! (λ us. split ! $
+      spelt ! R.the-row (Is R.the-row) (shows 𝓤 H A R.the-row) (LL.vals R.the-type R′.the-laws) (LL.tells R.the-type R′.the-laws) q (rowAt h p) us b
+      (rowPlace o p) $ done !)
+
+  pub row-in : p < mostPeers → (r : Peer) (vs : List Val) → (⟦ Cell vs ⟧ ∗ (⟦ R.the-row .own r vs ⟧ ∗ Aside)) ⊢ ⟦ partAt T.the-row q (withRow h p r) b o ⟧
+  unfolding Aside
+  row-in l r vs =
+      qed W (‵ (Cell vs) ∷ ‵ (R.the-row .own r vs) ∷ ‵ Others ∷ ‵ Eight ∷ (‵ EndpointRest ⊛ raw EndpointBack) ∷ []) ∵
+      use2 W (‵ (TheRow (rowPlace o p) r)) (lies-in 𝓤 H A W q RowS (into-row r) b (rowPlace o p) vs) $ join ! $ move ! (1 ∷ 0 ∷ []) $ join ! $ join ! $
+      use1 W (‵ (partAt T.the-row q (withRow h p r) b o)) (comes-back l r) $ done !

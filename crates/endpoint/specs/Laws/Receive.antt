@@ -340,7 +340,7 @@ settleOf networks kinds owners tenants n x row k m =
     record { peer = x .peer; row = c .row; answer = deliverOf networks kinds owners tenants n (x .peer) (c .offer) k (c .mem); mem = c .mem }
 
 abbrev pub settledBy : Endpoint → Arrival → Peer → (packet memory : List ℕ) → Step
-settledBy e x row k m = settleOf (e .networks) (e .kinds) (e .owners) (e .tenants) (min (e .«binding_count») 64) x row k m
+settledBy e x row k m = settleOf (e .networks) (e .kinds) (e .owners) (e .tenants) (min (e .«binding_count») mostBindings) x row k m
 
 module _ (e : Endpoint) (m k : List ℕ) where
   -- a packet that was opened, settled with its sender's row

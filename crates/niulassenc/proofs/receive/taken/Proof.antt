@@ -21,7 +21,8 @@ use ghost.Atoms.{Atoms, sem}
 use contract.Lifetimes.{Lfts, Shares}
 use contract.Monad.{Fun, fact}
 use contract.Running.{givenOf, tables, tablesOf}
-use types.Kit.{Go, Given, Item, ‵, raw, prop, runs, frees, anyQ, atRet, Sq, _⊛_, ⋆, some, later, _$_, _∵_, !, qed, by, move, keep, drop, use1, use2, use3, split}
+use types.Kit.{Go, Given, Item, ‵, raw, prop, runs, frees, anyQ, atRet, Sq, _⊛_, ⋆, some, later, _$_, _∵_, !, qed, by, move, keep, drop, use1, use2, use3}
+use types.Kit.{split}
 use types.Kit.{join, pick}
 use types.Kit.{rewrite, fsplit}
 use types.Kit.{fsplit3, fjoin, fjoin3, feqL, feqI, suffices, frame, await, done}
@@ -42,7 +43,6 @@ use denote.Signature.{plain}
 use denote.Slice.{sliceVal, ShrSlice, MutSlice, finally, codedHoleys, heres, res-finally, slice-vals, shr-slice-tells, shr-slice-lawful, shr-slice-copy}
 use denote.Slice.{mut-slice-tells, mut-slice-lawful}
 use denote.Steps.{only, opens, owned, peeks, facts, heard, nothing}
-use denote.Struct.Steps.{spelt}
 use denote.Struct.Laws as LL
 use denote.Enum.Laws as EL
 use denote.Triple.Statement.{Contract, Triple}
@@ -76,9 +76,7 @@ use Rattle.endpoint.proofs.receive.Changed as G
 use Rattle.endpoint.proofs.receive.Changed.Laws as G′
 use Rattle.niulassenc.proofs.Parts.{parts, tyAt, two-fields}
 use Rattle.niulassenc.proofs.Offsets.{peersAt, peerBytes}
-use Rattle.niulassenc.proofs.RowAt.{rowPlace, offset-fits, RowS, into-row, TheRow, Eight, Others, EndpointRest, EndpointBack, reaches, comes-back}
-use Rattle.niulassenc.proofs.RowAt.{lies-in}
-use Rattle.niulassenc.proofs.RowAt.{lies-out, AtRow}
+use Rattle.niulassenc.proofs.RowAt.{rowPlace, offset-fits, lies-in, Aside, Cell, row-out, row-in}
 use Rattle.endpoint.proofs.receive.brings_segment as asking
 use Rattle.endpoint.proofs.receive.brings_segment.Symbol as asking-def
 use Rattle.endpoint.proofs.receive.brings_segment.Symbol.{name as #asking}
@@ -355,8 +353,7 @@ module _ {M : Type 1} (𝓤 : URA M) (H : Heap 𝓤) (A : Atoms 𝓤) (W : Given
       Given-back w₈ w₉ w₁₁ w₁₂ w₁₄ w₁₅ r v wr wo zs =
           ‵ (G.the-row .own r (v ∷ [])) ∷ Tokens ∷ ‵ (finally u8 (m .name) zs) ∷ ‵ ftrue ∷ ‵ (cellAt fullShare (R.the-row .mir) (vrow
           ∷ []) b (rowPlace o (x .peer)))
-          ∷ ‵ (R.the-row .own was (vrow ∷ [])) ∷ ‵ (Others 𝓤 H A W fullShare h (x .peer) b o) ∷ ‵ (Eight 𝓤 H A W fullShare h (x .peer) b o)
-          ∷ (‵ (EndpointRest 𝓤 H A W fullShare h (x .peer) b o) ⊛ raw (EndpointBack 𝓤 H A W fullShare h (x .peer) b o))
+          ∷ ‵ (R.the-row .own was (vrow ∷ [])) ∷ raw (Aside 𝓤 H A W fullShare h (x .peer) b o)
           ∷ ‵ (fobor κe qe (Body (mem T.the-row) b o γ)) ∷ ‵ (fobs γ (T.the-row .coded .code h)) ∷ ‵ (fauth γ (T.the-row .coded .code h))
           ∷ free 17 l₁₇ (free 16 l₁₆ (holds 15 l₁₅ w₁₅ (holds 14 l₁₄ w₁₄ (holds 13 l₁₃ vrow (holds 12 l₁₂ w₁₂ (holds 11 l₁₁ w₁₁
           (holds 10 l₁₀ (vint w64 (x .peer * peerBytes)) (holds 9 l₉ w₉ (holds 8 l₈ w₈ (holds 7 l₇ (two-fields wr wo) (holds 6 l₆ vrow
@@ -366,22 +363,18 @@ module _ {M : Type 1} (𝓤 : URA M) (H : Heap 𝓤) (A : Atoms 𝓤) (W : Given
           → (zs : List ℕ) → length zs ≡ length (m .now) → Gave r → Left zs
           → Sq W (Given-back w₈ w₉ w₁₁ w₁₂ w₁₄ w₁₅ r v wr wo zs) (runs C Λ En stores (atRet En Post))
       stores-on w₈ w₉ w₁₁ w₁₂ w₁₄ w₁₅ r v wr wo isr iso zs l gave left =
-          assigns ! (bin ! (load ! (from ! (stop !)) (look ! 36 refl)) (lit ! tt) (record { fits = offset-fits (x .peer) less })) (from ! (stop !))
-          (store ! 26 refl (tt, record { fits = offset-fits (x .peer) less })) $
-          assigns ! (addr ! (from ! (hop ! (look ! 44 refl) (fld ! {d = peersAt} refl (stop !))))) (from ! (stop !)) (init ! 14 refl (tt, tt)) $
-          assigns ! (bin ! (load ! (from ! (stop !)) (look ! 14 refl)) (load ! (from ! (stop !)) (look ! 26 refl)) tt) (from ! (stop !))
-          (init ! 12 refl (tt, tt)) $
-          assigns ! (of-opd ! (load ! (from ! (fld ! {τ = ty 13} {d = 0} refl (stop !))) (look-in ! 32 (row-part W l₇ wr wo)))) (from ! (hop ! (look ! 12 refl) (stop !)))
+          assigns ! (bin ! (load ! (from ! (stop !)) (look ! 34 refl)) (lit ! tt) (record { fits = offset-fits (x .peer) less })) (from ! (stop !))
+          (store ! 24 refl (tt, record { fits = offset-fits (x .peer) less })) $
+          assigns ! (addr ! (from ! (hop ! (look ! 42 refl) (fld ! {d = peersAt} refl (stop !))))) (from ! (stop !)) (init ! 12 refl (tt, tt)) $
+          assigns ! (bin ! (load ! (from ! (stop !)) (look ! 12 refl)) (load ! (from ! (stop !)) (look ! 24 refl)) tt) (from ! (stop !))
+          (init ! 10 refl (tt, tt)) $
+          assigns ! (of-opd ! (load ! (from ! (fld ! {τ = ty 13} {d = 0} refl (stop !))) (look-in ! 30 (row-part W l₇ wr wo)))) (from ! (hop ! (look ! 10 refl) (stop !)))
           (store-raw ! 4 refl (LL.lawful R.the-type R′.the-laws 𝓤 H A W .typed (r .row) _ isr .0)) $
-          assigns ! (of-opd ! (load ! (from ! (fld ! {τ = ty 0} {d = peerBytes} refl (stop !))) (look-in ! 32 (offer-part W l₇ wr wo)))) (from ! (stop !))
-          (init ! 46 refl (EL.lawful O.the-type O′.the-laws 𝓤 H A W tt .typed (r .offer) _ iso .0)) $
+          assigns ! (of-opd ! (load ! (from ! (fld ! {τ = ty 0} {d = peerBytes} refl (stop !))) (look-in ! 30 (offer-part W l₇ wr wo)))) (from ! (stop !))
+          (init ! 44 refl (EL.lawful O.the-type O′.the-laws 𝓤 H A W tt .typed (r .offer) _ iso .0)) $
           -- the endpoint is put together again, with the new row, and the borrow is closed
           move ! (5 ∷ []) $ drop ! $ owned ! R.the-row (Is R.the-row) (LL.makes R.the-type R′.the-plain 𝓤 H A) (r .row) _ isr $
-          move ! (5 ∷ 0 ∷ 6 ∷ 7 ∷ 8 ∷ []) $
-          use2 W (‵ (TheRow 𝓤 H A W fullShare h (x .peer) b o (rowPlace o (x .peer)) (r .row)))
-          (lies-in 𝓤 H A W fullShare RowS (into-row (r .row)) b (rowPlace o (x .peer)) (wr ∷ [])) $
-          join ! $ move ! (1 ∷ 0 ∷ []) $ join ! $ join ! $ use1 W (‵ (partAt T.the-row fullShare (next r) b o))
-          (comes-back 𝓤 H A W fullShare h (x .peer) b o less (r .row)) $
+          move ! (5 ∷ 0 ∷ 6 ∷ []) $ use3 W (‵ (partAt T.the-row fullShare (next r) b o)) (row-in 𝓤 H A W fullShare h (x .peer) b o less (r .row) (wr ∷ [])) $
           move ! (0 ∷ 5 ∷ 6 ∷ 7 ∷ []) $ close-ref ! tt (mem T.the-row) (next r) {b = b} {o = o} $
           ends (two-fields wr wo) w₈ w₉ w₁₁ w₁₂ w₁₄ w₁₅ (vptr b (o + peersAt)) (vptr b (rowPlace o (x .peer))) r v wo iso zs l gave left
 
@@ -389,8 +382,7 @@ module _ {M : Type 1} (𝓤 : URA M) (H : Heap 𝓤) (A : Atoms 𝓤) (W : Given
       abbrev Reached : (w₈ w₉ w₁₁ : Val) → List (Item 𝓤)
       Reached w₈ w₉ w₁₁ =
           ‵ (cellAt fullShare (R.the-row .mir) (vrow ∷ []) b (rowPlace o (x .peer))) ∷ ‵ (R.the-row .own was (vrow ∷ []))
-          ∷ ‵ (Others 𝓤 H A W fullShare h (x .peer) b o) ∷ ‵ (Eight 𝓤 H A W fullShare h (x .peer) b o)
-          ∷ (‵ (EndpointRest 𝓤 H A W fullShare h (x .peer) b o) ⊛ raw (EndpointBack 𝓤 H A W fullShare h (x .peer) b o))
+          ∷ raw (Aside 𝓤 H A W fullShare h (x .peer) b o)
           ∷ ‵ (fobor κe qe (Body (mem T.the-row) b o γ)) ∷ ‵ (fobs γ (T.the-row .coded .code h)) ∷ ‵ (fauth γ (T.the-row .coded .code h))
           ∷ free 17 l₁₇ (free 16 l₁₆ (free 15 l₁₅ (free 14 l₁₄ (free 13 l₁₃ (holds 12 l₁₂ (vptr b (rowPlace o (x .peer))) (holds 11 l₁₁ w₁₁
           (holds 10 l₁₀ (vint w64 (x .peer * peerBytes)) (holds 9 l₉ w₉ (holds 8 l₈ w₈ (free 7 l₇ (free 6 l₆ (holds 5 l₅ (vint w64 (x .peer))
@@ -399,21 +391,21 @@ module _ {M : Type 1} (𝓤 : URA M) (H : Heap 𝓤) (A : Atoms 𝓤) (W : Given
       reads-on : (w₈ w₉ w₁₁ : Val) → Is (MutSlice (named 2) κm u8) m (vm ∷ []) → Is R.the-row was (vrow ∷ [])
           → Sq W (Reached w₈ w₉ w₁₁) (runs C Λ En reads (atRet En Post))
       reads-on w₈ w₉ w₁₁ im isr =
-          -- [the row's cell; what it owns; the other rows; eight; the rest; the open borrow; obs; auth; _17; …; _0; …; packet; packet; memory; true; the other
+          -- [the row's cell; what it owns; what is set aside; the open borrow; obs; auth; _17; …; _0; …; packet; packet; memory; true; the other
           -- tokens]
-          assigns ! (of-opd ! (load ! (from ! (hop ! (look ! 18 refl) (stop !))) (look-raw ! 0 refl))) (from ! (stop !))
-          (init ! 16 refl (LL.lawful R.the-type R′.the-laws 𝓤 H A W .typed was _ isr .0)) $
-          assigns ! (of-opd ! (load ! (from ! (stop !)) (look ! 16 refl))) (from ! (stop !))
-          (init ! 30 refl (LL.lawful R.the-type R′.the-laws 𝓤 H A W .typed was _ isr .0)) $
-          assigns ! (addr ! (from ! (fld ! refl (hop ! (look-in ! 34 (sub ! 0 refl (whole !))) (stop !))))) (from ! (stop !)) (init ! 14 refl (tt, tt)) $
-          assigns ! (agg ! (and-then ! (load ! (from ! (stop !)) (look ! 14 refl))
-          (and-then ! (load ! (from ! (fld ! refl (stop !))) (look-in ! 34 (sub ! 1 refl (whole !)))) (no-more !)))) (from ! (stop !))
-          (init ! 12 refl (tt, (tt, (record { fits = im .0 .1 .0 }, tt)))) $
-          move ! (44 ∷ 46 ∷ 48 ∷ []) $ use3 W (raw (Takes 𝓤 H A at-mem run .pre to)) (goes-take isr) $
+          assigns ! (of-opd ! (load ! (from ! (hop ! (look ! 16 refl) (stop !))) (look-raw ! 0 refl))) (from ! (stop !))
+          (init ! 14 refl (LL.lawful R.the-type R′.the-laws 𝓤 H A W .typed was _ isr .0)) $
+          assigns ! (of-opd ! (load ! (from ! (stop !)) (look ! 14 refl))) (from ! (stop !))
+          (init ! 28 refl (LL.lawful R.the-type R′.the-laws 𝓤 H A W .typed was _ isr .0)) $
+          assigns ! (addr ! (from ! (fld ! refl (hop ! (look-in ! 32 (sub ! 0 refl (whole !))) (stop !))))) (from ! (stop !)) (init ! 12 refl (tt, tt)) $
+          assigns ! (agg ! (and-then ! (load ! (from ! (stop !)) (look ! 12 refl))
+          (and-then ! (load ! (from ! (fld ! refl (stop !))) (look-in ! 32 (sub ! 1 refl (whole !)))) (no-more !)))) (from ! (stop !))
+          (init ! 10 refl (tt, (tt, (record { fits = im .0 .1 .0 }, tt)))) $
+          move ! (42 ∷ 44 ∷ 46 ∷ []) $ use3 W (raw (Takes 𝓤 H A at-mem run .pre to)) (goes-take isr) $
           calls-at ! fm (Takes 𝓤 H A at-mem run) known-take to
-          (and-then ! (load ! (from ! (stop !)) (look ! 31 refl))
-          (and-then ! (load ! (from ! (stop !)) (look ! 39 refl))
-          (and-then ! (load ! (from ! (stop !)) (look ! 37 refl)) (and-then ! (load ! (from ! (stop !)) (look ! 13 refl)) (no-more !))))) (λ v′.
+          (and-then ! (load ! (from ! (stop !)) (look ! 29 refl))
+          (and-then ! (load ! (from ! (stop !)) (look ! 37 refl))
+          (and-then ! (load ! (from ! (stop !)) (look ! 35 refl)) (and-then ! (load ! (from ! (stop !)) (look ! 11 refl)) (no-more !))))) (λ v′.
           use1 W (later (some (λ (r : Changed). (Tokens ⊛ ‵ (G.the-row .own r (v′ ∷ []))) ⊛ raw
           (ensured 𝓤 H A taking.ended (taking.clauses 𝓤 H A at-mem run) (κp, (κm, tt)) take-args tt r)))) (id⊢ 𝓤 _) $ await ! tt $ pick ! (λ r.
           split ! $ move ! (1 ∷ []) $ use1 W (some (λ (zs : Unit {0} × (Unit {0} × (Unit {0} × (List ℕ × Unit {0})))). ‵
@@ -422,10 +414,10 @@ module _ {M : Type 1} (𝓤 : URA M) (H : Heap 𝓤) (A : Atoms 𝓤) (W : Given
           drop ! $ fsplit ! $ fsplit ! $
           move ! (1 ∷ []) $ feqL ! (λ l.
           move ! (2 ∷ []) $ split ! $ move ! (1 ∷ []) $ peeks ! G.the-row (Is G.the-row) (shows 𝓤 H A G.the-row) r (v′ ∷ []) (λ is.
-          -- [what the result owns; the tokens; the memory's last bytes; true; the row's cell; what it owns; the other rows; eight; the rest; the open borrow;
+          -- [what the result owns; the tokens; the memory's last bytes; true; the row's cell; what it owns; what is set aside; the open borrow;
           -- obs;
           -- auth; _17; …; _0; …; packet; true]
-          land ! (from ! (stop !)) (init ! 32 refl (LL.lawful G.the-type G′.the-laws 𝓤 H A W .typed r _ is .0)) $ rewrite ! 32
+          land ! (from ! (stop !)) (init ! 30 refl (LL.lawful G.the-type G′.the-laws 𝓤 H A W .typed r _ is .0)) $ rewrite ! 30
           (λ (u : Val). ‵ (fat fullShare G′.mir l₇ 0 u)) (fields-are r v′ is) refl $
           stores-on _ _ _ _ _ _ r v′ _ _ (is-row r v′ is) (is-offer r v′ is) (zs .1 .1 .1 .0) l gave left)))))))
 
@@ -441,14 +433,10 @@ module _ {M : Type 1} (𝓤 : URA M) (H : Heap 𝓤) (A : Atoms 𝓤) (W : Given
           -- the borrow is opened; the row is reached, and read
           move ! (36 ∷ 37 ∷ 38 ∷ []) $ opens ! tt T.the-row {h = h} b o (λ vs.
           use2 W (‵ (partAt T.the-row fullShare h b o)) (lies-in 𝓤 H A W fullShare T.the-row h b o vs) $
-          use1 W (AtRow 𝓤 H A W fullShare h (x .peer) b o was) (reaches 𝓤 H A W fullShare h (x .peer) b o less) $ split ! $ split ! $ move ! (1 ∷ []) $
-          split ! $
-          use1 W (some (λ (us : List Val). ‵ (cellAt fullShare (RowS .mir) us b (rowPlace o (x .peer))) ⊛ ‵ (RowS .own (into-row was) us)))
-          (lies-out 𝓤 H A W fullShare RowS (into-row was) b (rowPlace o (x .peer))) $ pick ! (λ us. split ! $
-          spelt ! R.the-row (Is R.the-row) (shows 𝓤 H A R.the-row) (LL.vals R.the-type R′.the-laws) (LL.tells R.the-type R′.the-laws) fullShare was us b
-          (rowPlace o (x .peer)) $
-          move ! (1 ∷ []) $ peeks ! R.the-row (Is R.the-row) (shows 𝓤 H A R.the-row) was (vrow ∷ []) (λ isr. move ! (1 ∷ 0 ∷ []) $
-          reads-on (vbool y) (vbool (not y)) (vptr b (o + peersAt)) im isr)))
+          use1 W (‵ (Cell 𝓤 H A W fullShare h (x .peer) b o (vrow ∷ [])) ⊛ (‵ (R.the-row .own was (vrow ∷ [])) ⊛ raw (Aside 𝓤 H A W fullShare h (x .peer) b o)))
+          (row-out 𝓤 H A W fullShare h (x .peer) b o less) $ split ! $ move ! (1 ∷ []) $ split ! $
+          peeks ! R.the-row (Is R.the-row) (shows 𝓤 H A R.the-row) was (vrow ∷ []) (λ isr. move ! (2 ∷ 0 ∷ 1 ∷ []) $
+          reads-on (vbool y) (vbool (not y)) (vptr b (o + peersAt)) im isr))
 
     walk : Is (ShrSlice (named 1) κp u8) p (vp ∷ []) → Is (MutSlice (named 2) κm u8) m (vm ∷ [])
         → ent 𝓤 (onEntry 𝓤 H A f.signature κs qs a at) (WpFn 𝓤 H C Λ code.function (vptr b o ∷ vx ∷ vp ∷ vm ∷ []) Post)
