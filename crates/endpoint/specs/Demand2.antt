@@ -1,5 +1,5 @@
 -- DEMAND 2's words for receiving (document 00): what it is to deliver a frame, and which packets and runs carry one.
--- How to read it: what a packet carries and what a good frame is are the formats' own words (Formats.antt); `Gathers` and `MakesUp` are told from the run
+-- How to read it: what a packet carries and what a good frame is are the formats' own words (Formats.antt); `Gathers` and `MakesUp` follow from the run
 -- alone (crate reassembly, specs/History.antt); which segments are taken, rejected or given up is `EveryRun`, a field of `Demand3`. Only definitions;
 -- `Demand2` (Demands.antt) is the statement, its receiving half proved in Laws/Demand2.
 use Prim.Native.Nat.{ℕ, _<_}

@@ -11,7 +11,7 @@ use Rattle.niulassenc.specs.declared.answer.Addition.{Addition}
 use Rattle.niulassenc.specs.declared.answer.Writing.{Writing}
 use Rattle.niulassenc.specs.declared.config.Started.{Started}
 
--- a number that may be missing. 65,535 is a tenant's number too: whether there is one is told by the code alone
+-- a number that may be missing. 65,535 is a tenant's number too: the code alone says whether there is one
 abbrev pub orNone : Option ℕ → ℕ
 orNone none = 65535
 orNone (some n) = n

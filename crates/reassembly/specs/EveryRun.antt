@@ -1,6 +1,6 @@
 -- EVERY RUN (demands 2 and 3; document 01, "The numbered answers" and "Reassembly memory"): one statement about runs from a set-up, mixing or not, for each
 -- peer. Only definitions; proved in Laws/EveryRun.
--- How to read it: `h` is what the run so far tells of the peer's slots (History.antt), `h′` what it tells with one event more, `m` and `m′` the memory
+-- How to read it: `h` is the history of the peer's slots in the run so far (History.antt), `h′` that with one event more, `m` and `m′` the memory
 -- before and after. `EveryRun`, at the end, says of every event what it is answered, what it adds to the history, and which bytes of the memory it changes;
 -- so the history is never taken on trust. In order: when a segment is rejected by 15, 16 or 17, that a new frame takes the lowest free slot, that a
 -- segment's bytes go to their place and nothing else changes, that a frame is pending for three ticks at most, and that a complete frame is made up of
@@ -48,7 +48,7 @@ pub record Touches (p s : ℕ) (new : Bool) (g : Seg) (m m′ : List ℕ) : Type
       → getD m′ j 0 ≡ getD m j 0
 
 -- segment g is taken: slot s has the segments gs, with the frame complete and handed on, or still pending; the other slots keep what they had
-pub record Taken (p s : ℕ) (new : Bool) (g : Seg) (gs : List Seg) (ticks : ℕ) (h h′ : History) (o : Outcome) (m m′ : List ℕ) : Type 0 where
+pub record TakenFor (p s : ℕ) (new : Bool) (g : Seg) (gs : List Seg) (ticks : ℕ) (h h′ : History) (o : Outcome) (m m′ : List ℕ) : Type 0 where
   pub outcome : o ≡ cond (frameComplete gs) (Complete s) Pending
   pub segments : h′ .taken s ≡ gs
   pub clock : h′ .ticks s ≡ ticks
@@ -60,8 +60,8 @@ pub record Taken (p s : ℕ) (new : Bool) (g : Seg) (gs : List Seg) (ticks : ℕ
   -- complete: each byte of the frame, where it lies in the memory, is from the one segment that covers it
   pub bytes : frameComplete gs ≡ true → (i : ℕ) → i < g .frame-length → OneOf gs i (getD m′ (frameAt p s + i) 0)
 
--- neither what the run tells nor the memory changes
-pub record Unchanged (h h′ : History) (m m′ : List ℕ) : Type 0 where
+-- neither the history nor the memory changes
+pub record NothingMoves (h h′ : History) (m m′ : List ℕ) : Type 0 where
   pub taken : (t : ℕ) → h′ .taken t ≡ h .taken t
   pub ticks : (t : ℕ) → h′ .ticks t ≡ h .ticks t
   pub memory : m′ ≡ m
@@ -70,16 +70,16 @@ pub record IfAndOnlyIf (A B : Type 0) : Type 0 where
   pub only : A → B
   pub all : B → A
 
--- ---- the rules for a segment g that passes 14, of which taking tells o
+-- ---- the rules for a segment g that passes 14, of which taking gives o
 pub record Ruled (p : ℕ) (g : Seg) (h h′ : History) (o : Outcome) (m m′ : List ℕ) : Type 0 where
   pub fifteen : IfAndOnlyIf (o ≡ Rejected LengthDiffers) (Fifteen h g)
   pub sixteen : IfAndOnlyIf (o ≡ Rejected AlreadyReceived) (Sixteen h g)
   pub seventeen : IfAndOnlyIf (o ≡ Rejected NoSlot) (Seventeen h g)
   -- a frame's further segment is added to it, and its ticks go on; a segment that opens a frame is its first, and ticks count from it
-  pub further : (s : ℕ) → Further h g s → Taken p s false g (g ∷ h .taken s) (h .ticks s) h h′ o m m′
-  pub opens : (s : ℕ) → Opens h g s → Taken p s true g (g ∷ []) 0 h h′ o m m′
+  pub further : (s : ℕ) → Further h g s → TakenFor p s false g (g ∷ h .taken s) (h .ticks s) h h′ o m m′
+  pub opens : (s : ℕ) → Opens h g s → TakenFor p s true g (g ∷ []) 0 h h′ o m m′
   -- one that is rejected leaves all as it was
-  pub rejected : (r : Rejection) → o ≡ Rejected r → Unchanged h h′ m m′
+  pub rejected : (r : Rejection) → o ≡ Rejected r → NothingMoves h h′ m m′
   -- there is no other case
   pub one-of : Fifteen h g ⊎ (Sixteen h g ⊎ (Seventeen h g ⊎ (((s : ℕ) × Further h g s) ⊎ ((s : ℕ) × Opens h g s))))
 
@@ -88,9 +88,9 @@ pub record Fourteen (h h′ : History) (o : Outcome) (m m′ : List ℕ) : Type 
   pub cause : Rejection
   pub number : rejectionCode cause ≡ 14
   pub rejected : o ≡ Rejected cause
-  pub unchanged : Unchanged h h′ m m′
+  pub unchanged : NothingMoves h h′ m m′
 
--- slot v of the endpoint is as the run tells: a frame is pending in it exactly if the run says so, with the identifier and the length that its segments
+-- slot v of the endpoint is as the history has it: a frame is pending in it exactly if the history says so, with the identifier and the length that its segments
 -- state, and its age is the ticks since it opened
 pub record Stands (v : Slot) (gs : List Seg) (ticks : ℕ) : Type 0 where
   pub pending : v .pending ≡ framePending gs ticks
@@ -99,7 +99,7 @@ pub record Stands (v : Slot) (gs : List Seg) (ticks : ℕ) : Type 0 where
   pub age : v .pending ≡ true → v .age ≡ ticks
 
 module _ (W : Answers) (Config : Type 0) (U : Layers W Config) (p : ℕ) (e : Endpoint Config) where
-  -- after the events es, from the set-up e with the memory m lent: endpoint and memory, and what the run tells of the peer's slots
+  -- after the events es, from the set-up e with the memory m lent: endpoint and memory, and the history of the peer's slots
   abbrev pub after : List ℕ → List Event → World Config
   after m es = runs W Config U (record { ends = e; mem = m }) es
 
@@ -111,7 +111,7 @@ module _ (W : Answers) (Config : Type 0) (U : Layers W Config) (p : ℕ) (e : En
   pub record EveryRun : Type 0 where
     -- at first no segment is taken
     pub begins : (m : List ℕ) (s : ℕ) → history m [] .taken s ≡ []
-    -- a frame is pending exactly while the run says so: three ticks at most since it opened, and at the fourth it is not
+    -- a frame is pending exactly while the history says so: three ticks at most since it opened, and at the fourth it is not
     pub stands : (m : List ℕ) → 55296 ≤ length m → (es : List Event) (s : ℕ) → s < 4
         → Stands (getD (getD (after m es .ends .peers) p noRow .slots) s free) (history m es .taken s) (history m es .ticks s)
     -- frames pending together bear different identifiers
@@ -127,13 +127,13 @@ module _ (W : Answers) (Config : Type 0) (U : Layers W Config) (p : ℕ) (e : En
     pub fourteen : (m : List ℕ) → 55296 ≤ length m → (es : List Event) (k : List ℕ) (g : Seg) → U .header (e .config) k ≡ segment p g → (Fits g → ⊥)
         → Fourteen (history m es) (history m (es ++ (receive k ∷ []))) (taking W Config U p (after m es) g .outcome) (after m es .mem)
         (after m (es ++ (receive k ∷ [])) .mem)
-    -- what taking tells is what the receive answers: 14 to 17, 1, or the judgement of the complete frame
+    -- what taking gives is what the receive answers: 14 to 17, 1, or the judgement of the complete frame
     pub answered : (m : List ℕ) → 55296 ≤ length m → (es : List Event) (k : List ℕ) (g : Seg) → U .header (e .config) k ≡ segment p g
         → receives W Config U (after m es) k .reply
         ≡ takeAnswer W (U .judge (e .config)) bytesOf p g (taking W Config U p (after m es) g) (taking W Config U p (after m es) g .outcome) .reply
-    -- a packet that is no sound STT packet of any peer's changes nothing; another peer's, nothing that the run tells of this peer's slots
+    -- a packet that is no sound STT packet of any peer's changes nothing; another peer's, nothing of the history of this peer's slots
     pub no-segment : (m : List ℕ) → 55296 ≤ length m → (es : List Event) (k : List ℕ) → ((q : ℕ) (g : Seg) → U .header (e .config) k ≡ segment q g → ⊥)
-        → Unchanged (history m es) (history m (es ++ (receive k ∷ []))) (after m es .mem) (after m (es ++ (receive k ∷ [])) .mem)
+        → NothingMoves (history m es) (history m (es ++ (receive k ∷ []))) (after m es .mem) (after m (es ++ (receive k ∷ [])) .mem)
     pub another's : (m : List ℕ) → 55296 ≤ length m → (es : List Event) (k : List ℕ) (q : ℕ) (g : Seg) → U .header (e .config) k ≡ segment q g → q ≢ p
         → history m (es ++ (receive k ∷ [])) ≡ history m es
     -- a tick counts for each slot, and touches no memory

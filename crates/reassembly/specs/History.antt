@@ -72,7 +72,7 @@ pub record MakesUp (g : Seg) (gs : List Seg) (frame : List ℕ) : Type 0 where
   pub of-frame : (j : ℕ) → j < length gs → OfFrame (g .identifier) (g .frame-length) (getD gs j noSeg)
   pub bytes : (i : ℕ) → i < length frame → OneOf gs i (getD frame i 0)
 
--- ---- what a run tells of each slot of a peer: the segments taken for the frame that opened there last, latest first, and the ticks since it opened
+-- ---- the history of each slot of a peer: the segments taken for the frame that opened there last, latest first, and the ticks since it opened
 
 pub record History : Type 0 where
   pub taken : ℕ → List Seg
@@ -211,7 +211,7 @@ module _ (W : Answers) (Config : Type 0) (U : Layers W Config) (p : ℕ) where
   clockRun w c [] = c
   clockRun w c (e ∷ es) = clockRun (next W Config U w e) (clockNext w c e) es
 
-  -- what a run from this world tells of the peer's slots
+  -- the history of the peer's slots in a run from this world
   abbrev pub takenSince : World Config → List Event → ℕ → List Seg
   takenSince w es s = logRun w (λ t. []) es s
 

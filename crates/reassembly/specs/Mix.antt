@@ -145,7 +145,7 @@ AllFree W header p (x ∷ xs) = Free W header p x × AllFree W header p xs
 pub record Mixing (W : Answers) (header : List ℕ → Reading W) (p : ℕ) (frames : List Frame) (items : List Item) : Type 0 where
   -- each segment is given once, and no other label stands in the run
   pub once : (f j : ℕ) → times f j items ≡ cond (isSegment frames f j) 1 0
-  -- the peer's sound STT packets are exactly the segments spoken of
+  -- the peer's sound STT packets are exactly the segments of the frames
   pub rest : AllFree W header p items
   -- frames pending together bear different identifiers
   pub apart : (before : List Item) (now : Item) (after : List Item) → items ≡ before ++ (now ∷ after) → (f g : ℕ) → f < length frames → g < length frames

@@ -137,7 +137,7 @@ abbrev pub furtherSlot : Slot → Seg → Slot
 furtherSlot v g = pendingSlot (v .identifier) (v .«frame_length») (v .age) (noteAfter (noteOf v) g)
 
 module _ (O : Ops) where
-  -- the row, what is told, the note of a frame that is complete, and the memory
+  -- the row, the outcome, the note of a frame that is complete, and the memory
   pub record Effect : Type 0 where
     pub row : Peer
     pub outcome : Outcome

@@ -41,7 +41,7 @@ use Rattle.endpoint.specs.Answer.{dropCode, placeOf, valuesOf}
 use Rattle.endpoint.specs.Search.{lowest}
 use Rattle.endpoint.specs.Config.{Config, configOf, binds}
 use Rattle.endpoint.specs.Receive.{answers, byBinding, innerFrom, byStt, sttFrom, headerOf, judgeOf, Step, rowAt, unchanged, stepped, stepOf, withRow}
-use Rattle.endpoint.specs.Laws.Receive.{header-kept, config-few, Spoken, header-spoken}
+use Rattle.endpoint.specs.Laws.Receive.{header-kept, config-few, Conclusive, header-conclusive}
 use Rattle.endpoint.specs.Formats.{CarriesFrame, GoodFrame}
 use Rattle.endpoint.specs.Laws.Formats.{segment-sound, segment-complete, frame-sound}
 use Rattle.endpoint.specs.Laws.Demand2.{SegBytes, header-bytes, lies-view, verdict-good, after-inside, judged-good}
@@ -353,7 +353,7 @@ module _ (e : Endpoint) (m k : List ℕ) where
         (from-memory e m k p g h s q t (x .0)))
 
     seen-whole : (x : Reading answers) → headerOf (configOf e) k ≡ x → stepped e m x .answer ≡ R.Delivered t place → Deliveries t place (stepped e m x)
-    seen-whole (otherSender a) h q = clash (cc (subst Spoken h (header-spoken (configOf e) k) .0, q))
+    seen-whole (otherSender a) h q = clash (cc (subst Conclusive h (header-conclusive (configOf e) k) .0, q))
     seen-whole (direct p a) h q = inl (from-packet p (h ∙ ap (direct p) q))
     seen-whole (segment p g) h q = taken-whole p g h (takeIn p (rowAt e p) m g .outcome) refl q
 
@@ -382,8 +382,8 @@ module _ (e : Endpoint) (m k : List ℕ) where
       (sym (ap (λ (y : Answer answers). y .reply) (complete-reply answers (judgeOf (configOf e)) bytesOf p g (takeIn p (rowAt e p) m g) s)) ∙ a)
 
   seen-part : (x : Reading answers) → headerOf (configOf e) k ≡ x → stepped e m x .answer ≡ R.Pending → Waiting (stepped e m x)
-  seen-part (otherSender a) h q = clash (cc (subst Spoken h (header-spoken (configOf e) k) .1, q))
-  seen-part (direct p a) h q = clash (cc (subst Spoken h (header-spoken (configOf e) k), q))
+  seen-part (otherSender a) h q = clash (cc (subst Conclusive h (header-conclusive (configOf e) k) .1, q))
+  seen-part (direct p a) h q = clash (cc (subst Conclusive h (header-conclusive (configOf e) k), q))
   seen-part (segment p g) h q = taken-part p g h (takeIn p (rowAt e p) m g .outcome) refl q
 
   waiting : stepOf e m k .answer ≡ R.Pending → Waiting (stepOf e m k)

@@ -30,7 +30,7 @@ use Rattle.reassembly.specs.declared.take.Outcome.the-variants as O
 use Rattle.reassembly.specs.EveryRun.{IfAndOnlyIf}
 use Rattle.endpoint.specs.Answer.{placeOf}
 use Rattle.endpoint.specs.Config.{Config, configOf, findPeer, Adding, setUp}
-use Rattle.endpoint.specs.Laws.Receive.{Spoken, header-spoken, slot-view}
+use Rattle.endpoint.specs.Laws.Receive.{Conclusive, header-conclusive, slot-view}
 use Rattle.endpoint.specs.Receive.{answers, isDelivered, byPayload, byPeer, byDestination, byIpv4, headerOf, judgeOf, rowAt, stepped, stepOf, layers}
 use Rattle.endpoint.specs.Receive.{worldOf}
 use Rattle.endpoint.specs.Formats.{CarriesFrame, CarriesSegment, GoodFrame}
@@ -216,7 +216,7 @@ module _ (e : Endpoint) (m k : List ℕ) (enough : 55296 ≤ length m) (packet :
         ≡ R.Delivered t place
         → viewOf k (stepped e m x .mem) (placeOf place) ≡ frame → CarriesFrame (configOf e) k t frame ⊎ Completes e m k t frame
     seen-sound (otherSender a) h b place q w =
-        let z : _≡_ {A = Bool} true false = sym (ap isDelivered q) ∙ subst Spoken h (header-spoken (configOf e) k) .0 in
+        let z : _≡_ {A = Bool} true false = sym (ap isDelivered q) ∙ subst Conclusive h (header-conclusive (configOf e) k) .0 in
         let y : _≡_ {A = ℕ} 0 1 = cc (z) in absurd (omega arith)
     seen-sound (direct p a) h b place q w =
         let x = frame-sound (configOf e) k p t place packet (h ∙ ap (direct p) q) in

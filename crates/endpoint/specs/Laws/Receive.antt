@@ -458,44 +458,44 @@ isPending (R.Delivered t p) = false
 isPending R.Pending = true
 isPending (R.Dropped d) = false
 
-abbrev pub Spoken : Made answers → Type 0
-Spoken (otherSender a) = (isDelivered a ≡ false) × (isPending a ≡ false)
-Spoken (direct p a) = isPending a ≡ false
-Spoken (segment p g) = Unit {0}
+abbrev pub Conclusive : Made answers → Type 0
+Conclusive (otherSender a) = (isDelivered a ≡ false) × (isPending a ≡ false)
+Conclusive (direct p a) = isPending a ≡ false
+Conclusive (segment p g) = Unit {0}
 
-tunnel-spoken : (networks kinds owners tenants : List ℕ) (n peer kind network at : ℕ) (frame : List ℕ)
+tunnel-conclusive : (networks kinds owners tenants : List ℕ) (n peer kind network at : ℕ) (frame : List ℕ)
     → isPending (tunnelFrom networks kinds owners tenants n peer kind network at frame) ≡ false
 unfolding tunnelFrom
-tunnel-spoken networks kinds owners tenants n peer kind network at frame = by-worth (innerFrom networks kinds owners tenants n peer kind network frame)
+tunnel-conclusive networks kinds owners tenants n peer kind network at frame = by-worth (innerFrom networks kinds owners tenants n peer kind network frame)
   where
     by-worth : (x : Verdict answers) → isPending (answerAt x (record { start = at; length = length frame; «in_memory» = false })) ≡ false
     by-worth (bad d) = refl
     by-worth (good t) = refl
 
 module _ (c : Config) (k : List ℕ) where
-  carried-spoken : (p start end : ℕ) (x : Carried) → Spoken (byPayload c p start end k x)
-  carried-spoken p start end (C.Refused r) = refl
-  carried-spoken p start end (C.Tunnel t) =
-      tunnel-spoken (c .networks) (c .kinds) (c .owners) (c .tenants) (c .bindings) p (t .kind) (t .network) (start + t .start)
+  carried-conclusive : (p start end : ℕ) (x : Carried) → Conclusive (byPayload c p start end k x)
+  carried-conclusive p start end (C.Refused r) = refl
+  carried-conclusive p start end (C.Tunnel t) =
+      tunnel-conclusive (c .networks) (c .kinds) (c .owners) (c .tenants) (c .bindings) p (t .kind) (t .network) (start + t .start)
       (part k (start + t .start) end)
-  carried-spoken p start end (C.Segment g) = tt
+  carried-conclusive p start end (C.Segment g) = tt
 
-  peer-spoken : (h : Ipv4) (o : Option ℕ) → Spoken (byPeer c h k o)
-  peer-spoken h none = (refl, refl)
-  peer-spoken h (some p) = carried-spoken p (h .start) (h .end)
+  peer-conclusive : (h : Ipv4) (o : Option ℕ) → Conclusive (byPeer c h k o)
+  peer-conclusive h none = (refl, refl)
+  peer-conclusive h (some p) = carried-conclusive p (h .start) (h .end)
       (carriageOf (h .protocol) (h .source) (h .destination) (c .port) (part k (h .start) (h .end)))
 
-  ours-spoken : (h : Ipv4) (b : Bool) → Spoken (byDestination c h k b)
-  ours-spoken h true = peer-spoken h (findPeer c (h .source))
-  ours-spoken h false = (refl, refl)
+  destination-conclusive : (h : Ipv4) (b : Bool) → Conclusive (byDestination c h k b)
+  destination-conclusive h true = peer-conclusive h (findPeer c (h .source))
+  destination-conclusive h false = (refl, refl)
 
-  ip-spoken : (x : Ipv4Read) → Spoken (byIpv4 c k x)
-  ip-spoken (I.Refused r) = (refl, refl)
-  ip-spoken (I.Packet h) = ours-spoken h (eqb (h .destination) (c .own))
+  ipv4-conclusive : (x : Ipv4Read) → Conclusive (byIpv4 c k x)
+  ipv4-conclusive (I.Refused r) = (refl, refl)
+  ipv4-conclusive (I.Packet h) = destination-conclusive h (eqb (h .destination) (c .own))
 
-  pub header-spoken : Spoken (headerOf c k)
+  pub header-conclusive : Conclusive (headerOf c k)
   unfolding headerOf
-  header-spoken = ip-spoken (ipv4Of k)
+  header-conclusive = ipv4-conclusive (ipv4Of k)
 
 pub config-few : (e : Endpoint) → configOf e .peers ≤ mostPeers
 unfolding configOf

@@ -28,9 +28,9 @@ use Rattle.reassembly.specs.History.{clockNext, clockRun, ticksSince, hi
 use Rattle.reassembly.specs.Laws.Log.{AllOf, all-of-at, apart-at, Logs, writes-same, writes-other}
 use Rattle.reassembly.specs.Laws.Carried.{came-at, completes, world, Inv, step, Reach, reached, begin, from, log-snoc, alike, in-memory, same-outcome}
 use Rattle.reassembly.specs.Laws.Carried.{log-now}
-use Rattle.reassembly.specs.EveryRun.{frameAt, Taken, Unchanged, Fourteen, Ruled, Stands, EveryRun}
+use Rattle.reassembly.specs.EveryRun.{frameAt, TakenFor, NothingMoves, Fourteen, Ruled, Stands, EveryRun}
 use Rattle.reassembly.specs.Laws.RulesTake.{covered-is, Stand, under-young, holds-one, chosen-unfit, chosen-old, chosen-new, take-stand, tick-stand}
-use Rattle.reassembly.specs.Laws.RulesTake.{take-by, told-15, told-16, told-17, outcome-further, outcome-opens, OneCase, one-case}
+use Rattle.reassembly.specs.Laws.RulesTake.{take-by, outcome-15, outcome-16, outcome-17, outcome-further, outcome-opens, OneCase, one-case}
 use Rattle.reassembly.specs.Laws.RulesTouch.{touches-further, touches-opens}
 
 -- ---- one outcome is not another
@@ -222,7 +222,7 @@ module _ (W : Answers) (Config : Type 0) (U : Layers W Config) (p : ℕ) (p< : p
     unfolding receives receiveBy
     left = rw (le-ltb (length (s .mem)) 55296 (h .sim .same .okA), e) (ap (λ (o : Effect bytesOf). o .mem) in-bytes)
 
-    refused-left : (r : Rejection) → outcome ≡ Rejected r → Unchanged before behind (s .mem) (receives W Config U (at s) k .world .mem)
+    refused-left : (r : Rejection) → outcome ≡ Rejected r → NothingMoves before behind (s .mem) (receives W Config U (at s) k .world .mem)
     refused-left r q =
         let o : ghostOutcome ≡ Rejected r = sym same ∙ q in
         let a : logNext W Config U p (at s) L (receive k) ≡ L = taken-now ∙ ap (λ (y : Outcome). entered L x (chosen (rowIn s .slots) x) y) o in
@@ -265,7 +265,7 @@ module _ (W : Answers) (Config : Type 0) (U : Layers W Config) (p : ℕ) (p< : p
           (subst (λ (n : ℕ). AllOf n (getD (rowIn s .slots) t free .«frame_length») (L t)) (v .identifier (pending-at t w) ∙ w .bears .identifier)
           (lg .all-of t (w .bears .is-slot) (pending-at t w)))
 
-      further-taken : (t : ℕ) → Further before x t → Taken p t false x (x ∷ L t) (C t) before behind outcome (s .mem) (receives W Config U (at s) k .world .mem)
+      further-taken : (t : ℕ) → Further before x t → TakenFor p t false x (x ∷ L t) (C t) before behind outcome (s .mem) (receives W Config U (at s) k .world .mem)
       further-taken t w =
           let q : chosen (rowIn s .slots) x ≡ old t = chosen-old (rowIn s .slots) before st x f t (w .bears) (w .same) in
           let o : ghostOutcome ≡ cond (frameComplete (x ∷ L t)) (Complete t) Pending = outcome-further p (rowIn s) (g .mem) before lg st x f t w in
@@ -285,7 +285,7 @@ module _ (W : Answers) (Config : Type 0) (U : Layers W Config) (p : ℕ) (p< : p
             bytes = bytes-now t (x ∷ L t) o (ap (λ (y : Log). y t) a ∙ writes-same L t (x ∷ L t));
           }
 
-      opens-taken : (t : ℕ) → Opens before x t → Taken p t true x (x ∷ []) 0 before behind outcome (s .mem) (receives W Config U (at s) k .world .mem)
+      opens-taken : (t : ℕ) → Opens before x t → TakenFor p t true x (x ∷ []) 0 before behind outcome (s .mem) (receives W Config U (at s) k .world .mem)
       opens-taken t w =
           let q : chosen (rowIn s .slots) x ≡ fresh t = chosen-new (rowIn s .slots) before st x f t w in
           let o : ghostOutcome ≡ cond (frameComplete (x ∷ [])) (Complete t) Pending = outcome-opens p (rowIn s) (g .mem) before lg st x f t w in
@@ -308,15 +308,15 @@ module _ (W : Answers) (Config : Type 0) (U : Layers W Config) (p : ℕ) (p< : p
       -- what each case tells
       o-15 : Fifteen before x → codeOf outcome ≡ 15
       unfolding rejectionCode
-      o-15 w = ap codeOf (same ∙ told-15 p (rowIn s) (g .mem) before lg st x f w)
+      o-15 w = ap codeOf (same ∙ outcome-15 p (rowIn s) (g .mem) before lg st x f w)
 
       o-16 : Sixteen before x → codeOf outcome ≡ 16
       unfolding rejectionCode
-      o-16 w = ap codeOf (same ∙ told-16 p (rowIn s) (g .mem) before lg st x f w)
+      o-16 w = ap codeOf (same ∙ outcome-16 p (rowIn s) (g .mem) before lg st x f w)
 
       o-17 : Seventeen before x → codeOf outcome ≡ 17
       unfolding rejectionCode
-      o-17 w = ap codeOf (same ∙ told-17 p (rowIn s) (g .mem) before lg st x f w)
+      o-17 w = ap codeOf (same ∙ outcome-17 p (rowIn s) (g .mem) before lg st x f w)
 
       o-further : ((t : ℕ) × Further before x t) → codeOf outcome ≤ 1
       o-further w = rw (further-taken (w .0) (w .1) .outcome) (taken-code (frameComplete (x ∷ L (w .0))) (w .0))
@@ -349,9 +349,9 @@ module _ (W : Answers) (Config : Type 0) (U : Layers W Config) (p : ℕ) (p< : p
       unfolding rejectionCode
       ruled-at =
           record {
-            fifteen = record { only = λ q. only-15 (ap codeOf q); all = λ w. same ∙ told-15 p (rowIn s) (g .mem) before lg st x f w };
-            sixteen = record { only = λ q. only-16 (ap codeOf q); all = λ w. same ∙ told-16 p (rowIn s) (g .mem) before lg st x f w };
-            seventeen = record { only = λ q. only-17 (ap codeOf q); all = λ w. same ∙ told-17 p (rowIn s) (g .mem) before lg st x f w };
+            fifteen = record { only = λ q. only-15 (ap codeOf q); all = λ w. same ∙ outcome-15 p (rowIn s) (g .mem) before lg st x f w };
+            sixteen = record { only = λ q. only-16 (ap codeOf q); all = λ w. same ∙ outcome-16 p (rowIn s) (g .mem) before lg st x f w };
+            seventeen = record { only = λ q. only-17 (ap codeOf q); all = λ w. same ∙ outcome-17 p (rowIn s) (g .mem) before lg st x f w };
             further = further-taken;
             opens = opens-taken;
             rejected = refused-left;

@@ -23,7 +23,7 @@ use Rattle.reassembly.specs.SetUp.{Layers, Endpoint, World, receiveBy, r
 use Rattle.reassembly.specs.History.{Gathers, MakesUp, carries, carried, noSeg, OneOf, taking, covered, lengthOf, frameComplete, framePending, History}
 use Rattle.reassembly.specs.History.{historyOf}
 use Rattle.reassembly.specs.Laws.EveryRun.{frame-byte, runs-snoc}
-use Rattle.reassembly.specs.EveryRun.{frameAt, EveryRun, Taken, Ruled}
+use Rattle.reassembly.specs.EveryRun.{frameAt, EveryRun, TakenFor, Ruled}
 
 -- a byte that is covered is covered by some segment; and the other way
 pub record Coverer (gs : List Seg) (i : ℕ) : Type 0 where
@@ -142,7 +142,7 @@ module _ (W : Answers) (Config : Type 0) (U : Layers W Config) (p : ℕ) (e : En
 
   -- the segments of a frame that is complete make it up
   taken-makes : (s ticks : ℕ) (new : Bool) (gs : List Seg) → frameComplete gs ≡ true
-      → Taken p s new g gs ticks before behind (effect .outcome) (runs W Config U world es .mem) (runs W Config U world (es ++ (receive k ∷ [])) .mem)
+      → TakenFor p s new g gs ticks before behind (effect .outcome) (runs W Config U world es .mem) (runs W Config U world (es ++ (receive k ∷ [])) .mem)
       → MakesUp g gs (frameTaken s)
   taken-makes s ticks new gs c t =
       let n : length (frameTaken s) ≡ g .frame-length = length-frame bytesOf (effect .mem) (slotNo p s) (g .frame-length) in

@@ -350,17 +350,17 @@ module _ (p : ℕ) (row : Peer) (m : ℕ → List Piece) (h : History) (lg : Log
   outcome-by : (c : Choice) → chosen (row .slots) g ≡ c → takeAnswer ≡ placed ghost p (row .slots) m g c .outcome
   outcome-by c e = ap (λ (x : Effect ghost). x .outcome) (take-by ghost p row m g c e)
 
-  pub told-15 : Fifteen h g → takeAnswer ≡ Rejected LengthDiffers
-  told-15 x = outcome-by (reject LengthDiffers) (chosen-other (row .slots) h st g f x)
+  pub outcome-15 : Fifteen h g → takeAnswer ≡ Rejected LengthDiffers
+  outcome-15 x = outcome-by (reject LengthDiffers) (chosen-other (row .slots) h st g f x)
 
-  pub told-16 : Sixteen h g → takeAnswer ≡ Rejected AlreadyReceived
-  told-16 x =
+  pub outcome-16 : Sixteen h g → takeAnswer ≡ Rejected AlreadyReceived
+  outcome-16 x =
       let o : overlaps ghost m (slotNo p (x .slot)) g ≡ true =
       covered-overlaps m (slotNo p (x .slot)) g (h .taken (x .slot)) (x .byte) (lg .pieces (x .slot) (x .bears .is-slot)) (x .its) (x .already) in
       outcome-by (old (x .slot)) (chosen-old (row .slots) h st g f (x .slot) (x .bears) (x .same)) ∙ rw o
 
-  pub told-17 : Seventeen h g → takeAnswer ≡ Rejected NoSlot
-  told-17 x = outcome-by (reject NoSlot) (chosen-full (row .slots) h st g f x)
+  pub outcome-17 : Seventeen h g → takeAnswer ≡ Rejected NoSlot
+  outcome-17 x = outcome-by (reject NoSlot) (chosen-full (row .slots) h st g f x)
 
   finish-outcome : (s : ℕ) (r : List Slot) (m′ : ℕ → List Piece) (note : Note) (earlier : List Seg) → m′ (slotNo p s) ≡ map pieceOf (g ∷ earlier)
       → finish ghost p s r m′ g note .outcome ≡ cond (frameComplete (g ∷ earlier)) (Complete s) Pending
