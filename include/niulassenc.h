@@ -1,5 +1,6 @@
 /*
- * niulassenc: a tunnel endpoint for VXLAN (RFC 7348), NVGRE (RFC 7637) and STT (draft-davie-stt-06), without a heap.
+ * niulassenc: a tunnel endpoint for VXLAN (RFC 7348), NVGRE (RFC 7637) and STT (draft-davie-stt-06), and a detector of addresses
+ * that several peers show to one tenant, without a heap.
  *
  * The functions are those of the crate `niulassenc`: each is proved to do what its contract there says, for every input. What is
  * not proved is that a caller keeps the rules of this header. They are few:
@@ -10,13 +11,17 @@
  *   frame and output.
  * - An endpoint comes from niulassenc_start. It is plain data: it holds no pointer, may be copied, and needs no clean-up.
  *   Its fields may be read. Only the functions write it.
- * - Calls on one endpoint do not run at the same time; only wraps may, with each other, since they only read it. Calls on
- *   different endpoints with different memories may: there is no state outside what a call is given.
+ * - Calls on one endpoint do not run at the same time; only wraps and niulassenc_owner may, with each other, since they only read
+ *   it. Calls on different endpoints with different memories may: there is no state outside what a call is given.
  * - Reassembly memory belongs to one endpoint. It may contain anything at first, and each receive is given it as the last one
  *   left it. Where somebody else writes it, a receive stays safe and delivers what it finds there.
+ * - A detector comes from niulassenc_detector_start. It is plain data too, and only niulassenc_observe writes it; calls on one
+ *   detector do not run at the same time. It is separate from every endpoint: no call on an endpoint reads or writes it. Its
+ *   entries name peers by number, so start it anew where an endpoint is started anew with another list of peers.
  *
  * An address is a number: 10.0.0.1 is 0x0a000001. So are a port and a network id: none is in network byte order. Settings and
  * numbers of peers, bindings, tenants and segments are 32 bits wide, so that one that is too large is refused and not cut off.
+ * What a detector is told is not checked: its tenant and peer are 16 bits wide, as the library's answers have them.
  *
  * C11 or C++11, or later; x86-64 Linux. docs/EMBEDDING.md is the guide.
  */
@@ -33,7 +38,7 @@ extern "C" {
 
 /* The version of this header. niulassenc_version() gives the archive's in the same form. */
 #define NIULASSENC_VERSION_MAJOR 0
-#define NIULASSENC_VERSION_MINOR 2
+#define NIULASSENC_VERSION_MINOR 3
 #define NIULASSENC_VERSION_PATCH 0
 #define NIULASSENC_VERSION \
     (NIULASSENC_VERSION_MAJOR * 0x10000u + NIULASSENC_VERSION_MINOR * 0x100u + NIULASSENC_VERSION_PATCH)
@@ -50,8 +55,10 @@ extern "C" {
 #define NIULASSENC_TICKS 4            /* a pending frame is given up at this tick after its first segment */
 #define NIULASSENC_SLOT_BYTES 1728    /* reassembly memory of one slot */
 #define NIULASSENC_MEMORY_BYTES 55296 /* reassembly memory that a receive needs: 8 peers of 4 slots */
+#define NIULASSENC_ENTRIES 128        /* entries of a detector */
 
-/* What stands for a tenant, a binding or a number that is not there. 0xFFFF is a tenant's number too: the code decides. */
+/* What stands for a tenant, a binding, a peer or a number that is not there. 0xFFFF is a tenant's number too: the code, or what
+ * a detector answers, decides. */
 #define NIULASSENC_NONE 0xFFFF
 
 /* The answers. From 2 on they are refusals: a refused call leaves the endpoint, the memory and the output as they came. The one
@@ -90,6 +97,14 @@ enum niulassenc_kind {
     NIULASSENC_VXLAN = 1, /* ids 0 to 16,777,215 */
     NIULASSENC_NVGRE = 2, /* ids 4,096 to 16,777,214 */
     NIULASSENC_STT = 3    /* any 64-bit Context ID */
+};
+
+/* What a detector answers. Only the first makes an entry, and an entry stays. */
+enum niulassenc_observed {
+    NIULASSENC_OBSERVED_NEW = 0,       /* tenant and address were not listed: now they are, with this peer */
+    NIULASSENC_OBSERVED_KNOWN = 1,     /* listed with this peer */
+    NIULASSENC_OBSERVED_DUPLICATE = 2, /* listed with another peer, which is told: the first that showed them */
+    NIULASSENC_OBSERVED_FULL = 3       /* not listed, and 128 entries are kept: this address is not watched */
 };
 
 /* A slot of the reassembly memory: a pending STT frame, or free, every number 0. */
@@ -158,6 +173,22 @@ struct niulassenc_part_at {
     bool in_memory;
 };
 
+/* A detector. Entry i is addresses[i], tenants[i] and peers[i], the peer that showed this address to this tenant first. Behind
+ * the count every number is 0. */
+struct niulassenc_detector {
+    uint64_t addresses[NIULASSENC_ENTRIES];
+    uint16_t tenants[NIULASSENC_ENTRIES];
+    uint16_t peers[NIULASSENC_ENTRIES];
+    uint16_t count;
+};
+
+/* What an observation gives: one of enum niulassenc_observed, and of a duplicate the peer of its entry. For every other answer
+ * the peer is NIULASSENC_NONE. */
+struct niulassenc_observation {
+    uint8_t answer;
+    uint16_t peer;
+};
+
 /* The layout that the archive has. Where a compiler lays out otherwise, or the target is another one, nothing is built. */
 #ifdef __cplusplus
 #define NIULASSENC_HOLDS(fact) static_assert(fact, "niulassenc.h: " #fact)
@@ -219,6 +250,16 @@ NIULASSENC_AT(niulassenc_part_at, start, 0);
 NIULASSENC_AT(niulassenc_part_at, length, 8);
 NIULASSENC_AT(niulassenc_part_at, in_memory, 16);
 
+NIULASSENC_SIZE(niulassenc_detector, 1544);
+NIULASSENC_AT(niulassenc_detector, addresses, 0);
+NIULASSENC_AT(niulassenc_detector, tenants, 1024);
+NIULASSENC_AT(niulassenc_detector, peers, 1280);
+NIULASSENC_AT(niulassenc_detector, count, 1536);
+
+NIULASSENC_SIZE(niulassenc_observation, 4);
+NIULASSENC_AT(niulassenc_observation, answer, 0);
+NIULASSENC_AT(niulassenc_observation, peer, 2);
+
 #undef NIULASSENC_AT
 #undef NIULASSENC_SIZE
 #undef NIULASSENC_HOLDS
@@ -229,11 +270,15 @@ uint32_t niulassenc_version(void);
 /* The bytes of an endpoint, as the archive has it. */
 uint32_t niulassenc_endpoint_bytes(void);
 
-/* Whether header and archive go together. Where they do not, make no other call: one that writes the endpoint could write past
- * the struct that this header declares. */
+/* The bytes of a detector, as the archive has it. */
+uint32_t niulassenc_detector_bytes(void);
+
+/* Whether header and archive go together. Where they do not, make no other call: one that writes the endpoint or the detector
+ * could write past the struct that this header declares. */
 static inline bool niulassenc_matches(void)
 {
-    return niulassenc_version() == NIULASSENC_VERSION && niulassenc_endpoint_bytes() == sizeof(struct niulassenc_endpoint);
+    return niulassenc_version() == NIULASSENC_VERSION && niulassenc_endpoint_bytes() == sizeof(struct niulassenc_endpoint) &&
+           niulassenc_detector_bytes() == sizeof(struct niulassenc_detector);
 }
 
 /* Starts an endpoint: own address, port of STT (1 to 65,535), largest outer packet that is written (576 to 1,600): 18. */
@@ -267,6 +312,22 @@ struct niulassenc_writing niulassenc_wrap(const struct niulassenc_endpoint *endp
  * part at the packet's start (0, 0, in the packet). What it gives always fits. */
 struct niulassenc_part_at niulassenc_cut(size_t packet_length, size_t memory_length, size_t start, size_t length,
                                          bool in_memory);
+
+/* The number of the peer whose network a binding is: of a receipt's binding, the peer that the frame came from; its address is
+ * addresses[number] of the endpoint. NIULASSENC_NONE where no binding has this number. */
+uint16_t niulassenc_owner(const struct niulassenc_endpoint *endpoint, uint32_t binding);
+
+/* The source address of an inner frame (bytes 6 to 11) as a number: 02:00:00:00:00:01 is 0x020000000001. Of a frame under 12
+ * bytes, which no receive delivers, it is 0. */
+uint64_t niulassenc_source(const uint8_t *frame, size_t frame_length);
+
+/* A detector with no entry. */
+struct niulassenc_detector niulassenc_detector_start(void);
+
+/* Tells a detector of a delivered frame (code 0, no other): its tenant, the peer that it came from (niulassenc_owner) and its
+ * source address (niulassenc_source). Nothing is checked: what is told of another receipt becomes an entry too, and stays. */
+struct niulassenc_observation niulassenc_observe(struct niulassenc_detector *detector, uint16_t tenant, uint16_t peer,
+                                                 uint64_t address);
 
 /* A part of the packet or of the memory. */
 struct niulassenc_part {
@@ -317,6 +378,14 @@ static inline const char *niulassenc_text(uint32_t code)
     };
 
     return code < sizeof texts / sizeof *texts ? texts[code] : "unknown code";
+}
+
+/* A short text for what a detector answers; "unknown answer" for a number that this header does not have. */
+static inline const char *niulassenc_observed_text(uint32_t answer)
+{
+    static const char *const texts[] = {"new", "known", "duplicate", "detector full"};
+
+    return answer < sizeof texts / sizeof *texts ? texts[answer] : "unknown answer";
 }
 
 #ifdef __cplusplus

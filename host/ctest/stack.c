@@ -2,7 +2,7 @@
  * stack START OTHER: how much stack each call uses. Every case runs on a painted stack of its own; the deepest byte that
  * lost its paint tells the use, so only bytes that are written are seen. Counted with it are the few bytes of the frame that
  * makes the call, the struct that the call gives back where the compiler keeps it there, and what the C library's memcpy and
- * memset take. Fails where a start uses more than START bytes, or another call more than OTHER.
+ * memset take. Fails where a start, of an endpoint or of a detector, uses more than START bytes, or another call more than OTHER.
  */
 #define _XOPEN_SOURCE 700
 #undef NDEBUG
@@ -37,13 +37,15 @@ static uint8_t stack[STACK_BYTES];
 static uint8_t memory[NIULASSENC_MEMORY_BYTES];
 static uint8_t output[2000];
 static struct niulassenc_endpoint full, endpoint;
+static struct niulassenc_detector detector;
 static uint8_t inner[LARGEST_FRAME];
 static uint8_t stt[STT_HEADER + LARGEST_FRAME];
 
-/* What the next call is given, and the code that it gave. */
+/* What the next call is given, and the code, or the detector's answer, that it gave. */
 static struct {
-    uint64_t network;
+    uint64_t network, source;
     uint32_t address, port, kind, binding, segment;
+    uint16_t tenant, peer;
     uint8_t packet[2000];
     size_t packet_length, memory_length, frame_length, output_length;
 } given;
@@ -86,6 +88,28 @@ static void cut(void)
     struct niulassenc_part_at at = niulassenc_cut(given.packet_length, given.memory_length, given.frame_length, 2, true);
 
     code = at.length == 2 ? NIULASSENC_DONE : NIULASSENC_OUT_OF_RANGE;
+}
+
+static void owner(void)
+{
+    code = niulassenc_owner(&endpoint, given.binding) == given.peer ? NIULASSENC_DONE : NIULASSENC_OUT_OF_RANGE;
+}
+
+static void source(void)
+{
+    code = niulassenc_source(inner, given.frame_length) == given.source ? NIULASSENC_DONE : NIULASSENC_OUT_OF_RANGE;
+}
+
+static void detector_start(void)
+{
+    struct niulassenc_detector started = niulassenc_detector_start();
+
+    code = started.count == 0 && started.addresses[NIULASSENC_ENTRIES - 1] == 0 ? NIULASSENC_DONE : NIULASSENC_OUT_OF_RANGE;
+}
+
+static void observe(void)
+{
+    code = niulassenc_observe(&detector, given.tenant, given.peer, given.source).answer;
 }
 
 static void matches(void)
@@ -326,6 +350,44 @@ static void cuts(struct subject *subject)
     measure(subject, NIULASSENC_OUT_OF_RANGE);
 }
 
+static void owners(struct subject *subject)
+{
+    endpoint = full;
+    given.binding = ON_STT;
+    given.peer = 7;
+    measure(subject, NIULASSENC_DONE);
+    given.binding = 64;
+    given.peer = NIULASSENC_NONE;
+    measure(subject, NIULASSENC_DONE);
+    given.binding = UINT32_MAX;
+    measure(subject, NIULASSENC_DONE);
+}
+
+static void sources(struct subject *subject)
+{
+    given.source = 0x060708090a0b; /* byte i of the inner frame is i */
+    given.frame_length = sizeof inner;
+    measure(subject, NIULASSENC_DONE);
+    given.source = 0;
+    given.frame_length = 11;
+    measure(subject, NIULASSENC_DONE);
+}
+
+/* What is found stands at the last of 128 entries. */
+static void observations(struct subject *subject)
+{
+    detector = niulassenc_detector_start();
+    given.tenant = 7;
+    given.peer = 2;
+    for (given.source = 0; given.source < NIULASSENC_ENTRIES; given.source++)
+        measure(subject, NIULASSENC_OBSERVED_NEW);
+    measure(subject, NIULASSENC_OBSERVED_FULL);
+    given.source--;
+    measure(subject, NIULASSENC_OBSERVED_KNOWN);
+    given.peer = 3;
+    measure(subject, NIULASSENC_OBSERVED_DUPLICATE);
+}
+
 static void once(struct subject *subject)
 {
     measure(subject, NIULASSENC_DONE);
@@ -351,6 +413,10 @@ int main(int count, char **arguments)
         {"tick", tick, ticks, 0, 0},
         {"wrap", wrap, wraps, 0, 0},
         {"cut", cut, cuts, 0, 0},
+        {"owner", owner, owners, 0, 0},
+        {"source", source, sources, 0, 0},
+        {"detector_start", detector_start, once, 0, 0},
+        {"observe", observe, observations, 0, 0},
         {"matches", matches, once, 0, 0},
     };
     bool kept = true;
@@ -368,8 +434,9 @@ int main(int count, char **arguments)
     list(8, 64);
     full = endpoint;
     for (size_t i = 0; i < sizeof subjects / sizeof *subjects; i++) {
+        bool starts_something = subjects[i].call == start || subjects[i].call == detector_start;
         subjects[i].cases(&subjects[i]);
-        kept = within(&subjects[i], subjects[i].call == start ? of_start : of_others) && kept;
+        kept = within(&subjects[i], starts_something ? of_start : of_others) && kept;
     }
     return kept ? 0 : 1;
 }

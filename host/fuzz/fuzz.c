@@ -1,11 +1,14 @@
 /*
  * A fuzz target for clang's libFuzzer. An input is read as a run of calls: starts, additions, receives of raw and of built
- * packets, ticks, wraps and cuts, on one endpoint with one memory. Everything that a call is lent ends right before a page that
- * may not be touched, or begins right behind one. After each call these are checked:
+ * packets, ticks, wraps and cuts, on one endpoint with one memory; observations by one detector, of what is delivered and of any
+ * numbers. Everything that a call is lent ends right before a page that may not be touched, or begins right behind one. After
+ * each call these are checked:
  *
  * - the code is one that the call can give;
  * - a refusal changed neither endpoint nor memory nor output, a good call only what it may change, and no call its input;
- * - what is delivered lies where the answer says, is a good frame, and goes to the tenant of its binding.
+ * - what is delivered lies where the answer says, is a good frame, goes to the tenant of its binding, and came from the
+ *   binding's owner;
+ * - a detector answers what a search through its entries says, and only a new address changes it, by one entry.
  *
  * The archive is not instrumented, so the fuzzer is told what happened by counters of its own: the answers given to each call,
  * and how many frames were pending.
@@ -29,10 +32,11 @@ enum { MEMORY = NIULASSENC_MEMORY_BYTES, LONGEST = 2000, OWN = 0x0a000002, STT_P
         }                                                                       \
     } while (0)
 
-enum call { START, PEER, BINDING, RAW, BUILT, TICK, WRAP, CUT, CALLS };
+enum call { START, PEER, BINDING, RAW, BUILT, TICK, WRAP, CUT, OWNER, SOURCE, OBSERVE, CALLS };
 
-/* What the fuzzer looks at: each answer to each call, and each number of pending frames. */
-__attribute__((section("__libfuzzer_extra_counters"))) static uint8_t counters[CALLS * 32 + 64];
+/* What the fuzzer looks at: each answer to each call, each number of pending frames, and the number of entries by eights. */
+enum { PENDING = CALLS * 32, ENTRIES = PENDING + NIULASSENC_PEERS * NIULASSENC_SLOTS + 1, COUNTERS = ENTRIES + 32 };
+__attribute__((section("__libfuzzer_extra_counters"))) static uint8_t counters[COUNTERS];
 
 static void count(enum call call, uint8_t code)
 {
@@ -90,8 +94,9 @@ static uint8_t *part(struct region from, size_t length, bool at_end)
     return at_end ? from.begin + from.size - length : from.begin;
 }
 
-static struct region endpoint_pages, memory_pages, packet_pages, output_pages;
+static struct region endpoint_pages, memory_pages, packet_pages, output_pages, detector_pages;
 static struct niulassenc_endpoint *endpoint;
+static struct niulassenc_detector *detector;
 static uint8_t *memory;
 static bool at_end;
 
@@ -99,8 +104,11 @@ static bool at_end;
 static struct niulassenc_endpoint endpoint_before;
 static uint8_t memory_before[MEMORY], lent_before[LONGEST];
 
-/* The bytes of an endpoint that mean something: not the padding at its end. */
-enum { ENDPOINT_BYTES = offsetof(struct niulassenc_endpoint, owners) + NIULASSENC_BINDINGS };
+/* The bytes of an endpoint and of a detector that mean something: not the padding at their ends. */
+enum {
+    ENDPOINT_BYTES = offsetof(struct niulassenc_endpoint, owners) + NIULASSENC_BINDINGS,
+    DETECTOR_BYTES = offsetof(struct niulassenc_detector, count) + sizeof(uint16_t)
+};
 
 static void remember(void)
 {
@@ -135,7 +143,7 @@ static void count_pending(void)
     for (unsigned peer = 0; peer < NIULASSENC_PEERS; peer++)
         for (unsigned slot = 0; slot < NIULASSENC_SLOTS; slot++)
             pending += endpoint->peers[peer].slots[slot].pending;
-    counters[CALLS * 32 + pending]++;
+    counters[PENDING + pending]++;
 }
 
 static void put16(uint8_t *at, uint32_t value)
@@ -191,7 +199,33 @@ static void mend(uint8_t *packet, size_t length, uint32_t which)
     }
 }
 
-/* A delivered frame: where it lies, what it is, whose it is. */
+/* Tells the detector. What it must answer is told from its entries, of which there are never more than fit; what it must be
+ * afterwards, from the answer. */
+static void observe(uint16_t tenant, uint16_t peer, uint64_t address)
+{
+    struct niulassenc_detector expected = *detector;
+    unsigned kept = expected.count < NIULASSENC_ENTRIES ? expected.count : NIULASSENC_ENTRIES, at = 0;
+    uint8_t answer = kept == NIULASSENC_ENTRIES ? NIULASSENC_OBSERVED_FULL : NIULASSENC_OBSERVED_NEW;
+
+    while (at < kept && (expected.addresses[at] != address || expected.tenants[at] != tenant))
+        at++;
+    if (at < kept)
+        answer = expected.peers[at] == peer ? NIULASSENC_OBSERVED_KNOWN : NIULASSENC_OBSERVED_DUPLICATE;
+    struct niulassenc_observation got = niulassenc_observe(detector, tenant, peer, address);
+    count(OBSERVE, got.answer);
+    counters[ENTRIES + kept / 8]++;
+    CHECK(got.answer == answer);
+    CHECK(got.peer == (answer == NIULASSENC_OBSERVED_DUPLICATE ? expected.peers[at] : NIULASSENC_NONE));
+    if (answer == NIULASSENC_OBSERVED_NEW) {
+        expected.addresses[kept] = address;
+        expected.tenants[kept] = tenant;
+        expected.peers[kept] = peer;
+        expected.count++;
+    }
+    CHECK(memcmp(&expected, detector, DETECTOR_BYTES) == 0);
+}
+
+/* A delivered frame: where it lies, what it is, whose it is, whom it came from. */
 static void delivered(struct niulassenc_receipt got, const uint8_t *packet, size_t length)
 {
     struct niulassenc_part frame = niulassenc_view(packet, length, memory, MEMORY, got);
@@ -201,6 +235,12 @@ static void delivered(struct niulassenc_receipt got, const uint8_t *packet, size
     CHECK(!(frame.bytes[12] == 0x81 && frame.bytes[13] == 0x00) && !(frame.bytes[12] == 0x88 && frame.bytes[13] == 0xa8));
     CHECK(got.binding < endpoint->binding_count && endpoint->tenants[got.binding] == got.tenant);
     CHECK(got.in_memory == (endpoint->kinds[got.binding] == NIULASSENC_STT));
+    uint16_t peer = niulassenc_owner(endpoint, got.binding);
+    uint8_t address[4];
+    CHECK(peer < endpoint->peer_count);
+    put32(address, endpoint->addresses[peer]);
+    CHECK(memcmp(address, packet + 12, sizeof address) == 0);
+    observe(got.tenant, peer, niulassenc_source(frame.bytes, frame.length));
 }
 
 static void receive(enum call call, const uint8_t *built, size_t length, size_t memory_length)
@@ -361,6 +401,53 @@ static void cut(void)
     CHECK(got.in_memory == (fits && which & 16));
 }
 
+static void owner(void)
+{
+    uint32_t which = number(1), binding = which & 1 ? number(4) : which >> 1;
+
+    remember();
+    uint16_t got = niulassenc_owner(endpoint, binding);
+    bool listed = binding < endpoint->binding_count;
+    count(OWNER, listed);
+    CHECK(got == (listed ? endpoint->owners[binding] : NIULASSENC_NONE));
+    CHECK(endpoint_same());
+}
+
+static void source(void)
+{
+    size_t length = number(1) % 32;
+    uint8_t *frame = part(packet_pages, length, at_end);
+    uint64_t expected = 0;
+
+    bytes(frame, length);
+    memcpy(lent_before, frame, length);
+    for (size_t i = 6; i < 12 && length >= 12; i++)
+        expected = expected << 8 | frame[i];
+    CHECK(niulassenc_source(frame, length) == expected);
+    CHECK(memcmp(lent_before, frame, length) == 0);
+    count(SOURCE, length >= 12);
+}
+
+/* Observations of addresses in a row, now and then by another detector: an empty one, or one whose count no call would give. */
+static void watch(void)
+{
+    uint32_t which = number(1), more = which & 16 ? number(1) : 1;
+    uint16_t tenant = (uint16_t)(which & 1 ? number(2) : 7), peer = (uint16_t)(which & 2 ? number(2) : which >> 5);
+    uint64_t address = (which & 4 ? (uint64_t)number(4) << 32 : 0) + number(1);
+
+    if (which == 0) {
+        static const struct niulassenc_detector empty;
+        *detector = niulassenc_detector_start();
+        CHECK(memcmp(detector, &empty, DETECTOR_BYTES) == 0);
+    } else if (which & 8 && number(1) == 0) {
+        detector->count = (uint16_t)number(2);
+    }
+    remember();
+    for (; more > 0; more--)
+        observe(tenant, peer, address++);
+    CHECK(endpoint_same() && memory_same());
+}
+
 int LLVMFuzzerTestOneInput(const uint8_t *data, size_t size);
 
 int LLVMFuzzerInitialize(int *count, char ***arguments);
@@ -374,6 +461,7 @@ int LLVMFuzzerInitialize(int *count, char ***arguments)
     memory_pages = region(MEMORY);
     packet_pages = region(LONGEST);
     output_pages = region(LONGEST);
+    detector_pages = region(sizeof *detector);
     return 0;
 }
 
@@ -387,6 +475,8 @@ int LLVMFuzzerTestOneInput(const uint8_t *data, size_t size)
     memory = part(memory_pages, MEMORY, at_end);
     memset(memory, how & 2 ? 0xff : 0, MEMORY);
     *endpoint = niulassenc_start(OWN, STT_PORT, NIULASSENC_MTU_MIN + (how >> 2)).endpoint;
+    detector = (struct niulassenc_detector *)(void *)part(detector_pages, sizeof *detector, at_end);
+    *detector = niulassenc_detector_start();
     for (uint32_t i = 0; i < 4; i++) {
         CHECK(niulassenc_add_peer(endpoint, OWN + 1 + i).code == NIULASSENC_DONE);
         CHECK(niulassenc_add_binding(endpoint, i, NIULASSENC_VXLAN, 22, i).code == NIULASSENC_DONE);
@@ -394,7 +484,7 @@ int LLVMFuzzerTestOneInput(const uint8_t *data, size_t size)
         CHECK(niulassenc_add_binding(endpoint, i, NIULASSENC_NVGRE, 0x1016, i).code == NIULASSENC_DONE);
     }
     while (left > 0) {
-        uint32_t next = number(1) % 16;
+        uint32_t next = number(1) % 20;
         if (next == 0)
             start();
         else if (next == 1)
@@ -409,8 +499,14 @@ int LLVMFuzzerTestOneInput(const uint8_t *data, size_t size)
             cut();
         else if (next < 10)
             raw();
-        else
+        else if (next < 16)
             built();
+        else if (next == 16)
+            owner();
+        else if (next == 17)
+            source();
+        else
+            watch();
         count_pending();
     }
     return 0;

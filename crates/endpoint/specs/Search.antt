@@ -4,8 +4,8 @@ use Prim.Native.Nat.{ℕ}
 use Rattle.endpoint.specs.declared.answer.Drop.{Drop}
 use Rattle.endpoint.specs.declared.search.Lookup.{Lookup}
 use Rattle.endpoint.specs.declared.search.Lookup.the-variants as F
-unfoldable pub use Rattle.reassembly.specs.Search.{from, lowest}
-pub use Rattle.reassembly.specs.Search.{Lowest}
+unfoldable pub use Rattle.lookup.specs.Search.{from, lowest}
+pub use Rattle.lookup.specs.Search.{Lowest}
 
 -- ---- need not be believed: the answer of a lookup
 

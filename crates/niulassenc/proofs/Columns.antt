@@ -118,7 +118,7 @@ module _ {M : Type 1} (𝓤 : URA M) (H : Heap 𝓤) (A : Atoms 𝓤) (W : Given
     lends-kinds = column u8 mostBindings kindsAt (λ e. e .kinds) (part-field 𝓤 H A W T.the-type T′.the-laws T′.the-copy 9 kindsAt refl refl
         (T.struct .as-values) (λ e. refl))
 
-    lends-owners : Lends Owners ℓ κ q h (h .owners) b o ownersAt
+    pub lends-owners : Lends Owners ℓ κ q h (h .owners) b o ownersAt
     lends-owners = column u8 mostBindings ownersAt (λ e. e .owners) (part-field 𝓤 H A W T.the-type T′.the-laws T′.the-copy 10 ownersAt refl refl
         (T.struct .as-values)
         (λ e. refl))

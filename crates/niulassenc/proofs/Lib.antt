@@ -3,5 +3,6 @@ mod Offsets
 mod Columns
 mod RowAt
 mod Fields
+mod Entries
 mod Parts
 mod Relent

@@ -1,9 +1,14 @@
-// A demonstration: one endpoint with two peers, a network of each kind, and what becomes of seven packets. The boards behind the tenants are clones: all
-// three frames have the same addresses, and each goes to its own tenant.
+// A demonstration: one endpoint with two peers, a network of each kind, and what becomes of eight packets. The boards are clones: all frames have the same
+// addresses. Three go to a tenant each, and none of these sees the others; when a second peer shows the address to one of the tenants, the detector says so.
 mod report;
 
+use detector::detector::Detector;
+use detector::number::DUPLICATE;
+use endpoint::answer::Received;
+use endpoint::answer::Target;
 use endpoint::config;
 use endpoint::config::Endpoint;
+use endpoint::number::BINDINGS;
 use endpoint::number::NVGRE;
 use endpoint::number::STT;
 use endpoint::number::VXLAN;
@@ -22,6 +27,12 @@ const PEER_1: u32 = 0x0a000003;
 const STT_PORT: u32 = 7471;
 
 const MTU: u32 = 1500;
+
+// What the program keeps: an endpoint, and a detector of duplicate addresses beside it.
+struct Rack {
+    endpoint: Endpoint,
+    detector: Detector,
+}
 
 // Lists a peer and reports its number.
 fn with_peer(e: Endpoint, address: u32) -> Endpoint {
@@ -51,7 +62,7 @@ fn with_binding(e: Endpoint, peer: u32, kind: u32, network: u64, tenant: u32) ->
     made.endpoint
 }
 
-// Two peers. Peer 0 has a VXLAN and an STT network, peer 1 an NVGRE network, and each of the three is one tenant's.
+// Two peers. Peer 0 has a VXLAN and an STT network, peer 1 an NVGRE and a VXLAN network. The two VXLAN networks are one tenant's.
 fn set_up() -> Endpoint {
     let started = config::start(OWN, STT_PORT, MTU);
     let fresh = started.endpoint;
@@ -59,23 +70,65 @@ fn set_up() -> Endpoint {
     let two = with_peer(one, PEER_1);
     let vxlan = with_binding(two, 0, VXLAN, 22, 7);
     let nvgre = with_binding(vxlan, 1, NVGRE, 4096, 8);
-    with_binding(nvgre, 0, STT, 7, 9)
+    let stt = with_binding(nvgre, 0, STT, 7, 9);
+    with_binding(stt, 1, VXLAN, 23, 7)
+}
+
+// Observes a frame of a binding with the detector: the binding's owner is the peer that it came from. Reports a duplicate.
+fn observed(rack: Rack, target: Target, frame: &[u8]) -> Rack {
+    let binding = target.binding as usize;
+    if BINDINGS <= binding {
+        return rack;
+    }
+    let endpoint = rack.endpoint;
+    let peer = endpoint.owners[binding] as u16;
+    let address = detector::source::source(frame);
+    let detector = rack.detector;
+    let observed = detector::observe::observe(detector, target.tenant, peer, address);
+    let next = observed.detector;
+    let seen = observed.answer;
+    if seen.answer == DUPLICATE {
+        let addresses = endpoint.addresses;
+        report::duplicate(target.tenant, address, &addresses, seen.peer, peer);
+    }
+    Rack {
+        endpoint: endpoint,
+        detector: next,
+    }
+}
+
+// Has the detector observe what was delivered, if anything was.
+fn watched<'p, 'm>(rack: Rack, answer: Received, packet: &'p [u8], memory: &'m [u8]) -> Rack
+where
+    'p: 'm,
+{
+    let Received::Delivered(target, place) = answer else {
+        return rack;
+    };
+    observed(rack, target, endpoint::view::view(packet, memory, place))
 }
 
 // Receives a packet and reports what became of it.
-fn show(e: Endpoint, name: &[u8], packet: &[u8], memory: &mut [u8]) -> Endpoint {
-    let receipt = endpoint::receive::receive(e, packet, memory);
+fn show(rack: Rack, name: &[u8], packet: &[u8], memory: &mut [u8]) -> Rack {
+    let endpoint = rack.endpoint;
+    let detector = rack.detector;
+    let receipt = endpoint::receive::receive(endpoint, packet, memory);
+    let received = receipt.endpoint;
     let answer = receipt.answer;
     text(name);
     text(b": ");
     report::received(answer, packet, memory);
-    receipt.endpoint
+    let next = Rack {
+        endpoint: received,
+        detector: detector,
+    };
+    watched(next, answer, packet, memory)
 }
 
 // Two frames, each whole in one packet.
-fn whole_frames(e: Endpoint, memory: &mut [u8]) -> Endpoint {
+fn whole_frames(rack: Rack, memory: &mut [u8]) -> Rack {
     let first = show(
-        e,
+        rack,
         b"VXLAN from 10.0.0.2, network 22",
         b"\x45\x00\x00\x32\x00\x00\x40\x00\x40\x11\x26\xb9\x0a\x00\x00\x02\x0a\x00\x00\x01\
           \xcc\xb8\x12\xb5\x00\x1e\x00\x00\
@@ -94,9 +147,9 @@ fn whole_frames(e: Endpoint, memory: &mut [u8]) -> Endpoint {
 }
 
 // A frame in two segments, its end first.
-fn in_segments(e: Endpoint, memory: &mut [u8]) -> Endpoint {
+fn in_segments(rack: Rack, memory: &mut [u8]) -> Rack {
     let first = show(
-        e,
+        rack,
         b"STT from 10.0.0.2, network 7, bytes 20 to 31 of 32",
         b"\x45\x00\x00\x34\x00\x00\x40\x00\x40\x06\x26\xc2\x0a\x00\x00\x02\x0a\x00\x00\x01\
           \xcc\xb8\x1d\x2f\x00\x20\x00\x14\x00\x00\x00\x01\x50\x18\x00\x00\x26\xe9\x00\x00\
@@ -115,9 +168,9 @@ fn in_segments(e: Endpoint, memory: &mut [u8]) -> Endpoint {
 }
 
 // Packets that are dropped: a changed bit, another peer's network, a sender that is not listed.
-fn dropped(e: Endpoint, memory: &mut [u8]) -> Endpoint {
+fn dropped(rack: Rack, memory: &mut [u8]) -> Rack {
     let first = show(
-        e,
+        rack,
         b"STT from 10.0.0.2, network 7, last bit damaged",
         b"\x45\x00\x00\x48\x00\x00\x40\x00\x40\x06\x26\xae\x0a\x00\x00\x02\x0a\x00\x00\x01\
           \xcc\xb8\x1d\x2f\x00\x20\x00\x00\x00\x00\x00\x02\x50\x18\x00\x00\x24\xe1\x00\x00\
@@ -145,6 +198,19 @@ fn dropped(e: Endpoint, memory: &mut [u8]) -> Endpoint {
     )
 }
 
+// The first tenant's address again, from the other peer.
+fn shown_twice(rack: Rack, memory: &mut [u8]) -> Rack {
+    show(
+        rack,
+        b"VXLAN from 10.0.0.3, network 23",
+        b"\x45\x00\x00\x32\x00\x00\x40\x00\x40\x11\x26\xb8\x0a\x00\x00\x03\x0a\x00\x00\x01\
+          \xcc\xb8\x12\xb5\x00\x1e\x00\x00\
+          \x08\x00\x00\x00\x00\x00\x17\x00\
+          \x02\x00\x00\x00\x00\x02\x02\x00\x00\x00\x00\x01\x88\xb5",
+        memory,
+    )
+}
+
 fn main() {
     let mut memory = [0u8; MEMORY_BYTES];
     text(b"endpoint ");
@@ -152,8 +218,12 @@ fn main() {
     text(b", STT on port ");
     decimal(STT_PORT as u64);
     text(b"\n");
-    let ready = set_up();
+    let ready = Rack {
+        endpoint: set_up(),
+        detector: detector::detector::start(),
+    };
     let first = whole_frames(ready, &mut memory);
     let second = in_segments(first, &mut memory);
-    dropped(second, &mut memory);
+    let third = dropped(second, &mut memory);
+    shown_twice(third, &mut memory);
 }

@@ -8,6 +8,7 @@ use endpoint::number::VXLAN;
 use program::print;
 use program::print::decimal;
 use program::print::text;
+use reassembly::number::PEERS;
 
 pub(crate) fn kind(k: u32) {
     match k {
@@ -84,4 +85,51 @@ where
         Received::Pending => pending(code::received_code(answer)),
         Received::Dropped(d) => dropped(code::drop_code(d)),
     }
+}
+
+// The lowest byte of a number.
+fn octet(n: u64) {
+    io::print_hex(1, n % 256, 2);
+}
+
+// A hardware address, from its number.
+fn hardware(address: u64) {
+    octet(address / 0x10000000000);
+    text(b":");
+    octet(address / 0x100000000);
+    text(b":");
+    octet(address / 0x1000000);
+    text(b":");
+    octet(address / 0x10000);
+    text(b":");
+    octet(address / 0x100);
+    text(b":");
+    octet(address);
+}
+
+// The address of a peer, by its number.
+fn peer(addresses: &[u32; PEERS], number: u16) {
+    let n = number as usize;
+    if n < PEERS {
+        print::address(addresses[n]);
+    }
+}
+
+// An address that two peers show to one tenant.
+pub(crate) fn duplicate(
+    tenant: u16,
+    address: u64,
+    addresses: &[u32; PEERS],
+    first: u16,
+    second: u16,
+) {
+    text(b"tenant ");
+    decimal(tenant as u64);
+    text(b": ");
+    hardware(address);
+    text(b" is shown by peers ");
+    peer(addresses, first);
+    text(b" and ");
+    peer(addresses, second);
+    text(b"\n");
 }

@@ -90,8 +90,8 @@ pub record Fourteen (h h′ : History) (o : Outcome) (m m′ : List ℕ) : Type 
   pub rejected : o ≡ Rejected cause
   pub unchanged : NothingMoves h h′ m m′
 
--- slot v of the endpoint is as the history has it: a frame is pending in it exactly if the history says so, with the identifier and the length that its segments
--- state, and its age is the ticks since it opened
+-- slot v of the endpoint is as the history has it: a frame is pending in it exactly if the history says so, with the identifier and the length that its
+-- segments state, and its age is the ticks since it opened
 pub record Stands (v : Slot) (gs : List Seg) (ticks : ℕ) : Type 0 where
   pub pending : v .pending ≡ framePending gs ticks
   pub identifier : v .pending ≡ true → v .identifier ≡ identifierOf gs

@@ -1,5 +1,4 @@
 pub mod Base
-pub mod Search
 pub mod Slots
 pub mod Take
 pub mod Store

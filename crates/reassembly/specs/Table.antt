@@ -11,7 +11,7 @@ use lib.ListN.{length, getD}
 use Rattle.wire.specs.Checks.{_⇒_}
 use Rattle.wire.specs.Table.{Rows, _otherwise_, _is_, _isnt_, _below_, _above_, _atLeast_}
 use Rattle.reassembly.specs.Base.{someBelow, allBelow, table}
-use Rattle.reassembly.specs.Search.{lowest, found}
+use Rattle.lookup.specs.Search.{lowest, found}
 use Rattle.reassembly.specs.Slots.{Slot, Peer, free}
 use Rattle.reassembly.specs.Take.{Seg, Outcome, Rejected, Pending, Complete, NoMemory, Effect, rejectionCode, slotNo, frameIn}
 use Rattle.reassembly.specs.Store.{bytesOf, takeIn}

@@ -3,6 +3,7 @@ use crate::line;
 use crate::number;
 use crate::record;
 use crate::record::PAYLOAD_MAX;
+use detector::detector::Detector;
 use endpoint::answer::Place;
 use endpoint::config;
 use endpoint::config::Endpoint;
@@ -15,9 +16,10 @@ const UNWRITTEN: u8 = 0xAA;
 // The bytes in front of the frame in a wrap's payload: binding, segment, identifier and the output's length.
 const WRAP_NUMBERS: usize = 12;
 
-// The endpoint, how many bytes of the memory are lent, and the last packet's length. `done`: nothing more is to be read.
+// The endpoint, the detector that starts with it, how many bytes of the memory are lent, and the last packet's length. `done`: nothing more is to be read.
 pub(crate) struct State {
     pub endpoint: Endpoint,
+    pub detector: Detector,
     pub lent: usize,
     pub received: usize,
     pub done: bool,
@@ -28,6 +30,7 @@ pub(crate) fn begin() -> State {
     let e = started.endpoint;
     State {
         endpoint: e,
+        detector: detector::detector::start(),
         lent: 0,
         received: 0,
         done: false,
@@ -52,6 +55,7 @@ fn with(state: State, e: Endpoint) -> State {
     next
 }
 
+// A refused start empties the detector too.
 fn start(state: State, f: &[u8]) -> State {
     let own = number::low32(number::at(f, 0, 4));
     let port = number::low32(number::at(f, 4, 6));
@@ -60,7 +64,9 @@ fn start(state: State, f: &[u8]) -> State {
     let answer = made.answer;
     line::started(answer);
     let e = made.endpoint;
-    with(state, e)
+    let mut next = with(state, e);
+    next.detector = detector::detector::start();
+    next
 }
 
 fn add_peer(state: State, f: &[u8]) -> State {
@@ -194,6 +200,19 @@ pub(crate) fn wrap(state: State, length: usize) -> State {
     wrap_read(state, length, &mut payload, &mut output)
 }
 
+fn observe(state: State, f: &[u8]) -> State {
+    let tenant = number::low16(number::at(f, 0, 2));
+    let peer = number::low16(number::at(f, 2, 4));
+    let address = number::at(f, 4, 12);
+    let observed = detector::observe::observe(state.detector, tenant, peer, address);
+    let d = observed.detector;
+    let answer = observed.answer;
+    line::observed(answer, d);
+    let mut next = state;
+    next.detector = d;
+    next
+}
+
 // Every call but a receive and a wrap.
 pub(crate) fn other(state: State, op: u8, f: &[u8], packet: &mut [u8], memory: &mut [u8]) -> State {
     match op {
@@ -203,6 +222,7 @@ pub(crate) fn other(state: State, op: u8, f: &[u8], packet: &mut [u8], memory: &
         record::LEND => lend(state, f, memory),
         record::TICK => tick(state),
         record::VIEW => view(state, f, packet, memory),
+        record::OBSERVE => observe(state, f),
         _ => broken(state),
     }
 }

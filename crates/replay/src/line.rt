@@ -1,4 +1,9 @@
 // The lines of the answers (host/README.md, "The files").
+use crate::hash::detector_hash;
+use detector::detector::Detector;
+use detector::number::DUPLICATE;
+use detector::number::NONE;
+use detector::observe::Observation;
 use endpoint::answer::Added;
 use endpoint::answer::Place;
 use endpoint::answer::Received;
@@ -148,5 +153,32 @@ pub(crate) fn wrapped(answer: Wrapped, output: &[u8]) {
     }
     text(b" ");
     decimal(hash(0, output));
+    text(b"\n");
+}
+
+// Only a duplicate names a peer. It may be any, the number of no peer too.
+fn names_none(seen: Observation) -> bool {
+    if seen.answer == DUPLICATE {
+        return false;
+    }
+    seen.peer == NONE
+}
+
+// A peer that another answer names all the same is written, and no expected line has it.
+fn first_peer(seen: Observation) {
+    if names_none(seen) {
+        text(b"-");
+        return;
+    }
+    decimal(seen.peer as u64);
+}
+
+pub(crate) fn observed(seen: Observation, d: Detector) {
+    text(b"observe ");
+    decimal(seen.answer as u64);
+    text(b" ");
+    first_peer(seen);
+    text(b" ");
+    decimal(detector_hash(d));
     text(b"\n");
 }

@@ -19,6 +19,8 @@ pub(crate) const VIEW: u8 = 7;
 
 pub(crate) const WRAP: u8 = 8;
 
+pub(crate) const OBSERVE: u8 = 9;
+
 // The longest payload, and the longest one that is neither a packet nor a frame.
 pub(crate) const PAYLOAD_MAX: usize = 2000;
 
@@ -56,6 +58,7 @@ fn fields_length(op: u8) -> usize {
         LEND => 8,
         TICK => 0,
         VIEW => FIELDS_MAX,
+        OBSERVE => 12,
         _ => 65536,
     }
 }

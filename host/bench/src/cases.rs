@@ -11,6 +11,15 @@ pub const INNER: [usize; 2] = [64, 1514];
 /// The network that the packets are on.
 const NETWORK: u64 = 0x00C0_FFEE;
 
+/// The tenant that the detector's entries are of.
+const TENANT: u16 = 7;
+
+/// What a detector answers.
+const NEW: u8 = 0;
+const KNOWN: u8 = 1;
+const DUPLICATE: u8 = 2;
+const FULL: u8 = 3;
+
 const FROM_PEER: Path = Path {
     from: PEER_A,
     to: OWN,
@@ -21,6 +30,26 @@ pub enum Call {
     Receive(Vec<u8>),
     Tick,
     Wrap(Vec<u8>),
+    Observe(Seen),
+}
+
+/// What a detector is told of.
+#[derive(Clone, Copy)]
+pub struct Seen {
+    pub tenant: u16,
+    pub peer: u16,
+    pub address: u64,
+}
+
+impl Seen {
+    /// What makes entry `number` of a measured detector, counted from 1.
+    fn of_entry(number: u64) -> Seen {
+        Seen {
+            tenant: TENANT,
+            peer: 2,
+            address: 0x0200_0000_0000 + number,
+        }
+    }
 }
 
 /// What is listed. The sender and its binding come last, so that they are found
@@ -58,7 +87,7 @@ impl Listing {
 pub struct Case {
     pub name: String,
     pub call: Call,
-    /// The code that every measured call must give.
+    /// The code, or the detector's answer, that every measured call must give.
     pub code: u8,
     /// How the network of the packets is carried.
     pub kind: u8,
@@ -69,6 +98,8 @@ pub struct Case {
     pub after: Vec<Vec<u8>>,
     /// Bytes that the transport sum goes over; 0 if there is none.
     pub summed: usize,
+    /// Entries that the detector keeps before each measured call.
+    pub kept: u64,
 }
 
 impl Case {
@@ -82,6 +113,7 @@ impl Case {
             before: Vec::new(),
             after: Vec::new(),
             summed: 0,
+            kept: 0,
         }
     }
 
@@ -92,7 +124,19 @@ impl Case {
     /// Whether the measured call can be repeated with nothing around it, so
     /// that its time can be told too.
     pub fn stands_alone(&self) -> bool {
-        self.before.is_empty() && self.after.is_empty()
+        let makes_an_entry = matches!(self.call, Call::Observe(_)) && self.code == NEW;
+        self.before.is_empty() && self.after.is_empty() && !makes_an_entry
+    }
+
+    /// A detector with the case's entries.
+    pub fn detector<S: Side>(&self) -> S::Detector {
+        let mut detector = S::detector();
+        for number in 1..=self.kept {
+            let entry = Seen::of_entry(number);
+            let answer = S::observe(&mut detector, entry.tenant, entry.peer, entry.address);
+            assert_eq!(answer, NEW);
+        }
+        detector
     }
 
     /// An endpoint with the case's listing.
@@ -141,6 +185,7 @@ pub fn all() -> Vec<Case> {
     refusals(&mut cases);
     ticks(&mut cases);
     wraps(&mut cases);
+    observations(&mut cases);
     cases
 }
 
@@ -241,6 +286,34 @@ fn wraps(cases: &mut Vec<Case>) {
                 ..case
             });
         }
+    }
+}
+
+/// The entries are searched in the order in which they came, so the last is found
+/// last.
+fn observations(cases: &mut Vec<Case>) {
+    let entry = Seen::of_entry;
+    let other_peer = |seen: Seen| Seen { peer: 3, ..seen };
+    for (name, kept, seen, answer) in [
+        ("new, no entry", 0, entry(1), NEW),
+        ("new, 127 entries", 127, entry(128), NEW),
+        ("known at entry 1", 128, entry(1), KNOWN),
+        ("known at entry 128", 128, entry(128), KNOWN),
+        (
+            "duplicate at entry 128",
+            128,
+            other_peer(entry(128)),
+            DUPLICATE,
+        ),
+        ("full", 128, entry(129), FULL),
+    ] {
+        let name = format!("observe: {name}");
+        let case = Case::receive(name, VXLAN, Listing::Small, answer, Vec::new());
+        cases.push(Case {
+            call: Call::Observe(seen),
+            kept,
+            ..case
+        });
     }
 }
 

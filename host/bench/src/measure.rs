@@ -1,6 +1,6 @@
 //! Making a case's calls, counted or timed.
 
-use crate::cases::{Call, Case};
+use crate::cases::{Call, Case, Seen};
 use crate::sides::Side;
 use niulassenc::MEMORY_NEEDED;
 use std::hint::black_box;
@@ -21,12 +21,15 @@ const ROUNDS: usize = 40;
 const DEPTHS: usize = 16;
 const DEPTH: usize = 4096 / DEPTHS;
 
-/// An endpoint with all that its calls need.
-pub struct Bench<'a, S> {
+/// An endpoint with all that its calls need, and a detector.
+pub struct Bench<'a, S: Side> {
     case: &'a Case,
     side: S,
     memory: Vec<u8>,
     output: Vec<u8>,
+    detector: S::Detector,
+    /// The detector as it is before each measured call.
+    fresh: S::Detector,
 }
 
 /// Callgrind counts in the functions `counted_*` alone (`--toggle-collect`).
@@ -45,6 +48,11 @@ fn counted_wrap<S: Side>(side: &mut S, binding: u32, frame: &[u8], output: &mut 
     side.wrap(binding, frame, output)
 }
 
+#[inline(never)]
+fn counted_observe<S: Side>(detector: &mut S::Detector, seen: Seen) -> u8 {
+    S::observe(detector, seen.tenant, seen.peer, seen.address)
+}
+
 /// Callgrind writes down what it counted when this is entered (`--dump-before`).
 #[inline(never)]
 pub fn next_count() {
@@ -58,6 +66,8 @@ impl<'a, S: Side> Bench<'a, S> {
             side: case.endpoint(),
             memory: vec![0; MEMORY_NEEDED],
             output: vec![0; 1600],
+            detector: case.detector::<S>(),
+            fresh: case.detector::<S>(),
         }
     }
 
@@ -70,6 +80,7 @@ impl<'a, S: Side> Bench<'a, S> {
                 let binding = self.case.listing.binding();
                 counted_wrap(&mut self.side, binding, frame, &mut self.output)
             }
+            Call::Observe(seen) => counted_observe::<S>(&mut self.detector, *seen),
         }
     }
 
@@ -79,6 +90,7 @@ impl<'a, S: Side> Bench<'a, S> {
         for packet in &self.case.before {
             black_box(self.side.receive(packet, &mut self.memory));
         }
+        self.detector.clone_from(&self.fresh);
         let code = self.call();
         assert_eq!(
             code,

@@ -7,17 +7,25 @@ use niulassenc_reference as reference;
 pub trait Side {
     const NAME: &'static str;
 
+    /// The detector of the same maker.
+    type Detector: Clone;
+
     fn start(own: u32, port: u16, mtu: u16) -> Self;
     fn add_peer(&mut self, address: u32);
     fn add_binding(&mut self, peer: u32, kind: u32, network: u64, tenant: u32);
     fn receive(&mut self, packet: &[u8], memory: &mut [u8]) -> u8;
     fn tick(&mut self) -> u8;
     fn wrap(&mut self, binding: u32, frame: &[u8], output: &mut [u8]) -> u8;
+
+    fn detector() -> Self::Detector;
+    fn observe(detector: &mut Self::Detector, tenant: u16, peer: u16, address: u64) -> u8;
 }
 
 /// The library, called as C would call it.
 impl Side for numbers::Endpoint {
     const NAME: &'static str = "library";
+
+    type Detector = numbers::Detector;
 
     fn start(own: u32, port: u16, mtu: u16) -> Self {
         let (endpoint, code) = numbers::Endpoint::start(own, port.into(), mtu.into());
@@ -48,10 +56,21 @@ impl Side for numbers::Endpoint {
     fn wrap(&mut self, binding: u32, frame: &[u8], output: &mut [u8]) -> u8 {
         numbers::Endpoint::wrap(self, binding, frame, 0, 7, output).code
     }
+
+    fn detector() -> numbers::Detector {
+        numbers::Detector::start()
+    }
+
+    #[inline(always)]
+    fn observe(detector: &mut numbers::Detector, tenant: u16, peer: u16, address: u64) -> u8 {
+        detector.observe(tenant, peer, address).answer
+    }
 }
 
 impl Side for reference::Endpoint {
     const NAME: &'static str = "reference";
+
+    type Detector = reference::Detector;
 
     fn start(own: u32, port: u16, mtu: u16) -> Self {
         let (endpoint, code) = reference::Endpoint::start(own, port.into(), mtu.into());
@@ -81,5 +100,14 @@ impl Side for reference::Endpoint {
     #[inline(always)]
     fn wrap(&mut self, binding: u32, frame: &[u8], output: &mut [u8]) -> u8 {
         reference::Endpoint::wrap(self, binding, frame, 0, 7, output).code
+    }
+
+    fn detector() -> reference::Detector {
+        reference::Detector::start()
+    }
+
+    #[inline(always)]
+    fn observe(detector: &mut reference::Detector, tenant: u16, peer: u16, address: u64) -> u8 {
+        vectors::driver::flat(detector.observe(tenant, peer, address)).0
     }
 }

@@ -1,7 +1,7 @@
 //! Compares the library with the reference: every call of a run is made on
-//! both, and answers, places, delivered bytes, endpoints and every byte of the
-//! memory and the output must agree after each. A run that shows a difference
-//! is shrunk before it is told.
+//! both, and answers, places, delivered bytes, endpoints, detectors and every byte
+//! of the memory and the output must agree after each. A run that shows a
+//! difference is shrunk before it is told.
 
 #![forbid(unsafe_code)]
 
@@ -12,6 +12,7 @@ pub mod runs;
 pub mod shrink;
 pub mod sweeps;
 
+use niulassenc::limits::ENTRIES;
 use pair::Pair;
 use std::panic::{catch_unwind, AssertUnwindSafe};
 use vectors::record::Record;
@@ -25,13 +26,25 @@ pub struct Counts {
     pub calls: u64,
     pub receives: u64,
     pub codes: Histogram,
+    /// How often a detector answered new, known, duplicate, full.
+    pub observed: [u64; 4],
+    /// How many detectors came to keep all the entries that they can.
+    pub full_detectors: u64,
 }
 
 impl Counts {
+    /// How many observations there were.
+    pub fn observations(&self) -> u64 {
+        self.observed.iter().sum()
+    }
+
     pub fn add(&mut self, other: &Counts) {
         self.calls += other.calls;
         self.receives += other.receives;
-        for (sum, count) in self.codes.iter_mut().zip(other.codes) {
+        self.full_detectors += other.full_detectors;
+        let sums = self.codes.iter_mut().chain(&mut self.observed);
+        let counts = other.codes.iter().chain(&other.observed);
+        for (sum, count) in sums.zip(counts) {
             *sum += count;
         }
     }
@@ -56,9 +69,17 @@ pub fn compare(run: &[Record]) -> Result<Counts, Difference> {
             .unwrap_or_else(|_| Err("the reference panicked".to_string()))
             .map_err(|what| Difference { at, what })?;
         counts.calls += 1;
-        if let Record::Receive { .. } = record {
-            counts.receives += 1;
-            counts.codes[usize::from(code)] += 1;
+        match record {
+            Record::Receive { .. } => {
+                counts.receives += 1;
+                counts.codes[usize::from(code)] += 1;
+            }
+            Record::Observe { .. } => {
+                counts.observed[usize::from(code)] += 1;
+                let last = code == 0 && pair.entries() == ENTRIES;
+                counts.full_detectors += u64::from(last);
+            }
+            _ => {}
         }
     }
     Ok(counts)

@@ -1,9 +1,10 @@
 //! `difference [SEED] [RECEIVES]`: the sweeps, the generator's directed cases,
-//! then random runs from the seed on, library against reference.
+//! then random runs from the seed on, with so many receives, and as many
+//! observations of detectors; library against reference.
 
 #![forbid(unsafe_code)]
 
-use difference::report::{check, check_random};
+use difference::report::{check, check_observations, check_random};
 use difference::{runs, sweeps, Counts};
 use std::process::ExitCode;
 use std::time::Instant;
@@ -43,6 +44,9 @@ fn run(arguments: &[String]) -> Result<(), String> {
     report(name, &check(name, &runs::directed(seed))?, begun);
     let begun = Instant::now();
     report("random runs", &check_random(seed, receives)?, begun);
+    let begun = Instant::now();
+    let name = "random observations";
+    report(name, &check_observations(seed, receives)?, begun);
     Ok(())
 }
 
@@ -57,5 +61,13 @@ fn report(name: &str, counts: &Counts, begun: Instant) {
         .filter(|(_, &count)| count > 0)
         .map(|(code, count)| format!("{code}: {count}"))
         .collect();
-    println!("  answers to receives: {}", given.join(", "));
+    if counts.receives > 0 {
+        println!("  answers to receives: {}", given.join(", "));
+    }
+    if counts.observations() > 0 {
+        let [new, known, duplicate, full] = counts.observed;
+        let detectors = counts.full_detectors;
+        print!("  new: {new}, known: {known}, duplicate: {duplicate}, full: {full}");
+        println!("; {detectors} detectors came to be full");
+    }
 }

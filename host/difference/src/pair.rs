@@ -1,16 +1,22 @@
-//! A library endpoint and a reference endpoint that get the same calls.
+//! A library endpoint and a reference endpoint that get the same calls, and a
+//! detector of each beside them.
 
 use crate::lent::Lent;
 use niulassenc as library;
+use niulassenc::limits::ENTRIES;
+use niulassenc::numbers::RawDetector;
 use niulassenc_reference as reference;
 use std::fmt::Debug;
-use vectors::driver::memory_contents;
+use vectors::driver::{flat, memory_contents};
 use vectors::record::Record;
 
-/// The two endpoints, the memory lent to each, and the last packet.
+/// The two endpoints, the memory lent to each, and the last packet. The two
+/// detectors start with the endpoints.
 pub struct Pair {
     library: library::Endpoint,
     reference: reference::Endpoint,
+    library_detector: library::Detector,
+    reference_detector: reference::Detector,
     library_memory: Lent,
     reference_memory: Vec<u8>,
     last_packet: Vec<u8>,
@@ -64,17 +70,27 @@ impl Pair {
         Pair {
             library: library::numbers::Endpoint::start(0, 0, 0).0.into(),
             reference: reference::Endpoint::start(0, 0, 0).0,
+            library_detector: library::Detector::start(),
+            reference_detector: reference::Detector::start(),
             library_memory: Lent::new(&[]),
             reference_memory: Vec::new(),
             last_packet: Vec::new(),
         }
     }
 
-    /// Makes a call on both and gives its code, or says what differs.
+    /// Makes a call on both and gives its code, or a detector's answer, or says
+    /// what differs.
     pub fn call(&mut self, record: &Record) -> Result<u8, String> {
         let code = self.answers(record)?;
         self.endpoints()?;
         self.unused()?;
+        self.detectors()?;
+        if matches!(
+            record,
+            Record::Start { .. } | Record::Binding { .. } | Record::Tick
+        ) {
+            self.owners()?;
+        }
         self.library_memory
             .check("memory", &self.reference_memory)?;
         Ok(code)
@@ -107,6 +123,11 @@ impl Pair {
                 length,
             } => self.view(*in_memory, *start, *length),
             Record::Wrap { .. } => self.wrap(record),
+            Record::Observe {
+                tenant,
+                peer,
+                address,
+            } => self.observe(*tenant, *peer, *address),
         }
     }
 
@@ -115,6 +136,8 @@ impl Pair {
         self.library = endpoint.into();
         let (endpoint, expected) = reference::Endpoint::start(own, port, mtu);
         self.reference = endpoint;
+        self.library_detector = library::Detector::start();
+        self.reference_detector = reference::Detector::start();
         same("code", code, expected)?;
         // The cover's own types have no wider numbers.
         if let (Ok(port), Ok(mtu)) = (port.try_into(), mtu.try_into()) {
@@ -169,11 +192,46 @@ impl Pair {
         let packet = &self.last_packet;
         let bytes = reference::view(packet, &self.reference_memory, expected.place);
         let answer = match receipt.read(packet, self.library_memory.contents()) {
-            Ok(library::Received::Delivered(frame)) => (0, frame.bytes),
+            Ok(library::Received::Delivered(frame)) => {
+                let source = reference::source(bytes).to_be_bytes();
+                same("source", &frame.source()[..], &source[2..])?;
+                (0, frame.bytes)
+            }
             Ok(library::Received::Pending) => (1, &packet[..0]),
             Err(refusal) => (refusal.number(), &packet[..0]),
         };
         same("delivered bytes", answer, (expected.code, bytes))
+    }
+
+    fn observe(&mut self, tenant: u16, peer: u16, address: u64) -> Result<u8, String> {
+        let mut typed = self.library_detector.clone();
+        let numbers = self.library_detector.as_numbers();
+        let observed = numbers.observe(tenant, peer, address);
+        let expected = self.reference_detector.observe(tenant, peer, address);
+        let (answer, first) = flat(expected);
+        same("answer", observed.answer, answer)?;
+        same("peer", observed.peer, or_none(first))?;
+        // The cover's own types have addresses of 48 bits.
+        if let [0, 0, bytes @ ..] = address.to_be_bytes() {
+            let observed = typed.observe(tenant, peer, bytes);
+            let told = match observed {
+                library::Observed::Duplicate { first } => Some(first),
+                _ => None,
+            };
+            same(
+                "answer in the cover",
+                (observed.number(), told),
+                (answer, first),
+            )?;
+            let alike = typed == self.library_detector;
+            same("whether the cover's detector is the same", alike, true)?;
+        }
+        Ok(answer)
+    }
+
+    /// How many entries the library's detector keeps.
+    pub fn entries(&self) -> usize {
+        self.library_detector.entries().len()
     }
 
     fn view(&mut self, in_memory: bool, start: u64, length: u64) -> Result<u8, String> {
@@ -269,6 +327,54 @@ impl Pair {
         }
         let (ours, theirs): (Vec<_>, Vec<_>) = (ours().collect(), theirs().collect());
         same("bindings", ours, theirs)
+    }
+
+    /// Every number of the library's detector; behind the count it is 0.
+    fn detectors(&mut self) -> Result<(), String> {
+        let kept = self.reference_detector.entries();
+        let raw = self.library_detector.as_numbers().raw();
+        let mut expected = RawDetector {
+            addresses: [0; ENTRIES],
+            tenants: [0; ENTRIES],
+            peers: [0; ENTRIES],
+            count: kept.len() as u16,
+        };
+        for (number, entry) in kept.iter().enumerate() {
+            expected.addresses[number] = entry.address;
+            expected.tenants[number] = entry.tenant;
+            expected.peers[number] = entry.peer;
+        }
+        if *raw == expected {
+            return Ok(());
+        }
+        same("entries", raw.count, expected.count)?;
+        for number in 0..ENTRIES {
+            let entry = |d: &RawDetector| (d.addresses[number], d.tenants[number], d.peers[number]);
+            let name = format!("entry {number} (address, tenant, peer)");
+            same(&name, entry(raw), entry(&expected))?;
+        }
+        Ok(())
+    }
+
+    /// The owner of every binding that is listed and of some that are not.
+    fn owners(&mut self) -> Result<(), String> {
+        let count = self.reference.bindings().len() as u32;
+        let others = [count, 64, 65_535, 65_536, 65_536 + count / 2, u32::MAX];
+        for binding in (0..count).chain(others) {
+            let name = format!("owner of binding {binding}");
+            let expected = self.reference.owner(binding);
+            let owner = self.library.as_numbers().owner(binding);
+            same(&name, owner, or_none(expected))?;
+            let Ok(number) = u16::try_from(binding) else {
+                continue; // the cover's own types have no wider numbers
+            };
+            let owner = self.library.owner(number);
+            same(&name, owner, expected)?;
+            let address = owner.and_then(|peer| self.library.peer_address(peer));
+            let expected = expected.map(|peer| self.reference.peers()[usize::from(peer)]);
+            same("its address", address.map(u32::from), expected)?;
+        }
+        Ok(())
     }
 
     /// The counts in the library's struct. Where it keeps nothing, behind them

@@ -27,11 +27,28 @@ pub fn check(name: &str, run: &[Record]) -> Result<Counts, String> {
 
 /// Random runs from `seed` on, until there were at least so many receives.
 pub fn check_random(seed: u64, receives: u64) -> Result<Counts, String> {
+    check_from(seed, runs::random, |counts| counts.receives < receives)
+}
+
+/// Random runs of detectors from `seed` on, until there were at least so many
+/// observations.
+pub fn check_observations(seed: u64, observations: u64) -> Result<Counts, String> {
+    check_from(seed, runs::observations, |counts| {
+        counts.observations() < observations
+    })
+}
+
+/// The runs of the seeds from `seed` on, as long as more are wanted.
+fn check_from(
+    seed: u64,
+    run: fn(u64) -> Vec<Record>,
+    more: impl Fn(&Counts) -> bool,
+) -> Result<Counts, String> {
     let mut counts = Counts::default();
     let mut next = seed;
-    while counts.receives < receives {
+    while more(&counts) {
         // The generator asks the reference what its calls came to.
-        let run = catch_unwind(|| runs::random(next))
+        let run = catch_unwind(|| run(next))
             .map_err(|_| format!("seed {next}: the reference panicked in the generator"))?;
         counts.add(&check(&format!("seed {next}"), &run)?);
         next = next.wrapping_add(1);
@@ -79,5 +96,10 @@ pub fn describe(record: &Record) -> String {
             start,
             length,
         } => format!("view in memory {in_memory}, start {start}, length {length}"),
+        Record::Observe {
+            tenant,
+            peer,
+            address,
+        } => format!("observe tenant {tenant}, peer {peer}, address {address:#014x}"),
     }
 }

@@ -1,7 +1,10 @@
 //! The library against the reference. A failure tells the seed and a shrunk run.
 
-use difference::report::{check, check_random};
+use difference::report::{check, check_observations, check_random};
 use difference::{runs, sweeps, Counts};
+
+use niulassenc::{numbers, Frame, Place};
+use vectors::prng::Prng;
 
 /// The first seed of the random runs; each run has its own, one above the last.
 const SEED: u64 = 1;
@@ -78,6 +81,7 @@ fn directed_cases_show_no_difference() {
     let name = "the generator's directed cases";
     let counts = expect(check(name, &runs::directed(SEED)));
     every_answer_was_given(&counts, 5);
+    every_observation_was_given(&counts, 100);
 }
 
 #[test]
@@ -85,6 +89,42 @@ fn a_million_random_receives_show_no_difference() {
     let counts = expect(check_random(SEED, 1_000_000));
     assert!(counts.receives >= 1_000_000);
     every_answer_was_given(&counts, 1000);
+}
+
+/// Every number of a detector is compared after every one of them.
+#[test]
+fn a_million_random_observations_show_no_difference() {
+    let counts = expect(check_observations(SEED, 1_000_000));
+    assert!(counts.observations() >= 1_000_000);
+    every_observation_was_given(&counts, 50_000);
+    assert!(counts.full_detectors >= 500, "{}", counts.full_detectors);
+}
+
+/// Frames of any bytes, those that end before their source address too.
+#[test]
+fn sources_are_the_same() {
+    let prng = &mut Prng::new(SEED);
+    for length in (0..=40).chain([1514]) {
+        for _ in 0..100 {
+            let bytes = prng.bytes(length);
+            let expected = niulassenc_reference::source(&bytes);
+            assert_eq!(numbers::source(&bytes), expected, "{bytes:?}");
+            let frame = Frame {
+                tenant: 0,
+                binding: 0,
+                place: Place::default(),
+                bytes: &bytes,
+            };
+            assert_eq!(frame.source(), expected.to_be_bytes()[2..], "{bytes:?}");
+        }
+    }
+}
+
+fn every_observation_was_given(counts: &Counts, least: u64) {
+    let names = ["new", "known", "duplicate", "full"];
+    for (name, count) in names.iter().zip(counts.observed) {
+        assert!(count >= least, "{name} came {count} times");
+    }
 }
 
 /// A comparison says little about an answer that never came.

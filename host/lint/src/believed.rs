@@ -1,4 +1,4 @@
-//! Rule 6: how many lines of the first storey are to be believed. A section header of a file says what need not be, and the tables of docs/PROOFS.md
+//! Rule 7: how many lines of the first storey are to be believed. A section header of a file says what need not be, and the tables of docs/PROOFS.md
 //! and the totals there and in README.md have the numbers that come out: blank lines, comments and imports do not count.
 
 use crate::fix::write_if_new;
@@ -56,6 +56,10 @@ pub fn findings(tree: &Tree, files: &[File]) -> Vec<Finding> {
     for name in not_once(tree.document(TABLES), &counts) {
         let message = format!("the tables do not count {name} once");
         found.push(Finding::new(Rule::Believed, TABLES, 1, message));
+    }
+    for (line, name) in gone(tree.document(TABLES), &counts) {
+        let message = format!("the tables count {name}, and there is no such file");
+        found.push(Finding::new(Rule::Believed, TABLES, line, message));
     }
     found
 }
@@ -202,6 +206,21 @@ fn not_once<'c>(text: &str, counts: &'c Counts) -> Vec<&'c str> {
     found.map(|(name, _)| name.as_str()).collect()
 }
 
+/// What the tables have numbers for, with its line, and no crate has.
+fn gone(text: &str, counts: &Counts) -> Vec<(usize, String)> {
+    let mut gone = Vec::new();
+    for (line, text) in text.lines().enumerate() {
+        let cells: Vec<&str> = text.split('|').collect();
+        for at in (0..cells.len()).filter(|at| numbers(&cells[at + 1..]) > 0) {
+            let named = names(cells[at]).into_iter();
+            let is_file = |name: &String| name.starts_with('`') && name.contains("` ");
+            let not_there = named.filter(|name| is_file(name) && !counts.contains_key(name));
+            gone.extend(not_there.map(|name| (line + 1, name)));
+        }
+    }
+    gone
+}
+
 /// With a comma at the thousands.
 fn written(n: usize) -> String {
     if n < 1000 {
@@ -251,6 +270,11 @@ mod tests {
         assert_eq!(rewritten(text, &counted()), right);
         assert_eq!(rewritten(right, &counted()), right);
         assert_eq!(not_once(right, &counted()), ["all"]);
+        assert_eq!(gone(right, &counted()), []);
+        let stale =
+            "\n| `wire` Sum, Bytes | 5 | pinned | | `end` Gone | 5 | 3 |\n| `end` Said | of it |\n";
+        let names = ["`wire` Bytes", "`end` Gone"].map(|name| (2, name.to_string()));
+        assert_eq!(gone(stale, &counted()), names);
         assert_eq!(
             (written(999), written(12_034)),
             ("999".to_string(), "12,034".to_string())

@@ -13,7 +13,7 @@ use crate::tree::{crate_of, File, Modules, Place, Tree};
 use std::collections::{BTreeSet, HashMap};
 
 /// The crates that rule 6 holds.
-const HELD: [&str; 3] = ["wire", "reassembly", "endpoint"];
+const HELD: [&str; 5] = ["lookup", "wire", "reassembly", "endpoint", "detector"];
 
 pub fn findings(tree: &Tree, modules: &Modules) -> Vec<Finding> {
     let mut found = Vec::new();

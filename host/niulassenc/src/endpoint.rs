@@ -1,5 +1,6 @@
 //! The endpoint in the crate's own types.
 
+use crate::detector::address_of;
 use crate::ffi;
 use crate::kind::Kind;
 use crate::limits::SLOTS;
@@ -35,6 +36,14 @@ pub struct Frame<'a> {
     pub place: Place,
     /// The frame: a part of the packet or of the reassembly memory.
     pub bytes: &'a [u8],
+}
+
+impl Frame<'_> {
+    /// The frame's source address, bytes 6 to 11; zeros of a frame under 12 bytes,
+    /// which no receive delivers.
+    pub fn source(&self) -> [u8; 6] {
+        address_of(numbers::source(self.bytes))
+    }
 }
 
 /// A network of a peer, and the tenant whose it is.
@@ -176,6 +185,19 @@ impl Endpoint {
         let count = usize::from(self.raw().peer_count);
         let listed = self.raw().addresses.iter().take(count);
         listed.map(|&address| address.into())
+    }
+
+    /// The address of the peer with this number; none where none is listed.
+    pub fn peer_address(&self, peer: u16) -> Option<Ipv4Addr> {
+        self.peers().nth(peer.into())
+    }
+
+    /// The number of the peer whose network a binding is: for the binding of a
+    /// delivered [`Frame`], the peer that it came from. None where no binding has
+    /// this number.
+    pub fn owner(&self, binding: u16) -> Option<u16> {
+        let peer = self.numbers.owner(binding.into());
+        (peer != numbers::NONE).then_some(peer)
     }
 
     /// The bindings, in the order of their numbers.

@@ -1,9 +1,10 @@
 //! The archive's structs and functions, as `include/niulassenc.h` declares them.
-//! A slice crosses as a pointer and a length, a lent endpoint as a pointer.
+//! A slice crosses as a pointer and a length, a lent endpoint or detector as a
+//! pointer.
 
 use core::mem::{align_of, offset_of, size_of};
 
-use crate::limits::{BINDINGS, PEERS, SLOTS};
+use crate::limits::{BINDINGS, ENTRIES, PEERS, SLOTS};
 
 /// A slot of the reassembly memory: a pending frame, or free, every number 0.
 #[repr(C)]
@@ -92,10 +93,33 @@ pub struct PartAt {
     pub in_memory: bool,
 }
 
+/// A detector's struct. Arrays are by the number of the entry; what stands behind
+/// the count is 0.
+#[repr(C)]
+#[derive(Clone, Copy, Debug, PartialEq, Eq)]
+pub struct Detector {
+    /// The address of each entry.
+    pub addresses: [u64; ENTRIES],
+    /// The tenant of each entry.
+    pub tenants: [u16; ENTRIES],
+    /// The peer of each entry.
+    pub peers: [u16; ENTRIES],
+    /// How many entries are kept.
+    pub count: u16,
+}
+
+#[repr(C)]
+pub struct Observation {
+    pub answer: u8,
+    pub peer: u16,
+}
+
 extern "C" {
     pub fn niulassenc_version() -> u32;
 
     pub fn niulassenc_endpoint_bytes() -> u32;
+
+    pub fn niulassenc_detector_bytes() -> u32;
 
     pub fn niulassenc_start(own: u32, port: u32, mtu: u32) -> Started;
 
@@ -137,6 +161,19 @@ extern "C" {
         length: usize,
         in_memory: bool,
     ) -> PartAt;
+
+    pub fn niulassenc_owner(endpoint: *const Endpoint, binding: u32) -> u16;
+
+    pub fn niulassenc_source(frame: *const u8, frame_length: usize) -> u64;
+
+    pub fn niulassenc_detector_start() -> Detector;
+
+    pub fn niulassenc_observe(
+        detector: *mut Detector,
+        tenant: u16,
+        peer: u16,
+        address: u64,
+    ) -> Observation;
 }
 
 /// Stops the build where a size or an offset is not the archive's.
@@ -159,3 +196,5 @@ layout!(Addition: 4, 2; number 0, code 2);
 layout!(Receipt: 24, 8; start 0, length 8, tenant 16, binding 18, code 20, in_memory 21);
 layout!(Writing: 16, 8; length 0, segments 8, code 12);
 layout!(PartAt: 24, 8; start 0, length 8, in_memory 16);
+layout!(Detector: 1544, 8; addresses 0, tenants 1024, peers 1280, count 1536);
+layout!(Observation: 4, 2; answer 0, peer 2);

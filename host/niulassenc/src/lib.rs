@@ -3,7 +3,8 @@
 //! Outer IPv4 packets go in; inner Ethernet frames come out, each with the
 //! tenant whose it is. STT is reassembled in memory that the caller lends. This
 //! crate is a thin, safe cover over the archive that `rt staticlib niulassenc`
-//! writes: it allocates nothing, keeps no global state, and needs no `std`.
+//! writes: it allocates nothing, keeps no global state, and needs no `std`. A
+//! [`Detector`] beside it finds addresses that several peers show to one tenant.
 //!
 //! ```
 //! use niulassenc::{Endpoint, Kind, Received, Refusal, MEMORY_NEEDED};
@@ -48,6 +49,7 @@
 #![deny(missing_docs, unsafe_op_in_unsafe_fn)]
 #![deny(clippy::undocumented_unsafe_blocks)]
 
+mod detector;
 mod endpoint;
 mod ffi;
 mod kind;
@@ -57,6 +59,7 @@ mod place;
 mod refusal;
 mod version;
 
+pub use detector::{observed_text, Detector, Entry, Observed};
 pub use endpoint::{Binding, Endpoint, Frame, Pending, Received, Wrapped};
 pub use kind::Kind;
 pub use limits::MEMORY_NEEDED;

@@ -1,4 +1,4 @@
-//! The limits of an endpoint, as `include/niulassenc.h` has them.
+//! The limits of an endpoint and of a detector, as `include/niulassenc.h` has them.
 
 /// Peers of an endpoint.
 pub const PEERS: usize = 8;
@@ -32,3 +32,6 @@ pub const SLOT_BYTES: usize = 1728;
 
 /// Least length of the reassembly memory: 8 peers of 4 slots.
 pub const MEMORY_NEEDED: usize = PEERS * SLOTS * SLOT_BYTES;
+
+/// Entries of a detector.
+pub const ENTRIES: usize = 128;

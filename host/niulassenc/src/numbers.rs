@@ -1,13 +1,15 @@
 //! The calls with plain numbers in and out, as C has them: an answer is document
 //! 01's number; a setting, a kind or the number of a peer, a tenant or a binding
-//! is 32 bits wide and may be out of its range. The crate's own types stand on
+//! is 32 bits wide and may be out of its range. What a detector is told is not
+//! checked: its tenant and peer are 16 bits wide. The crate's own types stand on
 //! these; they serve who has numbers anyway.
 
 use crate::ffi;
-pub use crate::ffi::{Endpoint as Raw, Peer, Slot};
+pub use crate::ffi::{Detector as RawDetector, Endpoint as Raw, Peer, Slot};
 use crate::place::Place;
 
-/// What stands for a tenant, a binding or a new number where there is none.
+/// What stands for a tenant, a binding, a peer or a new number where there is
+/// none.
 pub const NONE: u16 = 0xFFFF;
 
 /// An endpoint. It refers to nothing: it may be moved and copied.
@@ -47,6 +49,23 @@ pub struct Wrapped {
     pub segments: u32,
     /// 0, 13, 21, 22 or 23.
     pub code: u8,
+}
+
+/// A duplicate address detector. It refers to nothing, no endpoint either: it may
+/// be moved and copied.
+#[derive(Clone, Debug, PartialEq, Eq)]
+pub struct Detector {
+    raw: ffi::Detector,
+}
+
+/// The answer of a detector.
+#[derive(Clone, Copy, Debug, PartialEq, Eq)]
+pub struct Observation {
+    /// 0 new, 1 known, 2 duplicate, 3 full.
+    pub answer: u8,
+    /// Of a duplicate, the peer that showed the address first; [`NONE`] in every
+    /// other answer.
+    pub peer: u16,
 }
 
 impl Endpoint {
@@ -161,8 +180,60 @@ impl Endpoint {
         }
     }
 
+    /// The number of the peer whose network a binding is; [`NONE`] where no
+    /// binding has this number.
+    #[inline]
+    pub fn owner(&self, binding: u32) -> u16 {
+        // SAFETY: the pointer is that of an endpoint borrowed for the whole call,
+        // which only reads it.
+        unsafe { ffi::niulassenc_owner(&self.raw, binding) }
+    }
+
     /// The struct as C has it, to read.
     pub fn raw(&self) -> &Raw {
+        &self.raw
+    }
+}
+
+/// The source address of an inner frame, bytes 6 to 11, as a number:
+/// 02:00:00:00:00:01 is `0x0200_0000_0001`. 0 for a frame under 12 bytes, which no
+/// receive delivers.
+#[inline]
+pub fn source(frame: &[u8]) -> u64 {
+    // SAFETY: the pointer comes with the length of a slice that is borrowed for
+    // the whole call, which only reads it.
+    unsafe { ffi::niulassenc_source(frame.as_ptr(), frame.len()) }
+}
+
+impl Detector {
+    /// A detector with no entry.
+    ///
+    /// # Panics
+    ///
+    /// Where the archive is of another version than this crate
+    /// ([`matches`](crate::matches)): its calls could write past a detector.
+    pub fn start() -> Detector {
+        assert!(crate::matches(), "the archive is of another version");
+        // SAFETY: nothing goes in and a struct comes back by value, whose layout
+        // `ffi` asserts.
+        let raw = unsafe { ffi::niulassenc_detector_start() };
+        Detector { raw }
+    }
+
+    /// Tells the detector of a delivered frame. Any three numbers will do.
+    #[inline]
+    pub fn observe(&mut self, tenant: u16, peer: u16, address: u64) -> Observation {
+        // SAFETY: the pointer is that of a detector borrowed alone for the whole
+        // call; the archive keeps no pointer beyond it.
+        let observed = unsafe { ffi::niulassenc_observe(&mut self.raw, tenant, peer, address) };
+        Observation {
+            answer: observed.answer,
+            peer: observed.peer,
+        }
+    }
+
+    /// The struct as C has it, to read.
+    pub fn raw(&self) -> &RawDetector {
         &self.raw
     }
 }

@@ -4,7 +4,7 @@ use crate::ffi;
 use core::mem::size_of;
 
 /// This crate's version: major × 65,536 + minor × 256 + patch.
-pub const VERSION: u32 = 0x00_02_00;
+pub const VERSION: u32 = 0x00_03_00;
 
 /// The archive's version, in the same form.
 pub fn version() -> u32 {
@@ -13,9 +13,13 @@ pub fn version() -> u32 {
 }
 
 /// Whether crate and archive go together: they have one version, and an endpoint
-/// has as many bytes here as there. A start asks this.
+/// and a detector have as many bytes here as there. A start asks this.
 pub fn matches() -> bool {
     // SAFETY: nothing goes in and a number comes back.
-    let bytes = unsafe { ffi::niulassenc_endpoint_bytes() };
-    version() == VERSION && usize::try_from(bytes) == Ok(size_of::<ffi::Endpoint>())
+    let endpoint = unsafe { ffi::niulassenc_endpoint_bytes() };
+    // SAFETY: the same.
+    let detector = unsafe { ffi::niulassenc_detector_bytes() };
+    version() == VERSION
+        && usize::try_from(endpoint) == Ok(size_of::<ffi::Endpoint>())
+        && usize::try_from(detector) == Ok(size_of::<ffi::Detector>())
 }

@@ -26,5 +26,5 @@ fn examples_write_what_is_expected() {
         assert_eq!(written, expected.expect("what is expected"), "{name}");
         run += 1;
     }
-    assert!(run >= 2);
+    assert!(run >= 3);
 }

@@ -1,6 +1,6 @@
 /*
  * What the header says, in lines that tests/header.rs compares with the Rust cover: the version, the limits, the names and
- * numbers of the codes, and the text of every number that a code may be.
+ * numbers of the codes and of what a detector answers, and the texts of every number that they may be.
  */
 #include <inttypes.h>
 #include <stdio.h>
@@ -9,6 +9,7 @@
 
 #define LIMIT(name) printf("limit " #name " %u\n", (unsigned)NIULASSENC_##name)
 #define CODE(name) printf("code " #name " %u\n", (unsigned)NIULASSENC_##name)
+#define OBSERVED(name) printf("observed " #name " %u\n", (unsigned)NIULASSENC_OBSERVED_##name)
 
 int main(void)
 {
@@ -24,6 +25,7 @@ int main(void)
     LIMIT(TICKS);
     LIMIT(SLOT_BYTES);
     LIMIT(MEMORY_BYTES);
+    LIMIT(ENTRIES);
     LIMIT(NONE);
     CODE(MEMORY_TOO_SMALL);
     CODE(NOT_IPV4);
@@ -47,6 +49,12 @@ int main(void)
     CODE(OUTPUT_TOO_SHORT);
     CODE(EXCEEDS_MTU);
     CODE(NO_SUCH);
+    OBSERVED(NEW);
+    OBSERVED(KNOWN);
+    OBSERVED(DUPLICATE);
+    OBSERVED(FULL);
     for (unsigned code = 0; code < 256; code++)
         printf("text %u %s\n", code, niulassenc_text(code));
+    for (unsigned answer = 0; answer < 256; answer++)
+        printf("observed text %u %s\n", answer, niulassenc_observed_text(answer));
 }

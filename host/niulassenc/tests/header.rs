@@ -1,16 +1,26 @@
 //! C's header and this crate say the same: version, limits, the names, numbers
-//! and texts of the codes. `header.c` tells what the header has. The programs in
-//! Rattle have the same texts.
+//! and texts of the codes and of what a detector answers. `header.c` tells what
+//! the header has. The programs in Rattle have the same texts.
 
-use niulassenc::{limits, numbers, text, Refusal, VERSION};
-use std::fmt::Write;
+use niulassenc::{limits, numbers, observed_text, text, Observed, Refusal, VERSION};
+use std::fmt::{Debug, Write};
 use std::path::Path;
 use std::process::Command;
 
-/// `MemoryTooSmall` as C has it: `MEMORY_TOO_SMALL`.
-fn name_in_c(refusal: Refusal) -> String {
+/// What a detector answers, in the order of the numbers.
+const OBSERVED: [Observed; 4] = [
+    Observed::New,
+    Observed::Known,
+    Observed::Duplicate { first: 0 },
+    Observed::Full,
+];
+
+/// `MemoryTooSmall` as C has it: `MEMORY_TOO_SMALL`. What a variant carries is
+/// left out.
+fn name_in_c(variant: impl Debug) -> String {
     let mut name = String::new();
-    for letter in format!("{refusal:?}").chars() {
+    let shown = format!("{variant:?}");
+    for letter in shown.chars().take_while(|letter| letter.is_alphanumeric()) {
         if letter.is_ascii_uppercase() && !name.is_empty() {
             name.push('_');
         }
@@ -33,6 +43,7 @@ fn ours() -> String {
         ("TICKS", limits::TICKS),
         ("SLOT_BYTES", limits::SLOT_BYTES),
         ("MEMORY_BYTES", limits::MEMORY_NEEDED),
+        ("ENTRIES", limits::ENTRIES),
         ("NONE", usize::from(numbers::NONE)),
     ] {
         let _ = writeln!(lines, "limit {name} {value}");
@@ -40,8 +51,16 @@ fn ours() -> String {
     for &refusal in Refusal::ALL {
         let _ = writeln!(lines, "code {} {}", name_in_c(refusal), refusal.number());
     }
+    for observed in OBSERVED {
+        let number = observed.number();
+        let _ = writeln!(lines, "observed {} {number}", name_in_c(observed));
+        assert_eq!(observed.text(), observed_text(number));
+    }
     for code in 0..=255 {
         let _ = writeln!(lines, "text {code} {}", text(code));
+    }
+    for answer in 0..=255 {
+        let _ = writeln!(lines, "observed text {answer} {}", observed_text(answer));
     }
     lines
 }
@@ -82,22 +101,29 @@ fn header_and_crate_say_the_same() {
     assert_eq!(ours, theirs);
 }
 
-/// Every enumerator of the header's codes has its line in `header.c`, and so has
-/// every macro that is a number.
+/// The enumerators of an enum of the header, without their prefix.
+fn enumerators<'a>(header: &'a str, name: &str, prefix: &str) -> Vec<&'a str> {
+    let begin = header.find(&format!("enum {name} {{")).expect("the enum");
+    let lines = header[begin..].lines().skip(1);
+    let lines = lines.take_while(|line| !line.starts_with('}'));
+    let names = lines.filter_map(|line| line.trim_start().strip_prefix(prefix));
+    names
+        .map(|line| line.split(' ').next().unwrap_or_default())
+        .collect()
+}
+
+/// Every enumerator of the header's codes and of what a detector answers has its
+/// line in `header.c`, and so has every macro that is a number.
 #[test]
 fn nothing_of_the_header_is_left_out() {
     let folder = Path::new(env!("CARGO_MANIFEST_DIR"));
     let header = std::fs::read_to_string(folder.join("../../include/niulassenc.h")).expect("there");
     let program = std::fs::read_to_string(folder.join("tests/header.c")).expect("there");
-    let begin = header.find("enum niulassenc_code {").expect("the codes");
-    let codes = header[begin..].lines().skip(1);
-    let codes = codes.take_while(|line| !line.starts_with('}'));
-    let codes = codes.filter_map(|line| line.trim_start().strip_prefix("NIULASSENC_"));
-    let codes = codes.map(|line| line.split(' ').next().unwrap_or_default());
-    let codes: Vec<&str> = codes
-        .filter(|&name| name != "DONE" && name != "PENDING")
-        .collect();
+    let mut codes = enumerators(&header, "niulassenc_code", "NIULASSENC_");
+    codes.retain(|&name| name != "DONE" && name != "PENDING");
     assert_eq!(codes.len(), Refusal::ALL.len());
+    let observed = enumerators(&header, "niulassenc_observed", "NIULASSENC_OBSERVED_");
+    assert_eq!(observed.len(), OBSERVED.len());
     let macros = header
         .lines()
         .filter_map(|line| line.strip_prefix("#define NIULASSENC_"));
@@ -108,9 +134,12 @@ fn nothing_of_the_header_is_left_out() {
             (number && !name.starts_with("VERSION")).then_some(name)
         })
         .collect();
-    assert_eq!(limits.len(), 12);
+    assert_eq!(limits.len(), 13);
     for name in codes {
         assert!(program.contains(&format!("CODE({name});")), "{name}");
+    }
+    for name in observed {
+        assert!(program.contains(&format!("OBSERVED({name});")), "{name}");
     }
     for name in limits {
         assert!(program.contains(&format!("LIMIT({name});")), "{name}");

@@ -47,6 +47,13 @@ impl Endpoint {
         self.listing.bindings()
     }
 
+    /// The number of the peer whose network a binding is; none where no binding
+    /// has this number.
+    pub fn owner(&self, binding: u32) -> Option<u16> {
+        let bindings = self.listing.bindings();
+        bindings.get(binding as usize).map(|binding| binding.peer)
+    }
+
     /// The pending frames, by peer and slot.
     pub fn pending(&self) -> &[Row; MAX_PEERS] {
         self.reassembly.rows()

@@ -1,6 +1,7 @@
 //! Calls the reference and says in one line what it answered.
 
-use niulassenc_reference::{view, Endpoint, Place};
+use niulassenc_reference::MAX_ENTRIES;
+use niulassenc_reference::{source, view, Answer, Detector, Endpoint, Entry, Observed, Place};
 
 /// Longest output that a wrap record may ask for.
 pub const MAX_OUTPUT: usize = 2000;
@@ -8,16 +9,19 @@ pub const MAX_OUTPUT: usize = 2000;
 /// Longest memory that a record may lend.
 pub const MAX_MEMORY: usize = 60_000;
 
-/// One endpoint, the memory lent to it and the last packet it got.
+/// One endpoint, the memory lent to it and the last packet it got; and a detector,
+/// which starts with the endpoint.
 pub struct Driver {
     pub endpoint: Endpoint,
+    pub detector: Detector,
     pub memory: Vec<u8>,
     pub last_packet: Vec<u8>,
     /// Whether lines have their text; its hashes take far longer than the calls.
     told: bool,
     output: Vec<u8>,
     written: usize,
-    last_place: Place,
+    /// What the last receive gave.
+    last_answer: Option<Answer>,
 }
 
 /// The code of an answer, where it has one, and its line.
@@ -48,6 +52,31 @@ fn or_dash(number: Option<u16>) -> String {
     number.map_or_else(|| "-".to_string(), |number| number.to_string())
 }
 
+/// The number of a detector's answer, and the peer that it names.
+pub fn flat(observed: Observed) -> (u8, Option<u16>) {
+    match observed {
+        Observed::New => (0, None),
+        Observed::Known => (1, None),
+        Observed::Duplicate { first } => (2, Some(first)),
+        Observed::Full => (3, None),
+    }
+}
+
+/// All entries of a detector, those that are not kept as zeros, then the count:
+/// what the hash of its state is over.
+fn state(detector: &Detector) -> Vec<u8> {
+    let kept = detector.entries();
+    let unused = std::iter::repeat(Entry::default()).take(MAX_ENTRIES - kept.len());
+    let mut bytes = Vec::new();
+    for entry in kept.iter().copied().chain(unused) {
+        bytes.extend(entry.address.to_be_bytes());
+        bytes.extend(entry.tenant.to_be_bytes());
+        bytes.extend(entry.peer.to_be_bytes());
+    }
+    bytes.extend((kept.len() as u16).to_be_bytes());
+    bytes
+}
+
 impl Default for Driver {
     fn default() -> Driver {
         Driver::new()
@@ -58,12 +87,13 @@ impl Driver {
     pub fn new() -> Driver {
         Driver {
             endpoint: Endpoint::start(0, 0, 0).0,
+            detector: Detector::start(),
             memory: Vec::new(),
             last_packet: Vec::new(),
             told: true,
             output: Vec::new(),
             written: 0,
-            last_place: Place::EMPTY,
+            last_answer: None,
         }
     }
 
@@ -83,6 +113,7 @@ impl Driver {
     pub fn start(&mut self, own: u32, port: u32, mtu: u32) -> Line {
         let (endpoint, code) = Endpoint::start(own, port, mtu);
         self.endpoint = endpoint;
+        self.detector = Detector::start();
         self.line(Some(code), || format!("start {code}"))
     }
 
@@ -109,7 +140,7 @@ impl Driver {
         self.last_packet = packet.to_vec();
         let answer = self.endpoint.receive(packet, &mut self.memory);
         let place = answer.place;
-        self.last_place = place;
+        self.last_answer = Some(answer);
         self.line(Some(answer.code), || {
             format!(
                 "receive {} {} {} {} {} {} {} {}",
@@ -178,6 +209,17 @@ impl Driver {
         })
     }
 
+    /// The line's code is none of document 01's, so it has none.
+    pub fn observe(&mut self, tenant: u16, peer: u16, address: u64) -> (Observed, Line) {
+        let observed = self.detector.observe(tenant, peer, address);
+        let line = self.line(None, || {
+            let (answer, first) = flat(observed);
+            let hash = hash(&state(&self.detector));
+            format!("observe {answer} {} {hash}", or_dash(first))
+        });
+        (observed, line)
+    }
+
     /// The packet that the last wrap wrote; empty after a refusal.
     pub fn written(&self) -> &[u8] {
         &self.output[..self.written]
@@ -185,6 +227,16 @@ impl Driver {
 
     /// The bytes that the last receive delivered; none after another answer.
     pub fn handed_back(&self) -> &[u8] {
-        view(&self.last_packet, &self.memory, self.last_place)
+        let answer = self.last_answer;
+        let place = answer.map_or(Place::EMPTY, |answer| answer.place);
+        view(&self.last_packet, &self.memory, place)
+    }
+
+    /// What a detector is told of the frame that the last receive delivered: its
+    /// tenant, the peer that it came from and its source address.
+    pub fn delivered(&self) -> Option<(u16, u16, u64)> {
+        let answer = self.last_answer?;
+        let peer = self.endpoint.owner(answer.binding?.into())?;
+        Some((answer.tenant?, peer, source(self.handed_back())))
     }
 }

@@ -5,6 +5,7 @@
 
 pub mod directed;
 pub mod driver;
+pub mod observations;
 pub mod packet;
 pub mod prng;
 pub mod random;
@@ -19,13 +20,15 @@ use recorder::Recorder;
 pub const DEFAULT_SEED: u64 = 20_140_415;
 pub const DEFAULT_STEPS: usize = 4500;
 
-/// All directed cases, then `steps` random steps.
+/// All directed cases, then `steps` random steps; then those of the detector, as many
+/// random observations as there are random steps. Every frame that is delivered is
+/// observed too.
 pub fn generate(seed: u64, steps: usize) -> Recorder {
     fill(Recorder::new(), seed, steps)
 }
 
 /// The same calls without the wraps, for an implementation that cannot write.
-/// A wrap changes neither endpoint nor memory, so every other answer stays.
+/// A wrap changes neither endpoint, memory nor detector, so every other answer stays.
 pub fn generate_receive_only(seed: u64, steps: usize) -> Recorder {
     fill(Recorder::receive_only(), seed, steps)
 }
@@ -34,5 +37,8 @@ fn fill(mut recorder: Recorder, seed: u64, steps: usize) -> Recorder {
     let mut prng = Prng::new(seed);
     directed::all(&mut recorder, &mut prng);
     random::steps(&mut recorder, &mut prng, steps);
+    observations::directed(&mut recorder);
+    // From the seed anew: a new case before them does not shift them.
+    observations::random(&mut recorder, &mut Prng::new(seed), steps);
     recorder
 }

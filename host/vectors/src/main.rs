@@ -1,5 +1,6 @@
 //! `vectors OUTDIR [SEED] [STEPS] [receive-only]`: writes OUTDIR/runs.bin and
-//! OUTDIR/answers.txt, and to standard error how often each code occurred.
+//! OUTDIR/answers.txt, and to standard error how often each code and each answer
+//! of a detector occurred.
 
 #![forbid(unsafe_code)]
 
@@ -7,6 +8,8 @@ use std::path::Path;
 use std::process::ExitCode;
 use vectors::recorder::Recorder;
 use vectors::{generate, generate_receive_only, DEFAULT_SEED, DEFAULT_STEPS};
+
+type Generate = fn(u64, usize) -> Recorder;
 
 /// The last argument that leaves the wraps out.
 const RECEIVE_ONLY: &str = "receive-only";
@@ -21,22 +24,18 @@ fn main() -> ExitCode {
     }
 }
 
-fn run(mut arguments: Vec<String>) -> Result<(), String> {
-    let receive_only = arguments.last().is_some_and(|last| last == RECEIVE_ONLY);
-    if receive_only {
-        arguments.pop();
-    }
+fn run(arguments: Vec<String>) -> Result<(), String> {
+    let (arguments, generate): (&[String], Generate) = match arguments.split_last() {
+        Some((last, rest)) if last == RECEIVE_ONLY => (rest, generate_receive_only),
+        _ => (&arguments, generate),
+    };
     let (folder, rest) = arguments
         .split_first()
         .filter(|(_, rest)| rest.len() <= 2)
         .ok_or("usage: vectors OUTDIR [SEED] [STEPS] [receive-only]")?;
     let seed = number(rest.first(), DEFAULT_SEED)?;
     let steps = number(rest.get(1), DEFAULT_STEPS as u64)?;
-    let recorder = if receive_only {
-        generate_receive_only(seed, steps as usize)
-    } else {
-        generate(seed, steps as usize)
-    };
+    let recorder = generate(seed, steps as usize);
     write(Path::new(folder), &recorder).map_err(|error| format!("{folder}: {error}"))?;
     report(seed, &recorder);
     Ok(())
@@ -63,5 +62,9 @@ fn report(seed: u64, recorder: &Recorder) {
     );
     for (code, count) in recorder.histogram.iter().enumerate() {
         eprintln!("code {code:2}: {count}");
+    }
+    let names = ["new", "known", "duplicate", "full"];
+    for (name, count) in names.iter().zip(recorder.observed) {
+        eprintln!("{name}: {count}");
     }
 }

@@ -24,6 +24,11 @@ const IDS: [&[u64]; 3] = [
     &[0, 1, 1 << 32, 0x0123_4567_89AB_CDEF, u64::MAX],
 ];
 
+/// The tenants and the source addresses that many frames have, so that a detector
+/// sees some again, and from other peers.
+const TENANTS: [u16; 3] = [0, 7, 0xFFFF];
+const SOURCES: [u8; 4] = [1, 2, 3, 0xFF];
+
 /// What the generator knows of the endpoint it talks to.
 struct Scene {
     own: u32,
@@ -86,6 +91,9 @@ fn inner(prng: &mut Prng) -> Vec<u8> {
     };
     let mut frame = prng.bytes(length);
     if length >= 14 {
+        if prng.percent(70) {
+            frame[6..12].copy_from_slice(&[2, 0, 0, 0, 0, prng.pick(&SOURCES)]);
+        }
         let tag = prng.pick(&[0x8100, 0x88A8]);
         let kind = if prng.percent(3) { tag } else { 0x0800 };
         put16(&mut frame, 12, kind);
@@ -132,7 +140,11 @@ impl Scene {
             1 => prng.pick(IDS[0]),
             _ => prng.pick(ids),
         };
-        let tenant = prng.draw() as u16;
+        let tenant = if prng.percent(60) {
+            prng.pick(&TENANTS)
+        } else {
+            prng.draw() as u16
+        };
         if recorder.try_binding(peer as u16, kind, id, tenant) == Some(0) {
             self.bindings.push((peer, kind, id));
         }

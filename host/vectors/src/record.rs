@@ -44,6 +44,11 @@ pub enum Record {
         output_length: u16,
         frame: Vec<u8>,
     },
+    Observe {
+        tenant: u16,
+        peer: u16,
+        address: u64,
+    },
 }
 
 impl Record {
@@ -57,6 +62,7 @@ impl Record {
             Record::Tick => 6,
             Record::View { .. } => 7,
             Record::Wrap { .. } => 8,
+            Record::Observe { .. } => 9,
         }
     }
 
@@ -90,6 +96,15 @@ impl Record {
                 &length.to_be_bytes(),
             ]),
             Record::Wrap { .. } => self.wrap_payload(),
+            Record::Observe {
+                tenant,
+                peer,
+                address,
+            } => join(&[
+                &tenant.to_be_bytes(),
+                &peer.to_be_bytes(),
+                &address.to_be_bytes(),
+            ]),
         }
     }
 
@@ -154,6 +169,11 @@ impl Record {
                 usize::from(*output_length),
                 frame,
             ),
+            Record::Observe {
+                tenant,
+                peer,
+                address,
+            } => driver.observe(*tenant, *peer, *address).1,
         }
     }
 }
@@ -239,6 +259,11 @@ fn decode_payload(op: u64, fields: &mut Fields) -> Result<Record, String> {
         6 => Ok(Record::Tick),
         7 => decode_view(fields),
         8 => decode_wrap(fields),
+        9 => Ok(Record::Observe {
+            tenant: fields.number(2)? as u16,
+            peer: fields.number(2)? as u16,
+            address: fields.number(8)?,
+        }),
         _ => Err(format!("no op {op}")),
     }
 }

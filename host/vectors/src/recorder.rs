@@ -2,8 +2,9 @@
 //! called with the generator's own values, not with what the file says, so that
 //! a replay of the file checks the file's form too.
 
-use crate::driver::{Driver, Line, MAX_MEMORY, MAX_OUTPUT};
+use crate::driver::{flat, Driver, Line, MAX_MEMORY, MAX_OUTPUT};
 use crate::record::Record;
+use niulassenc_reference::Observed;
 
 /// How often each code 0..=23 was answered.
 pub type Histogram = [u64; 24];
@@ -13,6 +14,8 @@ pub struct Recorder {
     pub runs: Vec<u8>,
     pub answers: String,
     pub histogram: Histogram,
+    /// How often a detector answered new, known, duplicate, full.
+    pub observed: [u64; 4],
     pub records: usize,
     /// The records themselves, for a caller that wants no files.
     kept: Option<Vec<Record>>,
@@ -36,6 +39,7 @@ impl Recorder {
             runs: Vec::new(),
             answers: String::new(),
             histogram: [0; 24],
+            observed: [0; 4],
             records: 0,
             kept: None,
             wraps: true,
@@ -135,10 +139,15 @@ impl Recorder {
         self.note(Record::Lend { length, seed }, line);
     }
 
+    /// A frame that is delivered is observed right away.
     pub fn try_receive(&mut self, packet: &[u8]) -> Option<u8> {
         let line = self.driver.receive(packet);
         let packet = packet.to_vec();
-        self.note(Record::Receive { packet }, line)
+        let code = self.note(Record::Receive { packet }, line);
+        if let Some((tenant, peer, address)) = self.driver.delivered() {
+            self.try_observe(tenant, peer, address);
+        }
+        code
     }
 
     pub fn receive(&mut self, expected: u8, packet: &[u8]) {
@@ -194,6 +203,24 @@ impl Recorder {
     pub fn wrap(&mut self, expected: u8, binding: u16, segment: u32, output: usize, frame: &[u8]) {
         let got = self.try_wrap(binding, segment, 7, output, frame);
         self.expect(expected, got);
+    }
+
+    pub fn try_observe(&mut self, tenant: u16, peer: u16, address: u64) -> Observed {
+        let (observed, line) = self.driver.observe(tenant, peer, address);
+        let record = Record::Observe {
+            tenant,
+            peer,
+            address,
+        };
+        self.note(record, line);
+        self.observed[usize::from(flat(observed).0)] += 1;
+        observed
+    }
+
+    pub fn observe(&mut self, expected: Observed, tenant: u16, peer: u16, address: u64) {
+        let got = self.try_observe(tenant, peer, address);
+        let at = self.records;
+        assert_eq!(got, expected, "case {}, record {at}", self.case);
     }
 
     /// Wraps every segment of a frame and gives the packets back.

@@ -2,10 +2,12 @@
 
 use std::path::Path;
 use std::process::Command;
+use vectors::driver::Driver;
 use vectors::prng::Prng;
 use vectors::record::{decode, replay, Record};
 use vectors::recorder::Recorder;
-use vectors::{generate, generate_receive_only, random, DEFAULT_SEED, DEFAULT_STEPS};
+use vectors::{generate, generate_receive_only, observations, random};
+use vectors::{DEFAULT_SEED, DEFAULT_STEPS};
 
 fn bytes(hex: &str) -> Vec<u8> {
     hex.split_whitespace()
@@ -37,7 +39,13 @@ const RUN: &str = "
          08 00 1a  00 00  00 00 00 00  00 00 00 07  00 34
                    02 00 00 00 00 02 02 00 00 00 00 01 88 b5
          08 00 1a  00 02  00 00 00 00  00 00 00 07  00 34
-                   02 00 00 00 00 02 02 00 00 00 00 01 88 b5";
+                   02 00 00 00 00 02 02 00 00 00 00 01 88 b5
+         09 00 0c  00 07  00 02  00 00 02 00 00 00 00 01
+         09 00 0c  00 07  00 02  00 00 02 00 00 00 00 01
+         09 00 0c  00 07  00 03  00 00 02 00 00 00 00 01
+         09 00 0c  ff ff  00 01  00 00 00 00 00 00 00 00
+         01 00 08  0a 00 00 01  1d 2f  05 dc
+         09 00 0c  00 07  00 03  00 00 02 00 00 00 00 01";
 
 /// The lines that the paper and the file's form demand for it; the hashes were
 /// worked out outside of this program.
@@ -58,6 +66,12 @@ receive 0 65535 1 memory 18 14 1343666380 3222715768
 tick 0
 wrap 0 50 1 696778459
 wrap 23 0 0 3627348928
+observe 0 - 3975110185
+observe 1 - 3975110185
+observe 2 2 3975110185
+observe 0 - 3031000267
+start 0
+observe 0 - 1745976170
 ";
 
 #[test]
@@ -75,7 +89,10 @@ fn a_run_by_hand() {
 fn broken_runs_are_told() {
     for broken in [
         "00 00 00",
+        "0a 00 00",
         "09 00 00",
+        "09 00 0b 00 07 00 02 00 00 02 00 00 00 00",
+        "09 00 0d 00 07 00 02 00 00 02 00 00 00 00 01 00",
         "06",
         "06 00 01 00",
         "02 00 03 0a 00 00",
@@ -147,7 +164,7 @@ fn the_random_part_goes_deep() {
 #[test]
 fn the_default_runs_keep_their_bounds() {
     let made = generate(DEFAULT_SEED, DEFAULT_STEPS);
-    assert!(made.runs.len() < 700_000, "{}", made.runs.len());
+    assert!(made.runs.len() < 800_000, "{}", made.runs.len());
     let mut started = false;
     let mut lent = false;
     let mut received = false;
@@ -197,6 +214,74 @@ fn receive_only_leaves_the_wraps_out() {
         }
         let again = generate_receive_only(seed, steps);
         assert_eq!((again.runs, again.answers), (made.runs, made.answers));
+    }
+}
+
+/// How often each answer of a detector stands in these lines.
+fn observed(answers: &str) -> [u64; 4] {
+    let mut counts = [0; 4];
+    for line in answers.lines() {
+        if let Some(rest) = line.strip_prefix("observe ") {
+            counts[rest[..1].parse::<usize>().expect("a digit")] += 1;
+        }
+    }
+    counts
+}
+
+/// Every frame that is delivered is observed next: its tenant, the number of the
+/// peer whose address the packet has, and its bytes 6 to 11.
+#[test]
+fn delivered_frames_are_observed() {
+    let mut recorder = Recorder::new();
+    random::steps(&mut recorder, &mut Prng::new(DEFAULT_SEED), DEFAULT_STEPS);
+    let mut driver = Driver::new();
+    let mut due = None;
+    for record in decode(&recorder.runs).unwrap() {
+        let text = record.call(&mut driver).text;
+        let told = matches!(record, Record::Observe { .. }).then_some(record);
+        assert_eq!(told, due.take(), "before {text}");
+        let Some(rest) = text.strip_prefix("receive 0 ") else {
+            continue;
+        };
+        let tenant = rest.split(' ').next().unwrap().parse().unwrap();
+        let sender = &driver.last_packet[12..16];
+        let mut peers = driver.endpoint.peers().iter();
+        let peer = peers.position(|peer| peer.to_be_bytes() == sender).unwrap() as u16;
+        let mut address = [0; 8];
+        address[2..].copy_from_slice(&driver.handed_back()[6..12]);
+        due = Some(Record::Observe {
+            tenant,
+            peer,
+            address: u64::from_be_bytes(address),
+        });
+    }
+    assert_eq!(due, None);
+    let [new, known, duplicate, full] = observed(&recorder.answers);
+    for count in [new, known, duplicate] {
+        assert!(
+            count >= 50,
+            "{new} new, {known} known, {duplicate} duplicate"
+        );
+    }
+    assert_eq!([new, known, duplicate, full], recorder.observed);
+}
+
+/// The detector's own cases and observations come behind all others, stand by
+/// themselves, and reach every answer.
+#[test]
+fn the_detectors_calls_come_last() {
+    for (seed, steps) in [(DEFAULT_SEED, DEFAULT_STEPS), (7, 1200)] {
+        let made = generate(seed, steps);
+        let mut alone = Recorder::new();
+        observations::directed(&mut alone);
+        observations::random(&mut alone, &mut Prng::new(seed), steps);
+        assert!(made.runs.ends_with(&alone.runs), "seed {seed}");
+        assert!(made.answers.ends_with(&alone.answers), "seed {seed}");
+        assert!(alone.observed.iter().sum::<u64>() > steps as u64);
+        for (answer, count) in alone.observed.iter().enumerate() {
+            assert!(*count >= 100, "seed {seed}: answer {answer}, {count} times");
+        }
+        assert_eq!(observed(&made.answers), made.observed);
     }
 }
 
@@ -259,6 +344,7 @@ fn the_program_takes_receive_only_last() {
     for wrong in [
         &["receive-only"][..],
         &[name, "receive-only", "5"],
+        &[name, "detector"],
         &[name, "5", "50", "9"],
     ] {
         assert!(!run_program(wrong), "{wrong:?}");

@@ -47,6 +47,16 @@ unfolding addBindingOf
 add-binding-cases P e peer kind network tenant f g =
     cases (λ (x : AddResult). P (x .endpoint)) (refusedAdd e) (addBindingChecks e peer kind network tenant) (bindingAdded e peer kind network tenant) (λ r. f) g
 
+-- ---- the configuration's bindings, from the endpoint's fields
+
+pub config-owners : (e : Endpoint) → configOf e .owners ≡ e .owners
+unfolding configOf
+config-owners e = refl
+
+pub config-bindings : (e : Endpoint) → configOf e .bindings ≡ min (e .«binding_count») mostBindings
+unfolding configOf
+config-bindings e = refl
+
 -- ---- a refused start (document 01, "Listing and numbers"): adding to it is 18, and leaves it as it is
 
 pub refused-start-peer : (address : ℕ) → addPeerOf (fresh 0 0 0) address ≡ refusedAdd (fresh 0 0 0) C.OutOfRange

@@ -8,7 +8,7 @@ use lib.ListN.{getD}
 use lib.Dec.{eqb}
 use borrow.Author.Tests.{eqb-true, eq-eqb, ne-eqb}
 use Rattle.reassembly.specs.Laws.Base.{and-l, and-r}
-pub use Rattle.reassembly.specs.Laws.Search.{lowest-some, lowest-none, lowest-is, lowest-not}
+pub use Rattle.lookup.specs.Laws.Search.{lowest-some, lowest-none, lowest-is, lowest-not}
 use Rattle.endpoint.specs.declared.answer.Drop.{Drop}
 use Rattle.endpoint.specs.declared.search.Lookup.the-variants as F
 use Rattle.endpoint.specs.Search.{lowest, foundOf}

@@ -34,8 +34,9 @@ use Rattle.wire.specs.declared.carriage.Carried.{Carried}
 use Rattle.wire.specs.declared.carriage.Carried.the-variants as C
 use Rattle.reassembly.specs.Laws.Base.{caseB, caseO}
 use Rattle.reassembly.specs.Base.{someBelow}
-use Rattle.reassembly.specs.Search.{lowest, found}
-use Rattle.reassembly.specs.Laws.Search.{lowest-some, found-some, found-none, found-is}
+use Rattle.lookup.specs.Search.{lowest, found}
+use Rattle.lookup.specs.Laws.Search.{lowest-some, found-is}
+use Rattle.reassembly.specs.Laws.Base.{found-some, found-none}
 use Rattle.reassembly.specs.Slots.{Note, noNote, mostPeers}
 use Rattle.reassembly.specs.Take.{Seg, segOf, Effect, slotNo, frameIn}
 use Rattle.reassembly.specs.declared.take.Outcome.{Outcome}

@@ -1,30 +1,20 @@
--- Laws of `Base`, and case analysis that keeps the equation (of a Bool: wire's).
+-- Laws of `Base`, and case analysis that keeps the equation (of a Bool: wire's; else lookup's).
 use mathlib.Core.Path.{_≡_, refl, sym, ap, _∙_}
-use mathlib.Core.Logic.{_⊎_, inl, inr, _≢_}
+use mathlib.Core.Logic.{_⊎_, inl, inr}
 use mathlib.Core.Bool.{Bool, true, false, _&&_, _||_}
 use mathlib.Core.List.{List, [], _∷_, map}
-use mathlib.Core.Option.{Option, none, some}
-use Prim.Native.Nat.{ℕ, zero, suc, _+_, _<_}
+use mathlib.Core.Option.{none, some}
+use Prim.Native.Nat.{ℕ, zero, suc, _<_}
 use native.Mathlib.Omega.{arith}
 use lib.ListN.{length, getD, set, length-append, List·getD-append}
 use lib.Seq.{getD-at}
-use lib.Dec.{ltb, eqb}
-use borrow.Author.Tests.{ltb-true, ltb-false, eqb-true, eqb-false}
+use lib.Dec.{ltb}
+use borrow.Author.Tests.{ltb-true, ltb-false}
 pub use Rattle.wire.specs.Laws.Bytes.{caseB}
+pub use Rattle.lookup.specs.Laws.Cases.{caseO, either, clash, and-l, and-r, or-cases, or-true-r}
+use Rattle.lookup.specs.Search.{lowest}
+use Rattle.lookup.specs.Laws.Search.{lowest-some, lowest-none}
 use Rattle.reassembly.specs.Base.{someBelow, allBelow, table}
-
--- case analysis that keeps the equation: a value is handed over with what each case knows. The goal needs no motive.
-pub caseO {ℓ} : {A : Type 0} {C : Type ℓ} (o : Option A) → (o ≡ none → C) → ((a : A) → o ≡ some a → C) → C
-caseO none f g = f refl
-caseO (some a) f g = g a refl
-
-pub either {ℓ} : {A B : Type 0} {C : Type ℓ} → A ⊎ B → (A → C) → (B → C) → C
-either (inl a) f g = f a
-either (inr b) f g = g b
-
--- two constructors that clash: `clash (cc)`
-pub clash {ℓ} : {C : Type ℓ} → _≡_ {A = ℕ} 0 1 → C
-clash e = absurd (omega arith)
 
 -- what is to be shown of each number below two
 pub below-two : (P : ℕ → Type 0) → P 0 → P 1 → (j : ℕ) → j < 2 → P j
@@ -35,13 +25,6 @@ below-two P a b (suc (suc j)) l = absurd (omega arith)
 -- lt is lt or equal
 pub below-suc : {i n : ℕ} → i < suc n → (i < n) ⊎ (i ≡ n)
 below-suc {i} {n} h = caseB (ltb i n) (λ e. inl (ltb-true i n e)) (λ e. inr (omega (arith, ltb-false i n e)))
-
--- a search's loop: one number more was looked at
-pub more-not : (f : ℕ → Bool) (i : ℕ) → ((t : ℕ) → t < i → f t ≡ false) → f i ≡ false → (t : ℕ) → t < i + 1 → f t ≡ false
-more-not f i h e t l =
-    caseB (eqb t i)
-    (λ q. ap f (eqb-true t i q) ∙ e)
-    (λ q. let d : t ≢ i = eqb-false t i q in h t (omega arith))
 
 -- a set element of a mapped list
 pub map-set : {A B : Type 0} (f : A → B) (l : List A) (i : ℕ) (x : A) → map f (set l i x) ≡ set (map f l) i (f x)
@@ -63,14 +46,6 @@ pub table-ext : {A : Type 0} (n : ℕ) (f g : ℕ → A) → ((i : ℕ) → i < 
 unfolding table
 table-ext zero f g h = refl
 table-ext (suc n) f g h = cc (h n (omega arith), table-ext n f g (λ i l. h i (omega arith)))
-
-pub and-l : (a b : Bool) → (a && b) ≡ true → a ≡ true
-and-l true b e = refl
-and-l false b e = e
-
-pub and-r : (a b : Bool) → (a && b) ≡ true → b ≡ true
-and-r true b e = e
-and-r false b e = let z : true ≡ false = cc in cc
 
 pub and-yes : (b : Bool) → (b && true) ≡ b
 and-yes true = refl
@@ -135,14 +110,6 @@ same-test true false f g = sym (f refl)
 same-test false true f g = g refl
 same-test false false f g = refl
 
-pub or-cases : (a b : Bool) → (a || b) ≡ true → (a ≡ true) ⊎ (b ≡ true)
-or-cases true b e = inl refl
-or-cases false b e = inr e
-
-pub or-true-r : (a b : Bool) → b ≡ true → (a || b) ≡ true
-or-true-r true b e = refl
-or-true-r false b e = e
-
 pub someBelow-some : (n : ℕ) (f : ℕ → Bool) (i : ℕ) → i < n → f i ≡ true → someBelow n f ≡ true
 unfolding someBelow
 someBelow-some zero f i l e = absurd (omega arith)
@@ -150,3 +117,10 @@ someBelow-some (suc n) f i l e =
     either (below-suc l)
     (λ h. or-true-r (f n) (someBelow n f) (someBelow-some n f i h e))
     (λ q. rw (← q, e))
+
+-- what a search finds is there, and where it finds nothing, there is none
+pub found-some : (f : ℕ → Bool) (n i : ℕ) → lowest f n ≡ some i → someBelow n f ≡ true
+found-some f n i e = let w = lowest-some f n i e in someBelow-some n f i (w .below) (w .passes)
+
+pub found-none : (f : ℕ → Bool) (n : ℕ) → lowest f n ≡ none → someBelow n f ≡ false
+found-none f n e = someBelow-none n f (lowest-none f n e)

@@ -14,8 +14,9 @@ use Rattle.wire.specs.Table.{_otherwise_}
 use Rattle.wire.specs.Laws.Table.{under, row4}
 use Rattle.reassembly.specs.Laws.Base.{caseB, caseO, clash, or-false-l, or-false-r, allBelow-ext, allBelow-at, allBelow-intro, table-ext, length-table}
 use Rattle.reassembly.specs.Base.{someBelow, allBelow, within}
-use Rattle.reassembly.specs.Search.{from, lowest}
-use Rattle.reassembly.specs.Laws.Search.{lowest-some, found-some, found-none, found-is}
+use Rattle.lookup.specs.Search.{lowest}
+use Rattle.lookup.specs.Laws.Search.{lowest-some, lowest-four, found-is}
+use Rattle.reassembly.specs.Laws.Base.{found-some, found-none}
 use Rattle.reassembly.specs.Slots.{Slot, Peer, Note, noNote, noteOf, free, first, bears, isFree, mostPeers, mostSlots}
 use Rattle.reassembly.specs.Laws.Slots.{first-some, first-none}
 use Rattle.reassembly.specs.Take.{Seg, Effect, Choice, reject, old, chosen, chooseNew, choose, slotNo, furtherSlot, openedSlot, noteAfter, overlaps}
@@ -46,8 +47,8 @@ old-row false a b c x q = clash (cc (q))
 
 -- the search of a row is a search
 slots-lowest : (f : Slot → Bool) (l : List Slot) → first f l ≡ lowest (λ (s : ℕ). f (getD l s free)) mostSlots
-unfolding first lowest from
-slots-lowest f l = refl
+unfolding first
+slots-lowest f l = sym (lowest-four (λ (s : ℕ). f (getD l s free)))
 
 -- 14, and what follows
 chosen-is : (h : Choice → ℕ) (row : List Slot) (g : Seg) → h (chosen row g)

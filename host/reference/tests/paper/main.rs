@@ -1,8 +1,10 @@
-//! Tests of the reference against document 01. Expected bytes and numbers are
-//! the paper's own, or were worked out by hand; packets are built here with a
-//! word-by-word checksum that shares nothing with the code under test.
+//! Tests of the reference against documents 01 and 02. Expected bytes and
+//! numbers are the papers' own, or were worked out by hand; packets are built
+//! here with a word-by-word checksum that shares nothing with the code under
+//! test.
 
 mod build;
+mod detector;
 mod faults;
 mod listing;
 mod memory;

@@ -4,7 +4,7 @@ use mathlib.Core.Bool.{false}
 use Prim.Native.Nat.{ℕ, _+_, _≤_, _<_, _-_, _%_}
 use native.Mathlib.Omega.{arith}
 use Rattle.endpoint.specs.Config.{binds, mostBindings}
-use Rattle.reassembly.specs.Laws.Base.{more-not}
+use Rattle.lookup.specs.Laws.Search.{more-not}
 use Rattle.endpoint.specs.Laws.Search.{found-at, found-nothing}
 use Rattle.endpoint.proofs.search.find_binding.Statement.{statement}
 use Rattle.endpoint.proofs.search.find_binding.Tie as tie

@@ -4,7 +4,7 @@ use mathlib.Core.Bool.{false}
 use Prim.Native.Nat.{ℕ, _≤_, _<_, _-_}
 use native.Mathlib.Omega.{arith}
 use Rattle.endpoint.specs.Config.{hasAddress}
-use Rattle.reassembly.specs.Laws.Base.{more-not}
+use Rattle.lookup.specs.Laws.Search.{more-not}
 use Rattle.endpoint.specs.Laws.Search.{found-at, found-nothing, has-address, other-address}
 use Rattle.endpoint.proofs.search.find_peer.Statement.{statement}
 use Rattle.endpoint.proofs.search.find_peer.Tie as tie

@@ -5,7 +5,7 @@ use Prim.Native.Nat.{ℕ, _≤_, _<_, _-_}
 use native.Mathlib.Omega.{arith}
 use lib.ListN.{getD}
 use Rattle.reassembly.specs.Slots.{free, bears, mostSlots}
-use Rattle.reassembly.specs.Laws.Base.{more-not}
+use Rattle.lookup.specs.Laws.Search.{more-not}
 use Rattle.reassembly.specs.Laws.Take.{found-at, found-nothing}
 use Rattle.reassembly.proofs.slot.find_pending.Statement.{statement}
 use Rattle.reassembly.proofs.slot.find_pending.Tie as tie

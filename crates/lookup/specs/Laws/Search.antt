@@ -1,15 +1,15 @@
 -- Laws of a search: what it finds is the lowest number that passes.
 use mathlib.Core.Path.{_≡_, refl, sym, ap, _∙_}
-use mathlib.Core.Bool.{Bool, true, false}
+use mathlib.Core.Bool.{Bool, true, false, cond}
 use mathlib.Core.Logic.{_≢_}
 use mathlib.Core.Option.{Option, none, some}
 use Prim.Native.Nat.{ℕ, zero, suc, _+_, _<_, _≤_}
 use native.Mathlib.Omega.{arith}
 use lib.Dec.{eqb}
 use borrow.Author.Tests.{eqb-true, eqb-false}
-use Rattle.reassembly.specs.Laws.Base.{caseB, clash, someBelow-some, someBelow-none}
-use Rattle.reassembly.specs.Base.{someBelow}
-use Rattle.reassembly.specs.Search.{from, lowest, Lowest, found}
+use borrow.Table.Steps.{cases}
+use Rattle.lookup.specs.Laws.Cases.{clash}
+use Rattle.lookup.specs.Search.{from, lowest, Lowest, found}
 
 module _ (test : ℕ → Bool) where
   -- r is the lowest that passes among the k numbers from i on
@@ -20,13 +20,13 @@ module _ (test : ℕ → Bool) where
     pub least : (j : ℕ) → i ≤ j → j < r → test j ≡ false
 
   least-more : (i r : ℕ) → test i ≡ false → ((j : ℕ) → suc i ≤ j → j < r → test j ≡ false) → (j : ℕ) → i ≤ j → j < r → test j ≡ false
-  least-more i r e h j a b = caseB (eqb j i) (λ q. ap test (eqb-true j i q) ∙ e) (λ q. let d : j ≢ i = eqb-false j i q in h j (omega arith) b)
+  least-more i r e h j a b = cases (eqb j i) (λ q. ap test (eqb-true j i q) ∙ e) (λ q. let d : j ≢ i = eqb-false j i q in h j (omega arith) b)
 
   from-some : (i k r : ℕ) → from test i k ≡ some r → LowestFrom i k r
   unfolding from
   from-some i zero r e = clash (cc)
   from-some i (suc k) r e =
-      caseB (test i)
+      cases (test i)
       (λ t. let q : r ≡ i = cc in record { above = omega arith; below = omega arith; passes = ap test q ∙ t; least = λ j a b. absurd (omega arith) })
       (λ t.
       let w = from-some (suc i) k r (cc) in
@@ -38,7 +38,7 @@ module _ (test : ℕ → Bool) where
   unfolding from
   from-none i zero e j a b = absurd (omega arith)
   from-none i (suc k) e j a b =
-      caseB (test i)
+      cases (test i)
       (λ t. clash (cc))
       (λ t. least-more i (suc i + k) t (from-none (suc i) k (cc)) j a (omega arith))
 
@@ -51,7 +51,7 @@ module _ (test : ℕ → Bool) where
   from-is i (suc k) r w =
       let a : i ≤ r = w .above in
       let b : r < i + suc k = w .below in
-      caseB (eqb i r)
+      cases (eqb i r)
       (λ q.
       let s : i ≡ r = eqb-true i r q in
       cc (ap test s ∙ w .passes))
@@ -64,6 +64,14 @@ module _ (test : ℕ → Bool) where
   unfolding from
   from-not i zero h = refl
   from-not i (suc k) h = cc (h i (omega arith) (omega arith), from-not (suc i) k (λ j a b. h j (omega arith) (omega arith)))
+
+  -- ---- a search's loop: one number more was looked at
+
+  pub more-not : (i : ℕ) → ((t : ℕ) → t < i → test t ≡ false) → test i ≡ false → (t : ℕ) → t < i + 1 → test t ≡ false
+  more-not i h e t l =
+      cases (eqb t i)
+      (λ q. ap test (eqb-true t i q) ∙ e)
+      (λ q. let d : t ≢ i = eqb-false t i q in h t (omega arith))
 
   -- ---- what a search finds, and that it is that
 
@@ -88,13 +96,11 @@ module _ (test : ℕ → Bool) where
   unfolding lowest
   lowest-not n h = from-not 0 n (λ j _ b. h j (omega arith))
 
-  -- ---- there is one
-
-  pub found-some : (n i : ℕ) → lowest test n ≡ some i → someBelow n test ≡ true
-  found-some n i e = let w = lowest-some n i e in someBelow-some n test i (w .below) (w .passes)
-
-  pub found-none : (n : ℕ) → lowest test n ≡ none → someBelow n test ≡ false
-  found-none n e = someBelow-none n test (lowest-none n e)
+-- among four
+pub lowest-four : (test : ℕ → Bool)
+    → lowest test 4 ≡ cond (test 0) (some 0) (cond (test 1) (some 1) (cond (test 2) (some 2) (cond (test 3) (some 3) none)))
+unfolding lowest from
+lowest-four test = refl
 
 -- what was found, where something was
 pub found-is : (o : Option ℕ) (i : ℕ) → o ≡ some i → o ≡ some (found o)

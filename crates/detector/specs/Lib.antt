@@ -1,0 +1,4 @@
+pub mod Detector
+pub mod Source
+pub mod Detects
+pub mod Laws
