@@ -5,13 +5,12 @@
 use crate::answer::Refusal;
 use crate::headers::{Segment, MAX_INNER, MIN_INNER, STT_HEADER};
 use crate::listing::MAX_PEERS;
-use crate::received_map;
+use crate::received_map::{self, Map, MAP_ROOM};
 
 /// Slots each peer has.
 pub const SLOTS_PER_PEER: usize = 4;
 
 const FRAME_ROOM: usize = 1536;
-const MAP_ROOM: usize = 192;
 
 /// Bytes of one slot: room for the frame, then its received map.
 pub const SLOT_SIZE: usize = FRAME_ROOM + MAP_ROOM;
@@ -147,7 +146,7 @@ fn pending_slot(row: &Row, identifier: u32) -> Option<(usize, &Pending)> {
 fn check_pending(
     pending: &Pending,
     segment: &Segment,
-    map: &[u8],
+    map: &Map,
     start: usize,
     end: usize,
 ) -> Result<(), Refusal> {
@@ -175,6 +174,8 @@ fn open_slot(row: &mut Row, segment: &Segment) -> Result<usize, Refusal> {
 }
 
 /// Frame room and received map of the slot that starts at `start`.
-fn slot_parts(memory: &mut [u8], start: usize) -> (&mut [u8], &mut [u8]) {
-    memory[start..start + SLOT_SIZE].split_at_mut(FRAME_ROOM)
+fn slot_parts(memory: &mut [u8], start: usize) -> (&mut [u8], &mut Map) {
+    let slot = &mut memory[start..start + SLOT_SIZE];
+    slot.split_last_chunk_mut()
+        .expect("a slot ends with its map")
 }
