@@ -71,7 +71,7 @@ impl<'a> Ipv4<'a> {
             return Err(Refusal::NotIpv4);
         }
         // RFC 1071, section 1 (3): right when the sum, field included, is all ones.
-        if checksum::sum(&packet[..header_length]) != 0xFFFF {
+        if checksum::header_sum(&packet[..header_length]) != 0xFFFF {
             return Err(Refusal::BadIpv4Checksum);
         }
         // More-fragments (0x2000) and the offset; 0x4000 and 0x8000 are free.

@@ -105,18 +105,17 @@ fn put32(bytes: &mut [u8], at: usize, value: u32) {
 /// RFC 791 header without options; its total length is the packet's. `packet`
 /// is at most 1,600 bytes long, the largest MTU.
 fn write_ipv4(packet: &mut [u8], protocol: u8, route: Route) {
-    let total = packet.len() as u16;
-    let header = &mut packet[..IPV4_HEADER];
-    put16(header, 0, 0x4500);
-    put16(header, 2, total);
-    put16(header, 4, 0);
-    put16(header, 6, 0x4000);
-    put16(header, 8, 0x4000 | u16::from(protocol));
-    put16(header, 10, 0);
-    put32(header, 12, route.source);
-    put32(header, 16, route.destination);
-    let field = !checksum::sum(header);
-    put16(header, 10, field);
+    let mut words = [
+        0x4500_0000 | packet.len() as u32,
+        0x0000_4000,
+        0x4000_0000 | u32::from(protocol) << 16,
+        route.source,
+        route.destination,
+    ];
+    words[2] |= u32::from(!checksum::sum_of_words(words));
+    for (field, word) in packet[..IPV4_HEADER].chunks_exact_mut(4).zip(words) {
+        field.copy_from_slice(&word.to_be_bytes());
+    }
 }
 
 /// 49,152 plus the plain sum of the seven words of the first 14 inner bytes,
