@@ -111,7 +111,7 @@ impl Reassembly {
     /// Adds 1 to every age and gives up the frames that reach the limit. The
     /// memory is not touched: a slot's map is cleared when it is taken again.
     pub fn tick(&mut self) {
-        for slot in self.rows.iter_mut().flatten() {
+        for slot in self.rows.as_flattened_mut() {
             if let Some(pending) = slot {
                 pending.age += 1;
                 if pending.age >= AGE_LIMIT {
