@@ -121,23 +121,23 @@ impl Endpoint {
             .peer_number(ip.source)
             .ok_or(Refusal::UnknownPeer)?;
         match Carriage::parse(&ip, self.config.stt_port)? {
-            Carriage::Vxlan(tunnel) => {
-                let id = headers::vxlan_network_id(tunnel)?;
+            Carriage::Vxlan(header, inner) => {
+                let id = headers::vxlan_network_id(header)?;
                 let place = Place {
                     in_memory: false,
                     start: ip.header_length + UDP_HEADER + VXLAN_HEADER,
-                    length: tunnel.len() - VXLAN_HEADER,
+                    length: inner.len(),
                 };
-                self.deliver(peer, Kind::Vxlan, id, &tunnel[VXLAN_HEADER..], place)
+                self.deliver(peer, Kind::Vxlan, id, inner, place)
             }
-            Carriage::Nvgre(tunnel) => {
-                let id = headers::nvgre_network_id(tunnel)?;
+            Carriage::Nvgre(header, inner) => {
+                let id = headers::nvgre_network_id(header)?;
                 let place = Place {
                     in_memory: false,
                     start: ip.header_length + GRE_HEADER,
-                    length: tunnel.len() - GRE_HEADER,
+                    length: inner.len(),
                 };
-                self.deliver(peer, Kind::Nvgre, id, &tunnel[GRE_HEADER..], place)
+                self.deliver(peer, Kind::Nvgre, id, inner, place)
             }
             Carriage::Stt(segment) => self.receive_segment(peer, &segment, memory),
         }

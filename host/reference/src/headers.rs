@@ -101,10 +101,10 @@ impl<'a> Ipv4<'a> {
 
 /// The carriage of a packet whose outer header is accepted.
 pub enum Carriage<'a> {
-    /// UDP payload from the VXLAN header on.
-    Vxlan(&'a [u8]),
-    /// IP payload from the GRE header on.
-    Nvgre(&'a [u8]),
+    /// VXLAN header and inner frame.
+    Vxlan(&'a [u8; VXLAN_HEADER], &'a [u8]),
+    /// GRE header and inner frame.
+    Nvgre(&'a [u8; GRE_HEADER], &'a [u8]),
     Stt(Segment<'a>),
 }
 
@@ -120,16 +120,18 @@ impl<'a> Carriage<'a> {
     /// Checks 9 (too short for ports), 8, 9 (the rest) and 10.
     pub fn parse(ip: &Ipv4<'a>, stt_port: u16) -> Result<Carriage<'a>, Refusal> {
         match ip.protocol {
-            PROTOCOL_UDP => parse_udp(ip).map(Carriage::Vxlan),
+            PROTOCOL_UDP => parse_udp(ip),
             PROTOCOL_TCP => parse_segment(ip, stt_port).map(Carriage::Stt),
-            PROTOCOL_GRE if ip.payload.len() < GRE_HEADER => Err(Refusal::BadTransportHeader),
-            PROTOCOL_GRE => Ok(Carriage::Nvgre(ip.payload)),
+            PROTOCOL_GRE => match ip.payload.split_first_chunk() {
+                Some((header, inner)) => Ok(Carriage::Nvgre(header, inner)),
+                None => Err(Refusal::BadTransportHeader),
+            },
             _ => Err(Refusal::UnknownProtocol),
         }
     }
 }
 
-fn parse_udp<'a>(ip: &Ipv4<'a>) -> Result<&'a [u8], Refusal> {
+fn parse_udp<'a>(ip: &Ipv4<'a>) -> Result<Carriage<'a>, Refusal> {
     let datagram = ip.payload;
     if datagram.len() < UDP_HEADER {
         return Err(Refusal::BadTransportHeader);
@@ -137,15 +139,17 @@ fn parse_udp<'a>(ip: &Ipv4<'a>) -> Result<&'a [u8], Refusal> {
     if be16(datagram, 2) != VXLAN_PORT {
         return Err(Refusal::UnknownProtocol);
     }
-    let length = usize::from(be16(datagram, 4));
-    if length != datagram.len() || length < UDP_HEADER + VXLAN_HEADER {
+    if usize::from(be16(datagram, 4)) != datagram.len() {
         return Err(Refusal::BadTransportHeader);
     }
+    let Some((header, inner)) = datagram[UDP_HEADER..].split_first_chunk() else {
+        return Err(Refusal::BadTransportHeader);
+    };
     // RFC 768: a field of 0 means that the sender worked out no checksum.
     if be16(datagram, 6) != 0 && !ip.transport_sum_is_right() {
         return Err(Refusal::BadTransportChecksum);
     }
-    Ok(&datagram[UDP_HEADER..])
+    Ok(Carriage::Vxlan(header, inner))
 }
 
 fn parse_segment<'a>(ip: &Ipv4<'a>, stt_port: u16) -> Result<Segment<'a>, Refusal> {
@@ -173,7 +177,7 @@ fn parse_segment<'a>(ip: &Ipv4<'a>, stt_port: u16) -> Result<Segment<'a>, Refusa
 }
 
 /// The VNI of a VXLAN header (RFC 7348, section 5). Only the I flag counts.
-pub fn vxlan_network_id(header: &[u8]) -> Result<u64, Refusal> {
+pub fn vxlan_network_id(header: &[u8; VXLAN_HEADER]) -> Result<u64, Refusal> {
     if header[0] & 0x08 == 0 {
         return Err(Refusal::BadTunnelHeader);
     }
@@ -184,7 +188,7 @@ pub fn vxlan_network_id(header: &[u8]) -> Result<u64, Refusal> {
 /// The VSID of an NVGRE header (RFC 7637, section 3.2): key present, no
 /// checksum, no sequence number, version 0. Document 01 leaves free the two low
 /// bits of the first byte and the five high bits of the second.
-pub fn nvgre_network_id(header: &[u8]) -> Result<u64, Refusal> {
+pub fn nvgre_network_id(header: &[u8; GRE_HEADER]) -> Result<u64, Refusal> {
     let flags_are_right = (0x20..=0x23).contains(&header[0]) && header[1] & 0x07 == 0;
     if !flags_are_right || be16(header, 2) != TRANSPARENT_ETHERNET {
         return Err(Refusal::BadTunnelHeader);

@@ -94,7 +94,7 @@ impl Binding {
     };
 
     fn matches(&self, peer: u16, kind: Kind, network_id: u64) -> bool {
-        self.peer == peer && self.kind == kind && self.network_id == network_id
+        self.network_id == network_id && self.peer == peer && self.kind == kind
     }
 }
 
