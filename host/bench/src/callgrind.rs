@@ -11,18 +11,19 @@ use std::process::{Command, Stdio};
 pub const COUNT: &str = "count-under-valgrind";
 
 /// Makes the calls of every case on both sides.
-pub fn make_calls(cases: &[Case]) {
+pub fn make_calls(cases: &[&Case]) {
     for case in cases {
         Bench::<Library>::new(case).count();
         Bench::<Reference>::new(case).count();
     }
 }
 
-/// Instructions a call of each case: library, reference.
-pub fn counts(cases: &[Case]) -> Result<Vec<[f64; 2]>, String> {
+/// Instructions a call of each case, of which there are `cases`: library,
+/// reference.
+pub fn counts(cases: usize) -> Result<Vec<[f64; 2]>, String> {
     let folder = std::env::temp_dir().join(format!("niulassenc-bench-{}", std::process::id()));
     std::fs::create_dir_all(&folder).map_err(|e| format!("{}: {e}", folder.display()))?;
-    let counted = run(&folder).and_then(|()| read(&folder, cases.len()));
+    let counted = run(&folder).and_then(|()| read(&folder, cases));
     let _ = std::fs::remove_dir_all(&folder);
     counted
 }

@@ -1,12 +1,13 @@
 //! What is measured.
 
 use crate::sides::Side;
+use crate::table::whole;
 use vectors::directed::{NVGRE, OWN, PEER_A, PORT, STT, VXLAN};
 use vectors::packet::{self, Label, Path};
 use vectors::prng::Prng;
 
 /// The lengths of the inner frames.
-pub const INNER: [usize; 2] = [64, 1514];
+const INNER: [usize; 2] = [64, 1514];
 
 /// The network that the packets are on.
 const NETWORK: u64 = 0x00C0_FFEE;
@@ -96,8 +97,6 @@ pub struct Case {
     pub before: Vec<Vec<u8>>,
     /// Packets received after each, not measured, so that it can come again.
     pub after: Vec<Vec<u8>>,
-    /// Bytes that the transport sum goes over; 0 if there is none.
-    pub summed: usize,
     /// Entries that the detector keeps before each measured call.
     pub kept: u64,
 }
@@ -112,13 +111,8 @@ impl Case {
             listing,
             before: Vec::new(),
             after: Vec::new(),
-            summed: 0,
             kept: 0,
         }
-    }
-
-    fn summing(self, summed: usize) -> Case {
-        Case { summed, ..self }
     }
 
     /// Whether the measured call can be repeated with nothing around it, so
@@ -177,7 +171,7 @@ fn vxlan_summed(length: usize) -> Vec<u8> {
     packet::vxlan_summed(FROM_PEER, NETWORK as u32, &inner(length))
 }
 
-/// Every case but those of the sum alone.
+/// Every case but those of the sums alone.
 pub fn all() -> Vec<Case> {
     let mut cases = Vec::new();
     deliveries(&mut cases);
@@ -198,13 +192,12 @@ fn deliveries(cases: &mut Vec<Case>) {
             };
             let plain = vxlan(length);
             cases.push(delivery("VXLAN, UDP checksum 0", VXLAN, plain));
-            let summed = delivery("VXLAN, UDP checksum set", VXLAN, vxlan_summed(length));
-            cases.push(summed.summing(16 + length));
+            let summed = vxlan_summed(length);
+            cases.push(delivery("VXLAN, UDP checksum set", VXLAN, summed));
             let packet = packet::nvgre(FROM_PEER, NETWORK as u32, &inner(length));
             cases.push(delivery("NVGRE", NVGRE, packet));
             let whole = segment(length, 0, 18 + length);
-            let whole = delivery("STT in one segment", STT, whole);
-            cases.push(whole.summing(38 + length));
+            cases.push(delivery("STT in one segment", STT, whole));
         }
     }
 }
@@ -215,7 +208,7 @@ fn segments(cases: &mut Vec<Case>) {
     let (first, second) = (segment(1514, 0, 766), segment(1514, 766, 1532));
     let case = |name: &str, code, packet| {
         let name = format!("STT segment of 766 bytes, {name}");
-        Case::receive(name, STT, Listing::Small, code, packet).summing(20 + 766)
+        Case::receive(name, STT, Listing::Small, code, packet)
     };
     cases.push(Case {
         after: vec![second.clone()],
@@ -247,9 +240,7 @@ fn refusals(cases: &mut Vec<Case>) {
     ];
     for (code, why, packet) in refused {
         let name = format!("refusal {code}: {why}, 64 bindings");
-        let summed = if code == 10 { 80 } else { 0 };
-        let case = Case::receive(name, VXLAN, Listing::Full, code, packet);
-        cases.push(case.summing(summed));
+        cases.push(Case::receive(name, VXLAN, Listing::Full, code, packet));
     }
 }
 
@@ -271,18 +262,13 @@ fn ticks(cases: &mut Vec<Case>) {
     });
 }
 
-pub fn wrap_name(kind: &str, length: usize) -> String {
-    format!("wrap {kind}, inner {length}")
-}
-
 fn wraps(cases: &mut Vec<Case>) {
     for (kind, name) in [(VXLAN, "VXLAN"), (NVGRE, "NVGRE"), (STT, "STT")] {
         for length in INNER {
-            let name = wrap_name(name, length);
+            let name = format!("wrap {name}, inner {length}");
             let case = Case::receive(name, kind, Listing::Full, 0, Vec::new());
             cases.push(Case {
                 call: Call::Wrap(inner(length)),
-                summed: if kind == STT { 38 + length } else { 0 },
                 ..case
             });
         }
@@ -317,17 +303,54 @@ fn observations(cases: &mut Vec<Case>) {
     }
 }
 
-/// Two receives that differ only in whether `length` bytes are summed: a VXLAN
-/// datagram of so many bytes with and without a checksum. Its frame may be too
-/// long; 13 comes after the sum.
-pub fn sum_of(length: usize) -> [Case; 2] {
-    let code = if length - 16 > 1514 { 13 } else { 0 };
+/// A sum, which no call makes alone: what the first of two receives takes more
+/// than the second.
+pub struct Sum {
+    pub name: String,
+    pub with: Case,
+    pub without: Case,
+}
+
+/// The lengths of the transport sums: one without and one with an odd byte, then
+/// those that the cases above have.
+const SUMMED: [usize; 7] = [64, 65, 80, 102, 786, 1530, 1552];
+
+pub fn sums() -> Vec<Sum> {
+    let transport = SUMMED.map(transport_sum);
+    std::iter::once(header_sum()).chain(transport).collect()
+}
+
+/// A packet with a wrong header checksum, whole and without its last byte. That the
+/// total length is beyond the bytes given is the last check before the checksum,
+/// so one refusal comes right behind the sum and the other right before it. The
+/// difference is the sum with its comparison, what a side does to call it, and any
+/// check that a compiler moved in between.
+fn header_sum() -> Sum {
+    let whole = packet::raw_byte(&vxlan(64), 10, 0);
+    let short = whole[..whole.len() - 1].to_vec();
+    let case = |name: &str, code, packet| {
+        Case::receive(name.to_string(), VXLAN, Listing::Small, code, packet)
+    };
+    Sum {
+        name: "IPv4 header, 20 bytes".to_string(),
+        with: case("header summed", 4, whole),
+        without: case("header not summed", 3, short),
+    }
+}
+
+/// A VXLAN datagram of `length` bytes with and without a checksum. The difference
+/// is the sum over it and over the pseudo-header, with the comparison. Its frame
+/// may be too long; 13 comes after the sum.
+fn transport_sum(length: usize) -> Sum {
+    let frame_length = length - 16;
+    let code = if frame_length > 1514 { 13 } else { 0 };
     let case = |name: &str, packet| {
         let name = format!("{name} {length}");
         Case::receive(name, VXLAN, Listing::Small, code, packet)
     };
-    [
-        case("summed", vxlan_summed(length - 16)),
-        case("not summed", vxlan(length - 16)),
-    ]
+    Sum {
+        name: format!("transport, {} bytes", whole(length as f64)),
+        with: case("summed", vxlan_summed(frame_length)),
+        without: case("not summed", vxlan(frame_length)),
+    }
 }
