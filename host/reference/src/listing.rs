@@ -172,9 +172,13 @@ impl Listing {
         Ok((self.binding_count - 1) as u16)
     }
 
+    /// All eight places are looked at: their number is fixed, so no turn asks for
+    /// the count. What is found behind the count is no peer.
     pub fn peer_number(&self, address: u32) -> Option<u16> {
-        let found = self.peers().iter().position(|&peer| peer == address);
-        found.map(|number| number as u16)
+        let found = self.peers.iter().position(|&peer| peer == address);
+        found
+            .filter(|&number| number < self.peer_count)
+            .map(|number| number as u16)
     }
 
     /// The lowest-numbered binding that matches, with its tenant.

@@ -179,6 +179,28 @@ fn each_frame_has_its_own_age() {
 }
 
 #[test]
+fn a_tick_ages_every_slot_of_every_peer() {
+    let mut bed = Bed::new();
+    for number in 2..8 {
+        let added = bed.endpoint.add_peer(PEER + number);
+        assert_eq!(added.number, Some(number as u16));
+    }
+    for (number, identifier) in (0..8).flat_map(|number| (0..4).map(move |i| (number, i))) {
+        bed.holds(&segment(PEER + number, identifier, 60, 0, &[0]));
+    }
+    for age in 1..4 {
+        bed.ticks(1);
+        for slot in bed.endpoint.pending().as_flattened() {
+            assert_eq!(slot.map(|pending| pending.age), Some(age));
+        }
+    }
+    bed.ticks(1);
+    for slot in bed.endpoint.pending().as_flattened() {
+        assert_eq!(*slot, None);
+    }
+}
+
+#[test]
 fn a_freed_slots_numbers_are_not_visible() {
     let mut used = Bed::new();
     let frame = good(60);
