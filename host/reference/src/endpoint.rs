@@ -123,21 +123,13 @@ impl Endpoint {
         match Carriage::parse(&ip, self.config.stt_port)? {
             Carriage::Vxlan(header, inner) => {
                 let id = headers::vxlan_network_id(header)?;
-                let place = Place {
-                    in_memory: false,
-                    start: ip.header_length + UDP_HEADER + VXLAN_HEADER,
-                    length: inner.len(),
-                };
-                self.deliver(peer, Kind::Vxlan, id, inner, place)
+                let start = ip.header_length + UDP_HEADER + VXLAN_HEADER;
+                self.deliver(peer, Kind::Vxlan, id, inner, start)
             }
             Carriage::Nvgre(header, inner) => {
                 let id = headers::nvgre_network_id(header)?;
-                let place = Place {
-                    in_memory: false,
-                    start: ip.header_length + GRE_HEADER,
-                    length: inner.len(),
-                };
-                self.deliver(peer, Kind::Nvgre, id, inner, place)
+                let start = ip.header_length + GRE_HEADER;
+                self.deliver(peer, Kind::Nvgre, id, inner, start)
             }
             Carriage::Stt(segment) => self.receive_segment(peer, &segment, memory),
         }
@@ -158,22 +150,19 @@ impl Endpoint {
         };
         let frame = &memory[start..start + length];
         let id = headers::stt_network_id(frame)?;
-        let place = Place {
-            in_memory: true,
-            start: start + STT_HEADER,
-            length: length - STT_HEADER,
-        };
-        self.deliver(peer, Kind::Stt, id, &frame[STT_HEADER..], place)
+        let (inner, start) = (&frame[STT_HEADER..], start + STT_HEADER);
+        self.deliver(peer, Kind::Stt, id, inner, start)
     }
 
-    /// Checks 12 and 13, then answer 0.
+    /// Checks 12 and 13, then answer 0. The inner frame starts at `start`, of the
+    /// memory if it came by STT, else of the packet.
     fn deliver(
         &self,
         peer: u16,
         kind: Kind,
         network_id: u64,
         inner: &[u8],
-        place: Place,
+        start: usize,
     ) -> Result<Answer, Refusal> {
         let (binding, tenant) = self.listing.find(peer, kind, network_id)?;
         headers::check_inner(inner)?;
@@ -181,7 +170,11 @@ impl Endpoint {
             code: DONE,
             tenant: Some(tenant),
             binding: Some(binding),
-            place,
+            place: Place {
+                in_memory: kind == Kind::Stt,
+                start,
+                length: inner.len(),
+            },
         })
     }
 }
