@@ -2,6 +2,8 @@
 pub mod Bytes
 pub mod Checks
 pub mod Sum
+pub mod Ones
+pub mod Le
 pub mod Ipv4
 pub mod Udp
 pub mod Vxlan

@@ -1,6 +1,7 @@
 -- The ones' complement sum (RFC 1071), over lists of bytes. A checksum is right exactly when the sum over everything, its field included, is 0xFFFF.
 use Prim.Native.Nat.{ℕ, zero, suc, _+_, _-_, _*_, _%_}
 use mathlib.Core.List.{List, [], _∷_}
+use lib.ListN.{length, getD, drop}
 use Rattle.wire.specs.Bytes.{be, _then_}
 
 -- the plain sum of the 16-bit big-endian words; a last odd byte is padded with a byte 0
@@ -22,3 +23,22 @@ pseudo source destination protocol size =
 -- What a writer puts into a checksum's field: the complement of the sum over all else.
 unfoldable pub complement : List ℕ → ℕ
 complement s = 0xFFFF - ones (total s)
+
+-- ---- need not be believed: the number that bytes spell, the lowest first, for the sum by wide words
+
+unfoldable pub le : List ℕ → ℕ
+le [] = 0
+le (a ∷ s) = a + 256 * le s
+
+-- that of the n bytes from a place on
+unfoldable pub leAt : List ℕ → ℕ → ℕ → ℕ
+leAt s at zero = 0
+leAt s at (suc n) = getD s at 0 + 256 * leAt s (at + 1) n
+
+-- a number, and the bytes from a place on that are still to be added to it, folded
+unfoldable pub withRest : ℕ → List ℕ → ℕ → ℕ
+withRest n s at = ones (n + le (drop at s))
+
+-- where the last whole block of k bytes ends
+unfoldable pub whole : ℕ → List ℕ → ℕ
+whole k s = length s - length s % k

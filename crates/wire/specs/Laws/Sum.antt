@@ -7,7 +7,7 @@ use native.Mathlib.Nat.{add-mul-mod-self-right, add-comm, zero-add, add-zero}
 use lib.ListN.{length, getD, drop}
 use lib.Seq.{drop-cons, drop-length}
 use Rattle.wire.specs.Bytes.{Bytes, be, beAt}
-use Rattle.wire.specs.Laws.Bytes.{be-one, be-two, caseB}
+use Rattle.wire.specs.Laws.Bytes.{be-one, be-two, be-split, caseB}
 use Rattle.wire.specs.Checks.{pick}
 use borrow.Author.Tests.{ltb-true, ltb-false}
 use lib.Dec.{ltb}
@@ -33,11 +33,6 @@ ones-lt (suc n) = omega arith
 -- two numbers above 0 that leave the same rest by 65,535 fold to the same
 pub ones-same : (m n : ℕ) → 0 < m → 0 < n → m % 65535 ≡ n % 65535 → ones m ≡ ones n
 ones-same m n hm hn e = ones-is m hm ∙ omega arith ∙ sym (ones-is n hn)
-
--- one end-around carry
-pub ones-carry : (n : ℕ) → ones (n % 65536 + n / 65536) ≡ ones n
-ones-carry zero = refl
-ones-carry (suc n) = ones-same (suc n % 65536 + suc n / 65536) (suc n) (omega arith) (omega arith) (omega arith)
 
 -- a part of a sum may be folded first
 pub ones-join : (m n : ℕ) → ones (ones m + n) ≡ ones (m + n)
@@ -135,6 +130,17 @@ pub total-none : (s : List ℕ) (i : ℕ) → i ≡ length s → total (drop i s
 unfolding total
 total-none s i h = rw (h, drop-length)
 
+-- two words at a step: the first stands a word higher
+pub total-four : (s : List ℕ) (i acc : ℕ) → i + 3 < length s → ones (acc + beAt s i 4 + total (drop (i + 4) s)) ≡ ones (acc + total (drop i s))
+total-four s i acc h =
+    let p : i + 2 + 2 ≡ i + 4 = omega arith in
+    let r : ℕ = total (drop (i + 4) s) in
+    let e : total (drop i s) ≡ beAt s i 2 + (beAt s (i + 2) 2 + r) =
+    total-two s i (omega arith) ∙ ap (λ (x : ℕ). beAt s i 2 + x) (total-two s (i + 2) (omega arith) ∙ ap (λ (j : ℕ). beAt s (i + 2) 2 + total (drop j s)) p) in
+    let f : acc + beAt s i 4 + r ≡ 65536 * beAt s i 2 + (acc + beAt s (i + 2) 2 + r) = omega (arith, be-split s i 2 2) in
+    let g : beAt s i 2 + (acc + beAt s (i + 2) 2 + r) ≡ acc + total (drop i s) = omega arith in
+    ap ones f ∙ ones-shift (beAt s i 2) (acc + beAt s (i + 2) 2 + r) ∙ ap ones g
+
 -- ---- a number's part in the sum
 
 pub total-be2 : (x : ℕ) (s : List ℕ) → x < 256 ^ 2 → total (be 2 x ++ s) ≡ x + total s
@@ -200,6 +206,17 @@ pseudo-total source destination protocol size s h1 h2 h3 h4 =
     let td : total ld ≡ destination / 65536 + destination % 65536 + total l1 = total-be4 destination l1 h2 in
     rw small (total-be4 source ld h1 ∙ added (source / 65536 + source % 65536) (destination / 65536) (destination % 65536) protocol size (total s) (total l2)
     (total l1) (total ld) t2 t1 td)
+
+-- its addresses may be added whole
+pub pseudo-ones : (source destination protocol size : ℕ) (s : List ℕ)
+    → source < 256 ^ 4 → destination < 256 ^ 4 → protocol < 256 → size < 256 ^ 2
+    → ones (source + destination + protocol + size + total s) ≡ ones (total (pseudo source destination protocol size ++ s))
+pseudo-ones source destination protocol size s h1 h2 h3 h4 =
+    let m : ℕ = source / 65536 + destination / 65536 in
+    let n : ℕ = source % 65536 + destination % 65536 + protocol + size + total s in
+    let e : source + destination + protocol + size + total s ≡ 65536 * m + n = omega arith in
+    let f : m + n ≡ total (pseudo source destination protocol size ++ s) = omega (arith, pseudo-total source destination protocol size s h1 h2 h3 h4) in
+    ap ones e ∙ ones-shift m n ∙ ap ones f
 
 -- ---- the same word by word (RFC 1071, 2): each sum's carry is added to it again
 

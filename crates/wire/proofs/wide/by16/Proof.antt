@@ -1,0 +1,33 @@
+-- `wire::wide::by16` meets its contract.
+use native.Mathlib.Omega.{arith}
+use Rattle.wire.specs.Sum.{whole}
+use Rattle.wire.specs.Laws.Le.{block-none, block-one, rest-opened}
+use borrow.Author.Needs.{needs}
+use Rattle.wire.proofs.wide.by16.Statement.{statement}
+use Rattle.wire.proofs.wide.by16.Tie as tie
+
+returns : tie.Need-returns
+returns c = block-none 16 _ (c .before .before .args .s .now) (omega arith)
+
+open-requires : tie.Need-open-requires
+open-requires c κs = search needs
+
+sub-two : tie.Need-sub-two
+sub-two c = search needs
+
+two-requires : tie.Need-two-requires
+two-requires c κs = search needs
+
+close-requires : tie.Need-close-requires
+close-requires c κs = search needs
+
+returns-2 : tie.Need-returns-2
+unfolding whole
+returns-2 c =
+    let s = c .before .before .before .before .before .args .s .now in
+    let e = rest-opened _ _ _ _ s _ _ (c .before .before .open .ensures .1) (c .before .two .ensures .1) (c .close .ensures) in
+    block-one 16 _ _ s (omega arith) (omega arith) e
+
+pub by16-spec : {M : Type 1} → statement M
+by16-spec =
+    tie.close (tie.spec returns open-requires sub-two two-requires close-requires returns-2)

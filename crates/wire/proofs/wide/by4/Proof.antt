@@ -1,0 +1,32 @@
+-- `wire::wide::by4` meets its contract.
+use native.Mathlib.Omega.{arith}
+use Rattle.wire.specs.Sum.{whole}
+use Rattle.wire.specs.Laws.Le.{block-none, block-one, rest-around}
+use borrow.Author.Needs.{needs}
+use Rattle.wire.proofs.wide.by4.Statement.{statement}
+use Rattle.wire.proofs.wide.by4.Tie as tie
+
+returns : tie.Need-returns
+returns c = block-none 4 _ (c .before .before .args .s .now) (omega arith)
+
+sub-le32 : tie.Need-sub-le32
+sub-le32 c = search needs
+
+le32-requires : tie.Need-le32-requires
+le32-requires c κs = search needs
+
+cast-around64 : tie.Need-cast-around64
+cast-around64 c = search needs
+
+around64-requires : tie.Need-around64-requires
+around64-requires c κs = search needs
+
+returns-2 : tie.Need-returns-2
+unfolding whole
+returns-2 c =
+    let s = c .before .before .before .before .args .s .now in
+    block-one 4 _ _ s (omega arith) (omega arith) (rest-around 2 _ _ _ s _ (c .around64 .ensures) (c .before .le32 .ensures))
+
+pub by4-spec : {M : Type 1} → statement M
+by4-spec =
+    tie.close (tie.spec returns sub-le32 le32-requires cast-around64 around64-requires returns-2)
