@@ -1,5 +1,5 @@
 -- The ones' complement sum (RFC 1071), over lists of bytes. A checksum is right exactly when the sum over everything, its field included, is 0xFFFF.
-use Prim.Native.Nat.{ℕ, zero, suc, _+_, _-_, _*_, _%_}
+use Prim.Native.Nat.{ℕ, zero, suc, _+_, _-_, _*_, _/_, _%_}
 use mathlib.Core.List.{List, [], _∷_}
 use lib.ListN.{length, getD, drop}
 use Rattle.wire.specs.Bytes.{be, _then_}
@@ -24,8 +24,17 @@ pseudo source destination protocol size =
 unfoldable pub complement : List ℕ → ℕ
 complement s = 0xFFFF - ones (total s)
 
--- ---- need not be believed: the number that bytes spell, the lowest first, for the sum by wide words
+-- ---- need not be believed: for the sum by wide words
 
+-- a number folded once to a word that wraps at w, by an end-around carry
+unfoldable pub endAround : ℕ → ℕ → ℕ
+endAround w n = n % w + n / w
+
+-- a word with its two bytes exchanged
+abbrev pub swapped : ℕ → ℕ
+swapped x = x % 256 * 256 + x / 256
+
+-- the number that bytes spell in little-endian order
 unfoldable pub le : List ℕ → ℕ
 le [] = 0
 le (a ∷ s) = a + 256 * le s
@@ -33,12 +42,12 @@ le (a ∷ s) = a + 256 * le s
 -- that of the n bytes from a place on
 unfoldable pub leAt : List ℕ → ℕ → ℕ → ℕ
 leAt s at zero = 0
-leAt s at (suc n) = getD s at 0 + 256 * leAt s (at + 1) n
+leAt s at (suc n) = getD s at 0 + 256 * leAt s (suc at) n
 
 -- a number, and the bytes from a place on that are still to be added to it, folded
 unfoldable pub withRest : ℕ → List ℕ → ℕ → ℕ
 withRest n s at = ones (n + le (drop at s))
 
--- where the last whole block of k bytes ends
-unfoldable pub whole : ℕ → List ℕ → ℕ
-whole k s = length s - length s % k
+-- where the blocks of k bytes end
+unfoldable pub blocks : ℕ → List ℕ → ℕ
+blocks k s = length s - length s % k

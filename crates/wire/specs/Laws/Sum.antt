@@ -11,7 +11,7 @@ use Rattle.wire.specs.Laws.Bytes.{be-one, be-two, be-split, caseB}
 use Rattle.wire.specs.Checks.{pick}
 use borrow.Author.Tests.{ltb-true, ltb-false}
 use lib.Dec.{ltb}
-use Rattle.wire.specs.Sum.{total, ones, pseudo, complement}
+use Rattle.wire.specs.Sum.{total, ones, pseudo, complement, swapped}
 
 -- ---- folding
 
@@ -49,10 +49,7 @@ pub ones-shift : (m n : ℕ) → ones (65536 * m + n) ≡ ones (m + n)
 ones-shift zero n = refl
 ones-shift (suc m) n = ones-same (65536 * suc m + n) (suc m + n) (omega arith) (omega arith) (omega arith)
 
--- the two bytes of a word exchanged: a sum of exchanged words is exchanged (RFC 1071, 2B)
-abbrev pub swapped : ℕ → ℕ
-swapped x = x % 256 * 256 + x / 256
-
+-- a sum of words whose bytes are exchanged is exchanged (RFC 1071, 2B)
 pub ones-swapped : (n : ℕ) → swapped (ones n) ≡ ones (256 * n)
 unfolding ones
 ones-swapped zero = refl
@@ -133,13 +130,13 @@ total-none s i h = rw (h, drop-length)
 -- two words at a step: the first stands a word higher
 pub total-four : (s : List ℕ) (i acc : ℕ) → i + 3 < length s → ones (acc + beAt s i 4 + total (drop (i + 4) s)) ≡ ones (acc + total (drop i s))
 total-four s i acc h =
-    let p : i + 2 + 2 ≡ i + 4 = omega arith in
+    let w : ℕ = beAt s (i + 2) 2 in
     let r : ℕ = total (drop (i + 4) s) in
-    let e : total (drop i s) ≡ beAt s i 2 + (beAt s (i + 2) 2 + r) =
-    total-two s i (omega arith) ∙ ap (λ (x : ℕ). beAt s i 2 + x) (total-two s (i + 2) (omega arith) ∙ ap (λ (j : ℕ). beAt s (i + 2) 2 + total (drop j s)) p) in
-    let f : acc + beAt s i 4 + r ≡ 65536 * beAt s i 2 + (acc + beAt s (i + 2) 2 + r) = omega (arith, be-split s i 2 2) in
-    let g : beAt s i 2 + (acc + beAt s (i + 2) 2 + r) ≡ acc + total (drop i s) = omega arith in
-    ap ones f ∙ ones-shift (beAt s i 2) (acc + beAt s (i + 2) 2 + r) ∙ ap ones g
+    let p : i + 4 ≡ i + 2 + 2 = omega arith in
+    let t : total (drop (i + 2) s) ≡ w + r = rw p (total-two s (i + 2) (omega arith)) in
+    let e : acc + beAt s i 4 + r ≡ 65536 * beAt s i 2 + (acc + w + r) = omega (arith, be-split s i 2 2) in
+    let f : beAt s i 2 + (acc + w + r) ≡ acc + total (drop i s) = omega (arith, total-two s i (omega arith)) in
+    ap ones e ∙ ones-shift (beAt s i 2) (acc + w + r) ∙ ap ones f
 
 -- ---- a number's part in the sum
 

@@ -1,7 +1,7 @@
 -- `wire::ones::around16` meets its contract.
 use Prim.Native.Nat.{_^_}
 use native.Mathlib.Omega.{arith}
-use Rattle.wire.specs.Laws.Ones.{around-is, around-lt}
+use Rattle.wire.specs.Laws.Ones.{around-is}
 use borrow.Author.Needs.{needs}
 use Rattle.wire.proofs.ones.around16.Statement.{statement}
 use Rattle.wire.proofs.ones.around16.Tie as tie
@@ -14,12 +14,11 @@ cast-result c = search needs
 
 add-result : tie.Need-add-result
 add-result c =
-    let a = c .before .args in
-    let l = around-lt (2 ^ 16) (a .a) (a .b) (omega arith) (omega arith) in
-    omega (arith, around-is (2 ^ 16) (a .a) (a .b) _ (omega arith) (omega arith) (c .wrapping-add-u16 .ensures))
+    let l = around-is (2 ^ 16) (c .before .args .a) (c .before .args .b) _ (omega arith) (omega arith) (c .wrapping-add-u16 .ensures) .0 in
+    omega arith
 
 returns : tie.Need-returns
-returns c = around-is (2 ^ 16) (c .before .args .a) (c .before .args .b) _ (omega arith) (omega arith) (c .wrapping-add-u16 .ensures)
+returns c = around-is (2 ^ 16) (c .before .args .a) (c .before .args .b) _ (omega arith) (omega arith) (c .wrapping-add-u16 .ensures) .1
 
 pub around16-spec : {M : Type 1} → statement M
 around16-spec = tie.close (tie.spec wrapping-add-u16-requires cast-result add-result returns)

@@ -1,8 +1,9 @@
 -- `wire::sum::sum_behind` meets its contract.
-use mathlib.Core.Path.{_≡_, _∙_, ap}
+use mathlib.Core.Path.{_∙_, ap}
 use native.Mathlib.Omega.{arith}
 use lib.ListN.{length}
-use Rattle.wire.specs.Laws.Sum.{pseudo-ones, swapped}
+use Rattle.wire.specs.Sum.{swapped}
+use Rattle.wire.specs.Laws.Sum.{pseudo-ones}
 use Rattle.wire.specs.Laws.Le.{rest-none}
 use borrow.Author.Needs.{needs}
 use Rattle.wire.proofs.sum.sum_behind.Statement.{statement}
@@ -33,8 +34,7 @@ returns : tie.Need-returns
 returns c =
     let a = c .before .before .before .before .args in
     let s = a .s .now in
-    let e : c .swap .result ≡ swapped (c .before .fold .result) = omega (arith, c .swap .ensures) in
-    e ∙ ap swapped (c .before .fold .ensures) ∙ rest-none _ _ s (c .before .before .wide .ensures)
+    c .swap .ensures ∙ ap swapped (c .before .fold .ensures) ∙ rest-none _ _ s (c .before .before .wide .ensures)
     ∙ pseudo-ones (a .source) (a .destination) (a .protocol) (length s) s (search needs) (search needs) (search needs) (omega arith)
 
 pub sum-behind-spec : {M : Type 1} → statement M

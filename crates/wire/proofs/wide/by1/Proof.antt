@@ -1,6 +1,6 @@
 -- `wire::wide::by1` meets its contract.
 use native.Mathlib.Omega.{arith}
-use Rattle.wire.specs.Sum.{whole}
+use Rattle.wire.specs.Sum.{blocks}
 use Rattle.wire.specs.Laws.Le.{block-none, block-one, rest-around-last}
 use borrow.Author.Needs.{needs}
 use Rattle.wire.proofs.wide.by1.Statement.{statement}
@@ -22,7 +22,7 @@ around64-requires : tie.Need-around64-requires
 around64-requires c κs = search needs
 
 returns-2 : tie.Need-returns-2
-unfolding whole
+unfolding blocks
 returns-2 c =
     let s = c .before .before .before .before .args .s .now in
     block-one 1 _ _ s (omega arith) (omega arith) (rest-around-last 1 _ _ _ s _ (omega arith) (c .around64 .ensures) (search (c .before .le8 .ensures)))

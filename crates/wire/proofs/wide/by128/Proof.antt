@@ -4,9 +4,8 @@ use Prim.Native.Nat.{ℕ, _≤_, _+_, _-_, _%_}
 use native.Mathlib.Nat.{add-zero}
 use native.Mathlib.Omega.{arith}
 use lib.ListN.{length}
-use Rattle.wire.specs.Sum.{ones, withRest, whole}
-use Rattle.wire.specs.Laws.Le.{rest-opened, rest-two, rest-same}
-use Rattle.wire.specs.Laws.Ones.{ones-around}
+use Rattle.wire.specs.Sum.{withRest, blocks}
+use Rattle.wire.specs.Laws.Le.{rest-opened, rest-two, rest-carried}
 use borrow.Author.Needs.{needs}
 use Rattle.wire.proofs.wide.by128.Statement.{statement}
 use Rattle.wire.proofs.wide.by128.Tie as tie
@@ -63,12 +62,12 @@ around64-requires : tie.Need-around64-requires Inv-loop μ-loop
 around64-requires c κs = search needs
 
 returns : tie.Need-returns Inv-loop μ-loop
-unfolding whole
+unfolding blocks
 returns c =
     let l = c .before .before in
     let s = l .before .before .args .s .now in
     let e : length s - length s % 128 ≡ l .loop .i = omega arith in
-    ap (λ (i : ℕ). withRest (c .around64 .result) s i) e ∙ rest-same _ _ s _ (ap ones (c .around64 .ensures) ∙ ones-around 4 _) ∙ l .loop .inv .2
+    ap (λ (i : ℕ). withRest (c .around64 .result) s i) e ∙ rest-carried _ _ s _ (c .around64 .ensures) ∙ l .loop .inv .2
 
 pub by128-spec : {M : Type 1} → statement M
 by128-spec =

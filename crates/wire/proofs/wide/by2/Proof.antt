@@ -1,6 +1,6 @@
 -- `wire::wide::by2` meets its contract.
 use native.Mathlib.Omega.{arith}
-use Rattle.wire.specs.Sum.{whole}
+use Rattle.wire.specs.Sum.{blocks}
 use Rattle.wire.specs.Laws.Le.{block-none, block-one, rest-around}
 use borrow.Author.Needs.{needs}
 use Rattle.wire.proofs.wide.by2.Statement.{statement}
@@ -22,7 +22,7 @@ around64-requires : tie.Need-around64-requires
 around64-requires c κs = search needs
 
 returns-2 : tie.Need-returns-2
-unfolding whole
+unfolding blocks
 returns-2 c =
     let s = c .before .before .before .before .args .s .now in
     block-one 2 _ _ s (omega arith) (omega arith) (rest-around 1 _ _ _ s _ (c .around64 .ensures) (c .before .le16 .ensures))

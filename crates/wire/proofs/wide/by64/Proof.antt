@@ -1,6 +1,6 @@
 -- `wire::wide::by64` meets its contract.
 use native.Mathlib.Omega.{arith}
-use Rattle.wire.specs.Sum.{whole}
+use Rattle.wire.specs.Sum.{blocks}
 use Rattle.wire.specs.Laws.Le.{block-none, block-one, rest-opened}
 use borrow.Author.Needs.{needs}
 use Rattle.wire.proofs.wide.by64.Statement.{statement}
@@ -22,7 +22,7 @@ close-requires : tie.Need-close-requires
 close-requires c κs = search needs
 
 returns-2 : tie.Need-returns-2
-unfolding whole
+unfolding blocks
 returns-2 c =
     let s = c .before .before .before .before .before .args .s .now in
     let e = rest-opened _ _ _ _ s _ _ (c .before .before .open .ensures .1) (c .before .eight .ensures .1) (c .close .ensures) in

@@ -1,8 +1,5 @@
 -- `wire::wide::word` meets its contract.
-use mathlib.Core.Path.{_∙_, ap}
-use Prim.Native.Nat.{ℕ, _+_}
-use Rattle.wire.specs.Sum.{ones}
-use Rattle.wire.specs.Laws.Le.{rest-word}
+use Rattle.wire.specs.Laws.Le.{rest-around}
 use borrow.Author.Needs.{needs}
 use Rattle.wire.proofs.wide.word.Statement.{statement}
 use Rattle.wire.proofs.wide.word.Tie as tie
@@ -17,8 +14,7 @@ returns : tie.Need-returns
 returns c =
     let a = c .before .before .before .args in (
       c .add .ensures .0,
-      rest-word 4 _ _ (a .s .now) (a .at) (c .add .ensures .1
-          ∙ ap (λ (x : ℕ). ones (a .acc .low + a .acc .carry + x)) (c .before .le64 .ensures)),
+      rest-around 4 _ _ _ (a .s .now) (a .at) (c .add .ensures .1) (c .before .le64 .ensures),
     )
 
 pub word-spec : {M : Type 1} → statement M
