@@ -1,6 +1,7 @@
 -- What stands here is there for proofs: laws of the definitions beside this folder, and the proofs of the statements.
 pub mod Bytes
 pub mod Checks
+pub mod Field
 pub mod Sum
 pub mod Ones
 pub mod Le

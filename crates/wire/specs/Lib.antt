@@ -1,4 +1,5 @@
 pub mod Bytes
+pub mod Field
 pub mod Sum
 pub mod Checks
 pub mod Refusal

@@ -17,32 +17,32 @@ use crate::number::VXLAN_FLAG;
 use crate::sum::sum;
 
 // The bytes of a number, the lowest first, in the very terms of `be`.
-fn b0(x: u64) -> u8
+pub(crate) fn b0(x: u64) -> u8
     ensures { λ r. ⌜ r ≡ x % 256 ⌝ }
 {
     (x % 256) as u8
 }
 
-fn b1(x: u64) -> u8
+pub(crate) fn b1(x: u64) -> u8
     ensures { λ r. ⌜ r ≡ x / 256 % 256 ⌝ }
 {
     (x / 256 % 256) as u8
 }
 
-fn b2(x: u64) -> u8
+pub(crate) fn b2(x: u64) -> u8
     ensures { λ r. ⌜ r ≡ x / 256 / 256 % 256 ⌝ }
 {
     (x / 256 / 256 % 256) as u8
 }
 
-fn b3(x: u64) -> u8
+pub(crate) fn b3(x: u64) -> u8
     ensures { λ r. ⌜ r ≡ x / 256 / 256 / 256 % 256 ⌝ }
 {
     (x / 256 / 256 / 256 % 256) as u8
 }
 
 // What stands above the lowest four bytes.
-fn above(x: u64) -> u64
+pub(crate) fn above(x: u64) -> u64
     ensures { λ r. ⌜ r ≡ x / 256 / 256 / 256 / 256 ⌝ }
 {
     x / 256 / 256 / 256 / 256

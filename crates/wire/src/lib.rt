@@ -2,6 +2,7 @@
 mod be;
 mod bits;
 pub mod carriage;
+pub mod field;
 pub mod frame;
 mod head;
 pub mod ipv4;
