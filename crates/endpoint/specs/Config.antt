@@ -122,6 +122,7 @@ isSome (some i) = true
 
 -- ---- need not be believed: start
 
+-- Open: a short name
 abbrev pub freeRow : Peer
 freeRow = freePeer
 

@@ -15,6 +15,9 @@ pub mod Demand1Receive
 pub mod Calls
 pub mod Wrap
 pub mod Reached
+pub mod Relist
+pub mod RelistLent
+pub mod Relisted
 pub mod Configured
 pub mod Demand2Writing
 pub mod RoundTripLaws

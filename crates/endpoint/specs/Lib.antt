@@ -10,6 +10,7 @@ pub mod Formats
 pub mod Demand1
 pub mod Demand2
 pub mod Demand3
+pub mod Relist
 pub mod Reached
 pub mod Demand2Writing
 pub mod RoundTrip

@@ -48,6 +48,7 @@ isDelivered (R.Dropped d) = false
 abbrev pub inMemory : Target → ℕ → ℕ → Received
 inMemory t start n = R.Delivered t (record { start = start; length = n; «in_memory» = true })
 
+-- Open: a record of names, with which the statements about runs are read
 abbrev pub answers : Answers
 answers = record {
   A = Received;
@@ -144,6 +145,7 @@ judgeOf c p note frame = sttFrom (c .networks) (c .kinds) (c .owners) (c .tenant
 
 -- ---- the three layers of the theory of runs
 
+-- Open: likewise
 abbrev pub layers : Layers answers Config
 layers = record { header = headerOf; judge = judgeOf; source = sourceOf }
 

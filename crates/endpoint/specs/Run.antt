@@ -28,5 +28,6 @@ abbrev pub left : Endpoint → List ℕ → List Event → Left
 left e m es = calls (record { endpoint = e; mem = m }) es
 
 -- an endpoint as the theory of runs has it
+-- Open: two fields of a record
 abbrev pub endsOf : Endpoint → U.Endpoint Config
 endsOf e = record { config = configOf e; peers = e .peers }

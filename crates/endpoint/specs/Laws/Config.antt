@@ -21,7 +21,7 @@ use Rattle.endpoint.specs.declared.config.Endpoint.{Endpoint}
 use Rattle.endpoint.specs.declared.config.StartResult.{StartResult}
 use Rattle.endpoint.specs.declared.config.AddResult.{AddResult}
 use Rattle.endpoint.specs.Laws.Search.{lowest-none, lowest-is, binds-hit, binds-all}
-use Rattle.endpoint.specs.Config.{addressAt, freeRow, tickOf, configOf, hasAddress, findPeer, binds, findBinding, isSome, fresh, startChecks}
+use Rattle.endpoint.specs.Config.{lent, addressAt, freeRow, tickOf, configOf, hasAddress, findPeer, binds, findBinding, isSome, fresh, startChecks}
 use Rattle.endpoint.specs.Config.{refusedStart, startOf}
 use Rattle.endpoint.specs.Config.{addressChecks, refusedAdd, addPeerChecks, withAddress, addPeerOf, isNetwork, addBindingChecks, withBinding}
 use Rattle.endpoint.specs.Config.{addBindingOf, Adding, addPeer, addBinding, added, addedAll, setUp, mostBindings}
@@ -47,15 +47,47 @@ unfolding addBindingOf
 add-binding-cases P e peer kind network tenant f g =
     cases (λ (x : AddResult). P (x .endpoint)) (refusedAdd e) (addBindingChecks e peer kind network tenant) (bindingAdded e peer kind network tenant) (λ r. f) g
 
--- ---- the configuration's bindings, from the endpoint's fields
+-- ---- the configuration, from the endpoint's fields, and from columns and numbers that are lent
 
-pub config-owners : (e : Endpoint) → configOf e .owners ≡ e .owners
-unfolding configOf
-config-owners e = refl
+pub config-lent : (networks kinds owners tenants addresses : List ℕ) (own port mtu peers bindings : ℕ)
+    → configOf (lent networks kinds owners tenants addresses own port mtu peers bindings)
+    ≡ record {
+      own = own;
+      port = port;
+      mtu = mtu;
+      addresses = addresses;
+      peers = min peers mostPeers;
+      owners = owners;
+      kinds = kinds;
+      networks = networks;
+      tenants = tenants;
+      bindings = min bindings mostBindings;
+    }
+unfolding configOf lent
+config-lent networks kinds owners tenants addresses own port mtu peers bindings = refl
 
-pub config-bindings : (e : Endpoint) → configOf e .bindings ≡ min (e .«binding_count») mostBindings
+pub config-is : (e : Endpoint)
+    → configOf e
+    ≡ record {
+      own = e .own;
+      port = e .port;
+      mtu = e .mtu;
+      addresses = e .addresses;
+      peers = min (e .«peer_count») mostPeers;
+      owners = e .owners;
+      kinds = e .kinds;
+      networks = e .networks;
+      tenants = e .tenants;
+      bindings = min (e .«binding_count») mostBindings;
+    }
 unfolding configOf
-config-bindings e = refl
+config-is e = refl
+
+pub config-of-lent : (e : Endpoint)
+    → configOf (lent (e .networks) (e .kinds) (e .owners) (e .tenants) (e .addresses) (e .own) (e .port) (e .mtu) (e .«peer_count») (e .«binding_count»))
+    ≡ configOf e
+unfolding configOf lent
+config-of-lent e = refl
 
 -- ---- a refused start (document 01, "Listing and numbers"): adding to it is 18, and leaves it as it is
 
@@ -106,7 +138,7 @@ pub record Valid (e : Endpoint) : Type 0 where
   pub network-good : (i : ℕ) → i < e .«binding_count» → isNetwork (getD (e .kinds) i 0) (getD (e .networks) i 0) ≡ true
   pub tenant-good : (i : ℕ) → i < e .«binding_count» → getD (e .tenants) i 0 ≤ 65535
 
-fresh-valid : (own port mtu : ℕ) → Passed (startChecks own port mtu) ⊎ (fresh own port mtu ≡ fresh 0 0 0) → Valid (fresh own port mtu)
+pub fresh-valid : (own port mtu : ℕ) → Passed (startChecks own port mtu) ⊎ (fresh own port mtu ≡ fresh 0 0 0) → Valid (fresh own port mtu)
 unfolding fresh
 fresh-valid own port mtu s = record {
   settings = s;
@@ -157,7 +189,7 @@ module _ (e : Endpoint) (address : ℕ) where
       eqb-false (getD (e .addresses) i 0) address
       (lowest-none (hasAddress (e .addresses) address) (min (e .«peer_count») mostPeers) (none-of (findPeer (configOf e) address) h) i (omega arith))
 
-  peer-added-valid : Valid e → Passed (addPeerChecks e address) → Valid (withAddress e (e .«peer_count») address)
+  pub peer-added-valid : Valid e → Passed (addPeerChecks e address) → Valid (withAddress e (e .«peer_count») address)
   unfolding addPeerChecks withAddress fresh
   peer-added-valid v p =
       let n : ℕ = e .«peer_count» in
@@ -213,7 +245,7 @@ module _ (e : Endpoint) (peer kind network tenant : ℕ) where
       (none-of (findBinding (configOf e) peer kind network) h) i (omega arith) in
       differ (sym (binds-hit (e .networks) (e .kinds) (e .owners) peer kind network i m k o) ∙ miss)
 
-  binding-added-valid : Valid e → Passed (addBindingChecks e peer kind network tenant) → Valid (withBinding e (e .«binding_count») peer kind network tenant)
+  pub binding-added-valid : Valid e → Passed (addBindingChecks e peer kind network tenant) → Valid (withBinding e (e .«binding_count») peer kind network tenant)
   unfolding addBindingChecks withBinding fresh configOf addressAt
   binding-added-valid v p =
       let n : ℕ = e .«binding_count» in

@@ -123,6 +123,12 @@ add-peer-out e address a xs n w =
     (pull (λ (c : AddResult). record { endpoint = withPeers e (c .endpoint .addresses) (c .endpoint .«peer_count»); answer = c .answer }) (refusedAdd s)
     (addPeerChecks s address) (peerAdded s address))
 
+-- and what it makes of the lent ones alone
+pub list-peer-out : (addresses : List ℕ) (own port count address : ℕ) (a : Added) (xs : List ℕ) (n : ℕ) → ListedPeer addresses own port count address a xs n
+    → addPeerOf (peersOf addresses own port count) address ≡ record { endpoint = peersOf xs own port n; answer = a }
+unfolding peersOf lent
+list-peer-out addresses own port count address a xs n w = sym (add-peer-out (peersOf addresses own port count) address a xs n w)
+
 module _ (networks kinds owners tenants : List ℕ) (peers count peer kind network tenant : ℕ) where
   abbrev Rebuilt : Endpoint
   Rebuilt = bindingsOf networks kinds owners tenants peers count
@@ -170,6 +176,14 @@ add-binding-out e peer kind network tenant a ns ks os ts n w =
       endpoint = withBindings e (c .endpoint .networks) (c .endpoint .kinds) (c .endpoint .owners) (c .endpoint .tenants) (c .endpoint .«binding_count»);
       answer = c .answer;
     }) (refusedAdd s) (addBindingChecks s peer kind network tenant) (bindingAdded s peer kind network tenant))
+
+pub list-binding-out : (networks kinds owners tenants : List ℕ) (peers count peer kind network tenant : ℕ) (a : Added) (ns ks os ts : List ℕ) (n : ℕ)
+    → ListedBinding networks kinds owners tenants peers count peer kind network tenant a ns ks os ts n
+    → addBindingOf (bindingsOf networks kinds owners tenants peers count) peer kind network tenant
+    ≡ record { endpoint = bindingsOf ns ks os ts peers n; answer = a }
+unfolding bindingsOf lent
+list-binding-out networks kinds owners tenants peers count peer kind network tenant a ns ks os ts n w =
+    sym (add-binding-out (bindingsOf networks kinds owners tenants peers count) peer kind network tenant a ns ks os ts n w)
 
 -- ---- what a lookup answers, as the test of check 19
 

@@ -16,7 +16,8 @@ use Rattle.endpoint.specs.Config.{Config, configOf, withRows, lent, addr
 use Rattle.endpoint.specs.Laws.Config.{Valid, set-up-valid}
 use Rattle.endpoint.specs.Laws.Wrap.{Alike}
 use Rattle.endpoint.specs.Reached.{Reached}
-use Rattle.endpoint.specs.Laws.Reached.{reached-ready}
+use Rattle.endpoint.specs.Laws.Reached.{port-of, reached-kept, reached-ready}
+use Rattle.endpoint.specs.Laws.Relisted.{Again, set-up-again}
 use Rattle.endpoint.specs.declared.config.Endpoint.{Endpoint}
 use Rattle.endpoint.specs.Demand1.{slotAt, IsAddress, IsId, InRange, NotStarted, Configured}
 
@@ -124,3 +125,18 @@ pub reached-configured : (e : Endpoint) → Reached e → Configured e
 reached-configured e r =
     let w = reached-ready e r in
     of-rows e (w .set-up .peers) (subst Configured (sym (alike-rows e (w .set-up) (w .alike))) (valid-configured (w .set-up) (w .valid)))
+
+-- ---- listed again: the same configuration, every slot free
+
+of-reached : (e s : Endpoint) → Alike e s → s .peers ≡ replicate mostPeers freeRow → (s .port ≢ 0 → Again (configOf s) s) → e .port ≢ 0
+    → Again (configOf e) (withRows e (replicate mostPeers freeRow))
+of-reached e s a rows g d =
+    let y : s ≡ withRows e (replicate mostPeers freeRow) = sym (alike-rows e s a) ∙ ap (withRows e) rows in
+    subst (λ (c : Config). Again c (withRows e (replicate mostPeers freeRow))) (sym (a .config))
+    (subst (Again (configOf s)) y (g (λ q. d (port-of e s (a .config) ∙ q))))
+
+pub reached-again : (e : Endpoint) → Reached e → e .port ≢ 0 → Again (configOf e) (withRows e (replicate mostPeers freeRow))
+reached-again e r =
+    let k = reached-kept e r in
+    of-reached e (setUp (k .own) (k .port) (k .mtu) (k .adds)) (k .alike) (set-up-valid (k .own) (k .port) (k .mtu) (k .adds) .peers)
+    (set-up-again (k .own) (k .port) (k .mtu) (k .adds))

@@ -35,7 +35,7 @@ use Rattle.endpoint.specs.Laws.Answer.{tick-code}
 
 -- ---- start. Each of its checks refuses by 18
 
-blank : (own port mtu : ℕ) → Blank own port mtu (fresh own port mtu)
+pub blank : (own port mtu : ℕ) → Blank own port mtu (fresh own port mtu)
 unfolding fresh
 blank own port mtu = record {
   own-is = refl;
@@ -158,7 +158,7 @@ wrap-among X.ExceedsMtu = refl
 wrap-among X.NoSegment = refl
 wrap-among X.OutputTooShort = refl
 
-wrote-beyond : (output a : List ℕ) (i : ℕ) → length a ≤ i → getD (wrote output a) i 0 ≡ getD output i 0
+pub wrote-beyond : (output a : List ℕ) (i : ℕ) → length a ≤ i → getD (wrote output a) i 0 ≡ getD output i 0
 wrote-beyond output a i l =
     let n : length a + (i - length a) ≡ i = omega arith in
     ap (λ (x : List ℕ). getD x i 0) (wrote-is output a)

@@ -1,14 +1,14 @@
 -- What an endpoint that came from the calls holds is the configuration of a set-up: receives and ticks leave that, and adding looks at nothing else.
 use Prim.Native.Nat.{ℕ, zero, suc, _+_, _^_, _<_, min}
 use mathlib.Core.Path.{_≡_, refl, sym, ap, ap₂, subst, _∙_}
-use mathlib.Core.List.{List, [], _∷_, _++_}
+use mathlib.Core.List.{List, [], _∷_, _++_, map}
 use native.Mathlib.Omega.{arith}
 use lib.ListN.{getD, set, replicate}
 use Rattle.wire.specs.Checks.{Check, first}
 use Rattle.wire.specs.Laws.Checks.{relates}
 use Rattle.endpoint.specs.Config.{Config, configOf, findPeer, isSome, fresh, startOf, refusedAdd, addPeerChecks, withAddress, addPeerOf, addBindingChecks}
 use Rattle.endpoint.specs.Config.{withBinding, addBindingOf, tickOf, Adding, addPeer, addBinding, added, addedAll, setUp, mostBindings, startChecks}
-use Rattle.endpoint.specs.Laws.Config.{start-cases, add-peer-cases, add-binding-cases, Valid, set-up-valid, config-tick}
+use Rattle.endpoint.specs.Laws.Config.{start-cases, add-peer-cases, add-binding-cases, set-up-valid, config-tick}
 use Rattle.endpoint.specs.Laws.ConfigExits.{peerAdded, bindingAdded}
 use Rattle.endpoint.specs.Receive.{stepOf}
 use Rattle.endpoint.specs.Laws.Calls.{config-row}
@@ -22,7 +22,7 @@ use borrow.Author.Tests.{ltb-false}
 
 -- ---- adding looks at the configuration alone
 
-port-of : (e s : Endpoint) → configOf e ≡ configOf s → e .port ≡ s .port
+pub port-of : (e s : Endpoint) → configOf e ≡ configOf s → e .port ≡ s .port
 unfolding configOf
 port-of e s q = ap (λ (c : Config). c .port) q
 
@@ -178,6 +178,14 @@ left-alike e s (got m k) h =
     record { config = config-row e (stepOf e m k .peer) (stepOf e m k .row) ∙ h .config; peers = h .peers; bindings = h .bindings }
 left-alike e s ticked h = record { config = config-tick e ∙ h .config; peers = h .peers; bindings = h .bindings }
 
+-- the set-up whose configuration it holds
+pub record Kept (e : Endpoint) : Type 0 where
+  pub own : ℕ
+  pub port : ℕ
+  pub mtu : ℕ
+  pub adds : List Adding
+  pub alike : Alike e (setUp own port mtu adds)
+
 module _ (own port mtu : ℕ) where
   -- a set-up that came from these settings
   record From (s : Endpoint) : Type 0 where
@@ -196,26 +204,47 @@ module _ (own port mtu : ℕ) where
   beside-from s (got m k) f = f
   beside-from s ticked f = f
 
-  left-ready : (e s : Endpoint) (cs : List Call) → From s → Alike e s → AllTyped cs → Fit e → Ready (leftBy e cs)
+  left-kept : (e s : Endpoint) (cs : List Call) → From s → Alike e s → Kept (leftBy e cs)
   unfolding leftBy
-  left-ready e s [] f a h fit = record {
-    set-up = s;
-    valid = subst Valid (f .is) (set-up-valid own port mtu (f .adds));
-    alike = a;
-    port-fits = fit .port;
-    networks-fit = fit .networks;
-  }
-  left-ready e s (c ∷ cs) f a h fit =
-      left-ready (left e c) (beside s c) cs (beside-from s c f) (left-alike e s c a) (h .1) (left-fit e c (h .0) fit)
+  left-kept e s [] f a = record { own = own; port = port; mtu = mtu; adds = f .adds; alike = subst (Alike e) (sym (f .is)) a }
+  left-kept e s (c ∷ cs) f a = left-kept (left e c) (beside s c) cs (beside-from s c f) (left-alike e s c a)
 
   started : From (startOf own port mtu .endpoint)
   unfolding setUp addedAll
   started = record { adds = []; is = refl }
 
+pub reached-kept : (e : Endpoint) → Reached e → Kept e
+reached-kept e r =
+    let s : Endpoint = startOf (r .own) (r .port) (r .mtu) .endpoint in
+    subst Kept (r .is)
+    (left-kept (r .own) (r .port) (r .mtu) s s (r .calls) (started (r .own) (r .port) (r .mtu)) (record { config = refl; peers = refl; bindings = refl }))
+
+left-fits : (e : Endpoint) (cs : List Call) → AllTyped cs → Fit e → Fit (leftBy e cs)
+unfolding leftBy
+left-fits e [] h fit = fit
+left-fits e (c ∷ cs) h fit = left-fits (left e c) cs (h .1) (left-fit e c (h .0) fit)
+
 pub reached-ready : (e : Endpoint) → Reached e → Ready e
 reached-ready e r =
+    let kept : Kept e = reached-kept e r in
     let s : Endpoint = startOf (r .own) (r .port) (r .mtu) .endpoint in
-    subst Ready (r .is)
-    (left-ready (r .own) (r .port) (r .mtu) s s (r .calls) (started (r .own) (r .port) (r .mtu)) (record { config = refl; peers = refl; bindings = refl })
-    (r .typed)
-    (start-fit (r .own) (r .port) (r .mtu)))
+    let fit : Fit e = subst Fit (r .is) (left-fits s (r .calls) (r .typed) (start-fit (r .own) (r .port) (r .mtu))) in
+    record {
+      set-up = setUp (kept .own) (kept .port) (kept .mtu) (kept .adds);
+      valid = set-up-valid (kept .own) (kept .port) (kept .mtu) (kept .adds);
+      alike = kept .alike;
+      port-fits = fit .port;
+      networks-fit = fit .networks;
+    }
+
+-- ---- a set-up came from the calls
+
+adds-left : (e : Endpoint) (adds : List Adding) → leftBy e (map add adds) ≡ addedAll e adds
+unfolding leftBy addedAll
+adds-left e [] = refl
+adds-left e (a ∷ adds) = adds-left (added e a) adds
+
+pub set-up-reached : (own port mtu : ℕ) (adds : List Adding) → AllTyped (map add adds) → Reached (setUp own port mtu adds)
+unfolding setUp
+set-up-reached own port mtu adds t =
+    record { own = own; port = port; mtu = mtu; calls = map add adds; typed = t; is = adds-left (startOf own port mtu .endpoint) adds }

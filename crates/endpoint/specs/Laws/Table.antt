@@ -137,6 +137,30 @@ add-binding-number e peer kind network tenant =
     (record { endpoint = withBinding e (e .«binding_count») peer kind network tenant; answer = A.Number (e .«binding_count») })
     ∙ simp choices (row3 18 (leb (min (e .«peer_count») mostPeers) peer) (not (isNetwork kind network)) (ltb 65535 tenant) _))
 
+-- where no row applies: 0
+
+pub start-done : (own port mtu : ℕ) → P.badAddress own ≡ false → port ≢ 0 → port ≤ 65535 → 576 ≤ mtu → mtu ≤ 1600
+    → startCode (startOf own port mtu .answer) ≡ 0
+unfolding P.startRows
+start-done own port mtu a p q m n =
+    start-number own port mtu
+    ∙ simp choices (rw (a, ne-eqb port 0 p, le-ltb 65535 port q, le-ltb mtu 576 m, le-ltb 1600 mtu n) refl)
+
+pub peer-done : (e : Endpoint) (address : ℕ) → e .port ≢ 0 → P.badAddress address ≡ false → address ≢ e .own
+    → someBelow (P.peers e) (P.isPeer e address) ≡ false → e .«peer_count» < 8 → addedCode (addPeerOf e address .answer) ≡ 0
+unfolding P.addPeerRows
+peer-done e address p a o once room =
+    add-peer-number e address
+    ∙ simp choices (rw (ne-eqb (e .port) 0 p, a, ne-eqb address (e .own) o, once, lt-leb 8 (e .«peer_count») room) refl)
+
+pub binding-done : (e : Endpoint) (peer kind network tenant : ℕ) → peer < P.peers e → P.badId kind network ≡ false → tenant ≤ 65535
+    → someBelow (P.bindings e) (P.isBinding e peer kind network) ≡ false → e .«binding_count» < 64
+    → addedCode (addBindingOf e peer kind network tenant .answer) ≡ 0
+unfolding P.addBindingRows
+binding-done e peer kind network tenant p i t once room =
+    add-binding-number e peer kind network tenant
+    ∙ simp choices (rw (lt-leb (P.peers e) peer p, i, le-ltb 65535 tenant t, once, lt-leb 64 (e .«binding_count») room) refl)
+
 -- ---- the inner frame: 12, 13
 
 frame-row : (n : ℕ) (frame : List ℕ) → T.frameNumber n (frameOf frame) ≡ pick (T.badFrame frame) 13 n

@@ -2,7 +2,7 @@
 use mathlib.Core.Path.{_≡_, refl, sym, ap, _∙_}
 use mathlib.Core.Logic.{_⊎_, inl, inr}
 use mathlib.Core.Bool.{Bool, true, false, _&&_, _||_}
-use mathlib.Core.List.{List, [], _∷_, map}
+use mathlib.Core.List.{List, [], _∷_, _++_, map}
 use mathlib.Core.Option.{none, some}
 use Prim.Native.Nat.{ℕ, zero, suc, _<_}
 use native.Mathlib.Omega.{arith}
@@ -41,6 +41,14 @@ pub allBelow-ext : (n : ℕ) (f g : ℕ → Bool) → ((i : ℕ) → i < n → f
 unfolding allBelow
 allBelow-ext zero f g h = refl
 allBelow-ext (suc n) f g h = cc (h n (omega arith), allBelow-ext n f g (λ i l. h i (omega arith)))
+
+pub table-none : {A : Type 0} (f : ℕ → A) → table 0 f ≡ []
+unfolding table
+table-none f = refl
+
+pub table-more : {A : Type 0} (n : ℕ) (f : ℕ → A) → table (suc n) f ≡ table n f ++ (f n ∷ [])
+unfolding table
+table-more n f = refl
 
 pub table-ext : {A : Type 0} (n : ℕ) (f g : ℕ → A) → ((i : ℕ) → i < n → f i ≡ g i) → table n f ≡ table n g
 unfolding table
