@@ -1,4 +1,5 @@
--- The endpoint's answers as they cross to C: document 01's numbers and values (`valuesOf`, `configCode` .. of the endpoint), in flat structs.
+-- The endpoint's and the image's answers as they cross to C: their numbers and values (`valuesOf`, `configCode` .. of the endpoint, `saveValuesOf` and
+-- `loadCode` of the image), in flat structs.
 use Prim.Native.Nat.{ℕ}
 use mathlib.Core.Bool.{false}
 use mathlib.Core.Option.{Option, none, some}
@@ -6,9 +7,12 @@ use Rattle.endpoint.specs.Answer.{Values, WrapValues, addedCode, startCode}
 use Rattle.endpoint.specs.declared.answer.Added.{Added}
 use Rattle.endpoint.specs.declared.answer.Added.the-variants as A
 use Rattle.endpoint.specs.declared.config as E
+use Rattle.image.specs.Answer.{SaveValues, loadCode}
+use Rattle.image.specs.declared.answer.LoadResult.{LoadResult}
 use Rattle.niulassenc.specs.declared.answer.Receipt.{Receipt}
 use Rattle.niulassenc.specs.declared.answer.Addition.{Addition}
 use Rattle.niulassenc.specs.declared.answer.Writing.{Writing}
+use Rattle.niulassenc.specs.declared.answer.Saving.{Saving}
 use Rattle.niulassenc.specs.declared.config.Started.{Started}
 
 -- a number that may be missing. 65,535 is a tenant's number too: the code alone says whether there is one
@@ -44,3 +48,11 @@ startedOf s = record { endpoint = s .endpoint; code = startCode (s .answer) }
 -- a wrap's values, flat
 abbrev pub writingOf : WrapValues → Writing
 writingOf v = record { length = v .length-is; segments = v .segments; code = v .number }
+
+-- a save's values, flat
+abbrev pub savingOf : SaveValues → Saving
+savingOf v = record { length = v .length-is; code = v .number }
+
+-- a load's result: what a start gives
+abbrev pub startedOfLoad : LoadResult → Started
+startedOfLoad l = record { endpoint = l .endpoint; code = loadCode (l .answer) }

@@ -1,5 +1,5 @@
--- The answers as they cross to C, computed: each case of the endpoint's answers beside its flat struct, for all numbers that it carries; and the part that
--- a place names.
+-- The answers as they cross to C, computed: each case of the endpoint's and the image's answers beside its flat struct, for all numbers that it carries; and
+-- the part that a place names.
 use Prim.Native.Nat.{ℕ, _+_, _<_, _≤_}
 use mathlib.Core.Path.{_≡_}
 use mathlib.Core.Bool.{Bool, false, cond}
@@ -20,11 +20,17 @@ use Rattle.endpoint.specs.declared.answer.WrapRefusal.{WrapRefusal}
 use Rattle.endpoint.specs.declared.answer.WrapRefusal.the-variants as X
 use Rattle.endpoint.specs.declared.answer.Wrapped.the-variants as Y
 use Rattle.endpoint.specs.declared.config.Endpoint.{Endpoint}
-use Rattle.niulassenc.specs.Answer.{flatOf, additionOf, startedOf, writingOf}
+use Rattle.image.specs.Answer.{saveValuesOf}
+use Rattle.image.specs.declared.answer.SaveRefusal.{SaveRefusal}
+use Rattle.image.specs.declared.answer.SaveRefusal.the-variants as N
+use Rattle.image.specs.declared.answer.Saved.the-variants as W
+use Rattle.image.specs.declared.answer.Loaded.the-variants as L
+use Rattle.niulassenc.specs.Answer.{flatOf, additionOf, startedOf, writingOf, savingOf, startedOfLoad}
 use Rattle.niulassenc.specs.Cut.{cutAt}
 use Rattle.niulassenc.specs.declared.answer.Receipt.{Receipt}
 use Rattle.niulassenc.specs.declared.answer.Addition.{Addition}
 use Rattle.niulassenc.specs.declared.answer.Writing.{Writing}
+use Rattle.niulassenc.specs.declared.answer.Saving.{Saving}
 
 -- a refusal: its number, no tenant and no binding, the empty place in the packet
 abbrev refusal : ℕ → Receipt
@@ -44,6 +50,9 @@ notAdded r = additionOf (A.Refused r)
 
 abbrev notWritten : WrapRefusal → Writing
 notWritten r = writingOf (wrapValuesOf (Y.Refused r))
+
+abbrev notSaved : SaveRefusal → Saving
+notSaved r = savingOf (saveValuesOf (W.Refused r))
 
 -- THE STATEMENT, proved in Laws/WorkedAnswers (`worked-answers`)
 pub record WorkedAnswers : Type 0 where
@@ -78,6 +87,12 @@ pub record WorkedAnswers : Type 0 where
       ∷ record { code = 23; length = 0; segments = 0 }
       ∷ record { code = 21; length = 0; segments = 0 }
       ∷ []
+  -- saving: 0 with the image's length; 18 and 21
+  pub saved : (length : ℕ) → savingOf (saveValuesOf (W.Written length)) ≡ record { code = 0; length = length }
+  pub not-saved : map notSaved (N.NotStarted ∷ N.OutputTooShort ∷ []) ≡ record { code = 18; length = 0 } ∷ record { code = 21; length = 0 } ∷ []
+  -- loading: 0 and 24, each with its endpoint
+  pub loaded : (e : Endpoint) → startedOfLoad (record { endpoint = e; answer = L.Done }) ≡ record { endpoint = e; code = 0 }
+  pub not-loaded : (e : Endpoint) → startedOfLoad (record { endpoint = e; answer = L.BadImage }) ≡ record { endpoint = e; code = 24 }
   -- the part to cut: a place that fits its slice, as it is; of one that does not, the empty part at the packet's start
   pub cut-fits : (packetLength memoryLength start length : ℕ) (inMemory : Bool) → start + length ≤ cond inMemory memoryLength packetLength
       → cutAt packetLength memoryLength start length inMemory ≡ record { start = start; length = length; «in_memory» = inMemory }

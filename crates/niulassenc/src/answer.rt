@@ -1,12 +1,15 @@
-// The answers as C has them: flat structs of numbers. specs/Answer.antt gives each from the endpoint's own answer.
+// The answers as C has them: flat structs of numbers. specs/Answer.antt gives each from the endpoint's or the image's own answer.
 ghost use mathlib.Core.Path.{_≡_};
 ghost use Prim.Native.Nat.{_≤_};
 ghost use Rattle.endpoint.specs.Answer.{valuesOf, wrapValuesOf};
-ghost use Rattle.niulassenc.specs.Answer.{flatOf, emptyOf, additionOf, writingOf};
+ghost use Rattle.image.specs.Answer.{saveValuesOf};
+ghost use Rattle.niulassenc.specs.Answer.{flatOf, emptyOf, additionOf, writingOf, savingOf};
 use endpoint::answer::Added;
 use endpoint::answer::Received;
 use endpoint::answer::Wrapped;
 use endpoint::code;
+use image::answer::Saved;
+use image::code::save_code;
 
 // No tenant, no binding, no entry.
 pub const NONE: u16 = 0xFFFF;
@@ -34,6 +37,13 @@ pub struct Addition {
 pub struct Writing {
     pub length: usize,
     pub segments: u32,
+    pub code: u8,
+}
+
+// A save's answer: the length of the image; 0 where `code` is not 0.
+#[repr(C)]
+pub struct Saving {
+    pub length: usize,
     pub code: u8,
 }
 
@@ -97,6 +107,19 @@ pub(crate) fn flat_wrapped(answer: Wrapped) -> Writing
             length: 0,
             segments: 0,
             code: code::wrap_code(r),
+        },
+    }
+}
+
+// The number and the length of a save's answer.
+pub(crate) fn flat_saved(answer: Saved) -> Saving
+    ensures { λ r. ⌜ r ≡ savingOf (saveValuesOf answer) ⌝ }
+{
+    match answer {
+        Saved::Written(n) => Saving { length: n, code: 0 },
+        Saved::Refused(r) => Saving {
+            length: 0,
+            code: save_code(r),
         },
     }
 }

@@ -10,7 +10,7 @@ use endpoint::config::Endpoint;
 use endpoint::number::BINDINGS;
 use reassembly::number::PEERS;
 
-// What a start gives. A refused one gives an endpoint with every number 0.
+// What a start or a load gives. A refused one gives an endpoint with every number 0.
 #[repr(C)]
 pub struct Started {
     pub endpoint: Endpoint,

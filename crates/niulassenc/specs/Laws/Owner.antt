@@ -14,7 +14,7 @@ use Rattle.endpoint.specs.Demand1.{SameConfiguration, FromPacket, FromMemory}
 use Rattle.endpoint.specs.Formats.{Bound}
 use Rattle.endpoint.specs.Receive.{stepOf, receiptOf}
 use Rattle.endpoint.specs.Laws.Demands.{demand-one}
-use Rattle.endpoint.specs.Laws.Config.{config-owners, config-bindings}
+use Rattle.endpoint.specs.Laws.Config.{config-is}
 use Rattle.endpoint.specs.declared.answer.Target.{Target}
 use Rattle.endpoint.specs.declared.config.Endpoint.{Endpoint}
 use Rattle.niulassenc.specs.Answer.{orNone}
@@ -33,7 +33,7 @@ module _ (c : Config) (i : ℕ) where
 
 pub owner-out : (e : Endpoint) (i r : ℕ) → r ≡ orNone (ownerIn (e .owners) (e .«binding_count») i) → r ≡ orNone (ownerOf (configOf e) i)
 unfolding ownerOf ownerIn
-owner-out e i r is = is ∙ rw (config-owners e, config-bindings e)
+owner-out e i r is = is ∙ rw (config-is e)
 
 module _ (owners : List ℕ) (count i : ℕ) where
   pub no-such : mostBindings ≤ i → 65535 ≡ orNone (ownerIn owners count i)
@@ -54,7 +54,7 @@ module _ (owners : List ℕ) (count i : ℕ) where
 same-owner : (e e′ : Endpoint) (i : ℕ) → SameConfiguration e e′ → ownerOf (configOf e′) i ≡ ownerOf (configOf e) i
 unfolding ownerOf
 same-owner e e′ i w =
-    rw (config-owners e, config-owners e′, config-bindings e, config-bindings e′, w .bindings .owners, w .bindings .count)
+    rw (config-is e, config-is e′, w .bindings .owners, w .bindings .count)
 
 bound-peer : (c : Config) (peer kind network : ℕ) (t : Target) → Bound c peer kind network t → orNone (ownerOf c (t .binding)) ≡ peer
 bound-peer c peer kind network t b = owner-listed c (t .binding) (b .below) ∙ b .is .of-peer

@@ -7,6 +7,7 @@ use Rattle.wire.specs.Refusal.{codeOf}
 use Rattle.reassembly.specs.Take.{rejectionCode}
 use Rattle.endpoint.specs.Answer.{addedCode, startCode, wrapValuesOf}
 use Rattle.endpoint.specs.View.{cutWithin, cutOf}
+use Rattle.image.specs.Answer.{saveRefusalCode, saveValuesOf, loadCode}
 use Rattle.niulassenc.specs.Cut.{cutAt}
 use Rattle.niulassenc.specs.WorkedAnswers.{WorkedAnswers}
 
@@ -23,7 +24,7 @@ past p m start length true h = rw (lt-leb (start + length) m h)
 past p m start length false h = rw (lt-leb (start + length) p h)
 
 pub worked-answers : WorkedAnswers
-unfolding codeOf rejectionCode startCode addedCode wrapValuesOf
+unfolding codeOf rejectionCode startCode addedCode wrapValuesOf saveRefusalCode saveValuesOf loadCode
 worked-answers = record {
   delivered = λ tenant binding start length inMemory. refl;
   pending = refl;
@@ -39,6 +40,10 @@ worked-answers = record {
   not-added = refl;
   written = λ length segments. refl;
   not-written = refl;
+  saved = λ length. refl;
+  not-saved = refl;
+  loaded = λ e. refl;
+  not-loaded = λ e. refl;
   cut-fits = fits;
   cut-past = past;
 }
