@@ -1,6 +1,6 @@
-//! The numbered answers of document 01 and what they carry.
+//! The numbered answers of documents 01 and 02 and what they carry.
 
-/// The number of an answer, 0 to 23.
+/// The number of an answer, 0 to 24.
 pub type Code = u8;
 
 /// Delivered, written or done.
@@ -9,7 +9,7 @@ pub const DONE: Code = 0;
 /// Segment received, its frame not yet complete.
 pub const PENDING: Code = 1;
 
-/// Why a call was refused; the discriminant is the number in the paper's table.
+/// Why a call was refused; the discriminant is the papers' number.
 #[derive(Clone, Copy, Debug, PartialEq, Eq)]
 #[repr(u8)]
 pub enum Refusal {
@@ -51,16 +51,18 @@ pub enum Refusal {
     AlreadyListed = 19,
     /// Peers or bindings full.
     Full = 20,
-    /// Output shorter than the packet.
+    /// Output shorter than the packet, or than the settings image.
     OutputTooShort = 21,
     /// VXLAN or NVGRE packet would exceed the MTU.
     ExceedsMtu = 22,
     /// No such binding, or no such segment number.
     NoSuch = 23,
+    /// No settings image: not what a save gives, or not that alone.
+    BadImage = 24,
 }
 
 impl Refusal {
-    /// The paper's number of this refusal.
+    /// The papers' number of this refusal.
     pub const fn code(self) -> Code {
         self as Code
     }

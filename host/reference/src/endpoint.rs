@@ -3,6 +3,7 @@
 use crate::answer::{Added, Answer, Code, Place, Refusal, Wrapped, DONE, PENDING};
 use crate::headers::{self, Carriage, Ipv4, Segment};
 use crate::headers::{GRE_HEADER, STT_HEADER, UDP_HEADER, VXLAN_HEADER};
+use crate::image;
 use crate::listing::{Binding, Config, Kind, Listing, MAX_PEERS};
 use crate::reassembly::{Reassembly, Row, Taken, MEMORY_NEEDED};
 use crate::wrap;
@@ -30,6 +31,24 @@ impl Endpoint {
             reassembly: Reassembly::empty(),
         };
         (endpoint, code)
+    }
+
+    /// An endpoint with the settings and the listing of a settings image, and no
+    /// frame pending; or 24.
+    pub fn load(image: &[u8]) -> Result<Endpoint, Refusal> {
+        let (config, listing) = image::load(image)?;
+        Ok(Endpoint {
+            config,
+            listing,
+            reassembly: Reassembly::empty(),
+        })
+    }
+
+    /// Writes settings and listing to the start of `output`, as a settings image,
+    /// and gives its length: 18 on a refused start, then 21. Pending frames are no
+    /// part of it.
+    pub fn save(&self, output: &mut [u8]) -> Result<usize, Refusal> {
+        image::save(&self.config, &self.listing, output)
     }
 
     /// The settings this endpoint runs with; all 0 after a refused start.

@@ -7,6 +7,9 @@
 //! frames ([`Endpoint::wrap`]). A delivered frame is named by a [`Place`];
 //! [`view`] hands its bytes back. Nothing is ever allocated.
 //!
+//! [`Endpoint::save`] writes settings and listing to bytes, the settings image, and
+//! [`Endpoint::load`] makes an endpoint of such bytes.
+//!
 //! A [`Detector`] tells the addresses that several peers show to one tenant. What
 //! it asks of a delivered frame is given by [`Endpoint::owner`] and [`source`].
 //!
@@ -22,6 +25,7 @@ mod checksum;
 mod detector;
 mod endpoint;
 mod headers;
+mod image;
 mod listing;
 mod reassembly;
 mod received_map;
@@ -30,5 +34,6 @@ mod wrap;
 pub use answer::{cut, view, Added, Answer, Code, Place, Refusal, Wrapped, DONE, PENDING};
 pub use detector::{source, Detector, Entry, Observed, MAX_ENTRIES};
 pub use endpoint::Endpoint;
+pub use image::MAX_IMAGE;
 pub use listing::{Binding, Config, Kind, MAX_BINDINGS, MAX_PEERS};
 pub use reassembly::{Pending, Row, MEMORY_NEEDED, SLOTS_PER_PEER, SLOT_SIZE};
