@@ -1,9 +1,10 @@
 //! Calls the reference and says in one line what it answered.
 
-use niulassenc_reference::MAX_ENTRIES;
 use niulassenc_reference::{source, view, Answer, Detector, Endpoint, Entry, Observed, Place};
+use niulassenc_reference::{Pending, Refusal, DONE};
+use niulassenc_reference::{MAX_BINDINGS, MAX_ENTRIES, MAX_PEERS};
 
-/// Longest output that a wrap record may ask for.
+/// Longest output that a wrap or a save may ask for.
 pub const MAX_OUTPUT: usize = 2000;
 
 /// Longest memory that a record may lend.
@@ -75,6 +76,40 @@ fn state(detector: &Detector) -> Vec<u8> {
     }
     bytes.extend((kept.len() as u16).to_be_bytes());
     bytes
+}
+
+/// Settings, listing and slots of an endpoint, what is not listed and what is free
+/// as zeros: what the hash of a load's endpoint is over.
+fn numbers(endpoint: &Endpoint) -> Vec<u8> {
+    let config = endpoint.config();
+    let (peers, bindings) = (endpoint.peers(), endpoint.bindings());
+    let mut bytes = Vec::new();
+    bytes.extend(config.own.to_be_bytes());
+    bytes.extend(config.stt_port.to_be_bytes());
+    bytes.extend(config.mtu.to_be_bytes());
+    bytes.extend((peers.len() as u16).to_be_bytes());
+    bytes.extend((bindings.len() as u16).to_be_bytes());
+    for address in peers {
+        bytes.extend(address.to_be_bytes());
+    }
+    bytes.resize(bytes.len() + 4 * (MAX_PEERS - peers.len()), 0);
+    for binding in bindings {
+        bytes.extend([binding.peer as u8, binding.kind as u8]);
+        bytes.extend(binding.network_id.to_be_bytes());
+        bytes.extend(binding.tenant.to_be_bytes());
+    }
+    bytes.resize(bytes.len() + 12 * (MAX_BINDINGS - bindings.len()), 0);
+    for slot in endpoint.pending().as_flattened() {
+        bytes.extend(slot.as_ref().map_or([0; 8], slot_numbers));
+    }
+    bytes
+}
+
+/// Identifier (4), frame length (2), age (1), pending (1).
+fn slot_numbers(pending: &Pending) -> [u8; 8] {
+    let [a, b, c, d] = pending.identifier.to_be_bytes();
+    let [e, f] = pending.length.to_be_bytes();
+    [a, b, c, d, e, f, pending.age, 1]
 }
 
 impl Default for Driver {
@@ -220,7 +255,36 @@ impl Driver {
         (observed, line)
     }
 
-    /// The packet that the last wrap wrote; empty after a refusal.
+    pub fn save(&mut self, output_length: usize) -> Line {
+        self.output = vec![0xAA; output_length];
+        let saved = self.endpoint.save(&mut self.output);
+        let code = saved.map_or_else(Refusal::code, |_| DONE);
+        self.written = saved.unwrap_or(0);
+        self.line(Some(code), || {
+            format!("save {code} {} {}", self.written, hash(&self.output))
+        })
+    }
+
+    /// A load that is not refused puts its endpoint in place of the driver's, and
+    /// an empty detector, as a start does.
+    pub fn load(&mut self, image: &[u8]) -> Line {
+        let loaded = Endpoint::load(image);
+        let code = loaded
+            .as_ref()
+            .map_or_else(|refusal| refusal.code(), |_| DONE);
+        let line = self.line(Some(code), || {
+            let refused = Endpoint::start(0, 0, 0).0;
+            let given = loaded.as_ref().unwrap_or(&refused);
+            format!("load {code} {}", hash(&numbers(given)))
+        });
+        if let Ok(endpoint) = loaded {
+            self.endpoint = endpoint;
+            self.detector = Detector::start();
+        }
+        line
+    }
+
+    /// What the last wrap or save wrote; empty after a refusal.
     pub fn written(&self) -> &[u8] {
         &self.output[..self.written]
     }

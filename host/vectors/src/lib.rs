@@ -5,6 +5,7 @@
 
 pub mod directed;
 pub mod driver;
+pub mod image;
 pub mod observations;
 pub mod packet;
 pub mod prng;
@@ -27,8 +28,9 @@ pub fn generate(seed: u64, steps: usize) -> Recorder {
     fill(Recorder::new(), seed, steps)
 }
 
-/// The same calls without the wraps, for an implementation that cannot write.
-/// A wrap changes neither endpoint, memory nor detector, so every other answer stays.
+/// The same calls without the wraps and the saves, for an implementation that cannot
+/// write. They change neither endpoint, memory nor detector, so every other answer
+/// stays.
 pub fn generate_receive_only(seed: u64, steps: usize) -> Recorder {
     fill(Recorder::receive_only(), seed, steps)
 }

@@ -11,7 +11,7 @@ use vectors::{generate, generate_receive_only, DEFAULT_SEED, DEFAULT_STEPS};
 
 type Generate = fn(u64, usize) -> Recorder;
 
-/// The last argument that leaves the wraps out.
+/// The last argument that leaves the wraps and the saves out.
 const RECEIVE_ONLY: &str = "receive-only";
 
 fn main() -> ExitCode {

@@ -1,7 +1,9 @@
 //! The random part: random set-ups, packets of each kind, STT frames cut and
-//! mixed, ticks, views, wraps, and damaged packets. Most of the damaged ones
-//! get their checksums repaired, so that the later checks are reached.
+//! mixed, ticks, views, wraps, saves, loads, and damaged packets and images. Most
+//! of the damaged packets get their checksums repaired, so that the later checks
+//! are reached.
 
+use crate::image::{Image, FIXED};
 use crate::packet::{self, get16, put16, Label, Path, T};
 use crate::prng::Prng;
 use crate::recorder::Recorder;
@@ -38,8 +40,11 @@ struct Scene {
     waiting: Vec<Vec<u8>>,
     sent: Vec<Vec<u8>>,
     next_identifier: u32,
-    /// Whether a packet came since the start, so that there is one to view.
+    /// Whether a packet came since the start or the last load, so that there is one
+    /// to view.
     received: bool,
+    /// The settings image of the set-up, before anything was added to it.
+    first_image: Vec<u8>,
 }
 
 /// Makes `count` steps, the set-ups not counted.
@@ -64,6 +69,7 @@ fn set_up(recorder: &mut Recorder, prng: &mut Prng) -> Scene {
         sent: Vec::new(),
         next_identifier: prng.draw() as u32,
         received: false,
+        first_image: Vec::new(),
     };
     let mtu = prng.pick(&[576, 600, 1000, 1500, 1600]);
     recorder.try_start(scene.own, scene.port, mtu);
@@ -74,7 +80,13 @@ fn set_up(recorder: &mut Recorder, prng: &mut Prng) -> Scene {
         scene.add_binding(recorder, prng);
     }
     lend(recorder, prng);
+    scene.first_image = image(recorder);
     scene
+}
+
+/// The settings image of the present endpoint.
+fn image(recorder: &Recorder) -> Vec<u8> {
+    Image::of(&recorder.driver.endpoint).bytes()
 }
 
 fn lend(recorder: &mut Recorder, prng: &mut Prng) {
@@ -111,6 +123,8 @@ impl Scene {
             18 => self.add_binding(recorder, prng),
             19 => self.memory_too_short(recorder, prng),
             n if n < 20 + SWAP_MEMORY_PERCENT => lend(recorder, prng),
+            98 => save(recorder, prng),
+            99 => self.load(recorder, prng),
             _ => self.receive(recorder, prng),
         }
     }
@@ -173,6 +187,39 @@ impl Scene {
             _ => prng.between(frame.len() + 58, 1600),
         };
         recorder.try_wrap(binding, segment, prng.draw() as u32, output, &frame);
+    }
+
+    /// An image that is good, mostly, or has one fault. Where it is taken, the
+    /// frames that wait are sent to the endpoint that it gives.
+    fn load(&mut self, recorder: &mut Recorder, prng: &mut Prng) {
+        let present = image(recorder);
+        let bytes = match prng.below(10) {
+            0..=2 => saved(recorder),
+            3 => self.first_image.clone(),
+            4..=6 => changed(prng, present),
+            7 => present[..prng.below(present.len())].to_vec(),
+            8 => {
+                let count = prng.between(1, 12);
+                [present, prng.bytes(count)].concat()
+            }
+            _ => {
+                let fault = changed(prng, present);
+                changed(prng, fault)
+            }
+        };
+        if recorder.try_load(&bytes) == Some(0) {
+            self.read_listing(recorder);
+            self.received = false;
+        }
+    }
+
+    /// What the endpoint has after a load.
+    fn read_listing(&mut self, recorder: &Recorder) {
+        let image = Image::of(&recorder.driver.endpoint);
+        let bindings = image.bindings.iter();
+        (self.own, self.port) = (image.own, image.port);
+        self.bindings = bindings.map(|b| (b.peer.into(), b.kind, b.id)).collect();
+        self.peers = image.peers;
     }
 
     fn receive(&mut self, recorder: &mut Recorder, prng: &mut Prng) {
@@ -273,6 +320,38 @@ impl Scene {
         }
         frame
     }
+}
+
+/// Into an output that has room, just has room, or has not.
+fn save(recorder: &mut Recorder, prng: &mut Prng) {
+    let length = image(recorder).len();
+    let output = match prng.below(8) {
+        0 => prng.below(length),
+        1 => length - 1,
+        2 => length,
+        3 => length + 1,
+        _ => prng.between(length, 1000),
+    };
+    recorder.try_save(output);
+}
+
+/// What a save of the present endpoint writes.
+fn saved(recorder: &mut Recorder) -> Vec<u8> {
+    recorder.try_save(1000);
+    recorder.driver.written().to_vec()
+}
+
+/// The image with one byte changed, often one of those that every image has.
+fn changed(prng: &mut Prng, mut image: Vec<u8>) -> Vec<u8> {
+    let reach = if prng.percent(40) { FIXED } else { image.len() };
+    let byte = &mut image[prng.below(reach)];
+    *byte = match prng.below(4) {
+        0 => byte.wrapping_add(1),
+        1 => byte.wrapping_sub(1),
+        2 => *byte ^ 1 << prng.below(8),
+        _ => prng.byte(),
+    };
+    image
 }
 
 fn view(recorder: &mut Recorder, prng: &mut Prng) {

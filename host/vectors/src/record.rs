@@ -49,6 +49,12 @@ pub enum Record {
         peer: u16,
         address: u64,
     },
+    Save {
+        output_length: u16,
+    },
+    Load {
+        image: Vec<u8>,
+    },
 }
 
 impl Record {
@@ -63,6 +69,8 @@ impl Record {
             Record::View { .. } => 7,
             Record::Wrap { .. } => 8,
             Record::Observe { .. } => 9,
+            Record::Save { .. } => 10,
+            Record::Load { .. } => 11,
         }
     }
 
@@ -105,6 +113,8 @@ impl Record {
                 &peer.to_be_bytes(),
                 &address.to_be_bytes(),
             ]),
+            Record::Save { output_length } => join(&[&output_length.to_be_bytes()]),
+            Record::Load { image } => image.clone(),
         }
     }
 
@@ -174,6 +184,8 @@ impl Record {
                 peer,
                 address,
             } => driver.observe(*tenant, *peer, *address).1,
+            Record::Save { output_length } => driver.save(usize::from(*output_length)),
+            Record::Load { image } => driver.load(image),
         }
     }
 }
@@ -264,6 +276,12 @@ fn decode_payload(op: u64, fields: &mut Fields) -> Result<Record, String> {
             peer: fields.number(2)? as u16,
             address: fields.number(8)?,
         }),
+        10 => Ok(Record::Save {
+            output_length: decode_output_length(fields)?,
+        }),
+        11 => Ok(Record::Load {
+            image: fields.remaining(),
+        }),
         _ => Err(format!("no op {op}")),
     }
 }
@@ -294,10 +312,7 @@ fn decode_wrap(fields: &mut Fields) -> Result<Record, String> {
     let binding = fields.number(2)? as u32;
     let segment = fields.number(4)? as u32;
     let identifier = fields.number(4)? as u32;
-    let output_length = fields.number(2)? as u16;
-    if usize::from(output_length) > MAX_OUTPUT {
-        return Err(format!("an output of {output_length} bytes"));
-    }
+    let output_length = decode_output_length(fields)?;
     Ok(Record::Wrap {
         binding,
         segment,
@@ -305,6 +320,14 @@ fn decode_wrap(fields: &mut Fields) -> Result<Record, String> {
         output_length,
         frame: fields.remaining(),
     })
+}
+
+fn decode_output_length(fields: &mut Fields) -> Result<u16, String> {
+    let length = fields.number(2)? as u16;
+    if usize::from(length) > MAX_OUTPUT {
+        return Err(format!("an output of {length} bytes"));
+    }
+    Ok(length)
 }
 
 /// What the reference answers to `runs`: the contents of `answers.txt`.

@@ -6,8 +6,8 @@ use crate::driver::{flat, Driver, Line, MAX_MEMORY, MAX_OUTPUT};
 use crate::record::Record;
 use niulassenc_reference::Observed;
 
-/// How often each code 0..=23 was answered.
-pub type Histogram = [u64; 24];
+/// How often each code 0..=24 was answered.
+pub type Histogram = [u64; 25];
 
 pub struct Recorder {
     pub driver: Driver,
@@ -19,9 +19,9 @@ pub struct Recorder {
     pub records: usize,
     /// The records themselves, for a caller that wants no files.
     kept: Option<Vec<Record>>,
-    /// Whether wraps are written down. They are made in any case: directed
-    /// cases receive what a wrap wrote.
-    wraps: bool,
+    /// Whether calls that write to an output, wraps and saves, are written down.
+    /// They are made in any case: directed cases receive what a wrap wrote.
+    writes: bool,
     /// Name of the directed case, for messages.
     pub case: &'static str,
 }
@@ -38,19 +38,19 @@ impl Recorder {
             driver: Driver::new(),
             runs: Vec::new(),
             answers: String::new(),
-            histogram: [0; 24],
+            histogram: [0; 25],
             observed: [0; 4],
             records: 0,
             kept: None,
-            wraps: true,
+            writes: true,
             case: "",
         }
     }
 
-    /// A recorder that leaves every wrap out of both files.
+    /// A recorder that leaves every wrap and every save out of both files.
     pub fn receive_only() -> Recorder {
         Recorder {
-            wraps: false,
+            writes: false,
             ..Recorder::new()
         }
     }
@@ -70,7 +70,7 @@ impl Recorder {
     }
 
     fn note(&mut self, record: Record, line: Line) -> Option<u8> {
-        if !self.wraps && matches!(record, Record::Wrap { .. }) {
+        if !self.writes && matches!(record, Record::Wrap { .. } | Record::Save { .. }) {
             return line.code;
         }
         if let Some(kept) = &mut self.kept {
@@ -221,6 +221,29 @@ impl Recorder {
         let got = self.try_observe(tenant, peer, address);
         let at = self.records;
         assert_eq!(got, expected, "case {}, record {at}", self.case);
+    }
+
+    pub fn try_save(&mut self, output_length: usize) -> Option<u8> {
+        assert!(output_length <= MAX_OUTPUT);
+        let line = self.driver.save(output_length);
+        let output_length = output_length as u16;
+        self.note(Record::Save { output_length }, line)
+    }
+
+    pub fn save(&mut self, expected: u8, output_length: usize) {
+        let got = self.try_save(output_length);
+        self.expect(expected, got);
+    }
+
+    pub fn try_load(&mut self, image: &[u8]) -> Option<u8> {
+        let line = self.driver.load(image);
+        let image = image.to_vec();
+        self.note(Record::Load { image }, line)
+    }
+
+    pub fn load(&mut self, expected: u8, image: &[u8]) {
+        let got = self.try_load(image);
+        self.expect(expected, got);
     }
 
     /// Wraps every segment of a frame and gives the packets back.

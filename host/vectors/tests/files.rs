@@ -44,6 +44,17 @@ const RUN: &str = "
          09 00 0c  00 07  00 02  00 00 02 00 00 00 00 01
          09 00 0c  00 07  00 03  00 00 02 00 00 00 00 01
          09 00 0c  ff ff  00 01  00 00 00 00 00 00 00 00
+         0a 00 02  00 2a
+         0a 00 02  00 30
+         0b 00 1e  54 57 4e 00 01 0a 00 00 01 1d 2f 05 dc 01 0a 00 00 02
+                   01 00 02 00 00 00 00 00 00 10 00 01
+         09 00 0c  00 07  00 02  00 00 02 00 00 00 00 01
+         0b 00 1f  54 57 4e 00 01 0a 00 00 01 1d 2f 05 dc 01 0a 00 00 02
+                   01 00 02 00 00 00 00 00 00 10 00 01 02
+         09 00 0c  00 07  00 03  00 00 02 00 00 00 00 01
+         0a 00 02  00 20
+         01 00 08  0a 00 00 01  1d 2f  02 3f
+         0a 00 02  00 02
          01 00 08  0a 00 00 01  1d 2f  05 dc
          09 00 0c  00 07  00 03  00 00 02 00 00 00 00 01";
 
@@ -70,6 +81,15 @@ observe 0 - 3975110185
 observe 1 - 3975110185
 observe 2 2 3975110185
 observe 0 - 3031000267
+save 21 0 1737396448
+save 0 43 284581056
+load 24 2988214976
+observe 1 - 3031000267
+load 0 3780429613
+observe 0 - 1745976170
+save 0 31 2643857091
+start 18
+save 18 0 5472
 start 0
 observe 0 - 1745976170
 ";
@@ -89,7 +109,13 @@ fn a_run_by_hand() {
 fn broken_runs_are_told() {
     for broken in [
         "00 00 00",
+        "0c 00 00",
         "0a 00 00",
+        "0a 00 01 00",
+        "0a 00 03 00 10 00",
+        "0a 00 02 07 d1",
+        "0b 07 d1",
+        "0b 00 02 54",
         "09 00 00",
         "09 00 0b 00 07 00 02 00 00 02 00 00 00 00",
         "09 00 0d 00 07 00 02 00 00 02 00 00 00 00 01 00",
@@ -104,7 +130,13 @@ fn broken_runs_are_told() {
     ] {
         assert!(decode(&bytes(broken)).is_err(), "{broken}");
     }
-    assert!(decode(&bytes("04 00 08 00 00 ea 60 00 00 00 00")).is_ok());
+    for good in [
+        "04 00 08 00 00 ea 60 00 00 00 00",
+        "0a 00 02 07 d0",
+        "0b 00 00",
+    ] {
+        assert!(decode(&bytes(good)).is_ok(), "{good}");
+    }
 }
 
 #[test]
@@ -136,8 +168,9 @@ fn every_code_is_reached() {
     }
 }
 
-/// The random part alone reaches everything that receiving and writing can
-/// answer, on seeds of all sorts.
+/// The random part alone reaches everything that receiving, writing and loading
+/// can answer, on seeds of all sorts; a save of a refused start is left to the
+/// directed cases.
 #[test]
 fn the_random_part_goes_deep() {
     for seed in [DEFAULT_SEED, 1, 2, 3] {
@@ -157,6 +190,9 @@ fn the_random_part_goes_deep() {
         for code in [0, 13, 21, 23] {
             assert!(reached("wrap", code) >= 3, "seed {seed}, wrap {code}");
         }
+        for (call, code) in [("save", 0), ("save", 21), ("load", 0), ("load", 24)] {
+            assert!(reached(call, code) >= 3, "seed {seed}, {call} {code}");
+        }
         assert!(reached("receive", 0) > 300, "seed {seed}");
     }
 }
@@ -168,12 +204,13 @@ fn the_default_runs_keep_their_bounds() {
     let mut started = false;
     let mut lent = false;
     let mut received = false;
-    for record in decode(&made.runs).unwrap() {
+    for (record, line) in decode(&made.runs).unwrap().iter().zip(made.answers.lines()) {
         match record {
             Record::Start { .. } => {
                 started = true;
                 received = false;
             }
+            Record::Load { .. } => received &= !line.starts_with("load 0 "),
             Record::Lend { .. } => lent = true,
             Record::Receive { .. } => {
                 assert!(lent, "a receive before the first memory");
@@ -186,15 +223,16 @@ fn the_default_runs_keep_their_bounds() {
     }
 }
 
-/// Nothing but the wraps is left out, and what is left stands by itself.
+/// Nothing but the wraps and the saves is left out, and what is left stands by
+/// itself.
 #[test]
-fn receive_only_leaves_the_wraps_out() {
+fn receive_only_leaves_out_what_writes() {
     for (seed, steps) in [(DEFAULT_SEED, DEFAULT_STEPS), (7, 500)] {
         let all = generate(seed, steps);
         let made = generate_receive_only(seed, steps);
         let mut kept = Vec::new();
         for record in decode(&all.runs).unwrap() {
-            if !matches!(record, Record::Wrap { .. }) {
+            if !matches!(record, Record::Wrap { .. } | Record::Save { .. }) {
                 record.encode(&mut kept);
             }
         }
@@ -204,11 +242,12 @@ fn receive_only_leaves_the_wraps_out() {
         let others = all
             .answers
             .lines()
-            .filter(|line| !line.starts_with("wrap "));
+            .filter(|line| !line.starts_with("wrap ") && !line.starts_with("save "));
         assert_eq!(answers, others.collect::<Vec<_>>());
         assert_eq!(replay(&made.runs).unwrap(), made.answers);
         assert_eq!(made.records, answers.len());
-        assert_eq!(made.histogram[21..], [0, 0, 0]);
+        assert_eq!(made.histogram[21..24], [0, 0, 0]);
+        assert!(made.histogram[24] > 0, "seed {seed}");
         for code in 0..=17 {
             assert!(made.histogram[code] > 0, "seed {seed}, code {code}");
         }
