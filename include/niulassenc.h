@@ -1,6 +1,6 @@
 /*
- * niulassenc: a tunnel endpoint for VXLAN (RFC 7348), NVGRE (RFC 7637) and STT (draft-davie-stt-06), and a detector of addresses
- * that several peers show to one tenant, without a heap.
+ * niulassenc: a tunnel endpoint for VXLAN (RFC 7348), NVGRE (RFC 7637) and STT (draft-davie-stt-06) whose configuration can be
+ * saved and loaded, and a detector of addresses that several peers show to one tenant, without a heap.
  *
  * The functions are those of the crate `niulassenc`: each is proved to do what its contract there says, for every input. What is
  * not proved is that a caller keeps the rules of this header. They are few:
@@ -8,16 +8,17 @@
  * - Header and archive are of one version: niulassenc_matches() says so. Ask it once, before anything else.
  * - A pointer is never NULL, not even where its length is 0, and is aligned for its type.
  * - What one call is given does not overlap: endpoint, packet and memory are three separate objects, and so are endpoint,
- *   frame and output.
- * - An endpoint comes from niulassenc_start. It is plain data: it holds no pointer, may be copied, and needs no clean-up.
- *   Its fields may be read. Only the functions write it.
- * - Calls on one endpoint do not run at the same time; only wraps and niulassenc_owner may, with each other, since they only read
- *   it. Calls on different endpoints with different memories may: there is no state outside what a call is given.
+ *   frame and output. A settings image and the output that one is saved to are no part of an endpoint either.
+ * - An endpoint comes from niulassenc_start or niulassenc_load. It is plain data: it holds no pointer, may be copied, and needs no
+ *   clean-up. Its fields may be read. Only the functions write it.
+ * - Calls on one endpoint do not run at the same time; only wraps, niulassenc_owner and niulassenc_save may, with each other,
+ *   since they only read it. Calls on different endpoints with different memories may: there is no state outside what a call is
+ *   given.
  * - Reassembly memory belongs to one endpoint. It may contain anything at first, and each receive is given it as the last one
  *   left it. Where somebody else writes it, a receive stays safe and delivers what it finds there.
  * - A detector comes from niulassenc_detector_start. It is plain data too, and only niulassenc_observe writes it; calls on one
  *   detector do not run at the same time. It is separate from every endpoint: no call on an endpoint reads or writes it. Its
- *   entries name peers by number, so start it anew where an endpoint is started anew with another list of peers.
+ *   entries name peers by number, so start it anew where an endpoint is started or loaded anew with another list of peers.
  *
  * An address is a number: 10.0.0.1 is 0x0a000001. So are a port and a network id: none is in network byte order. Settings and
  * numbers of peers, bindings, tenants and segments are 32 bits wide, so that one that is too large is refused and not cut off.
@@ -38,7 +39,7 @@ extern "C" {
 
 /* The version of this header. niulassenc_version() gives the archive's in the same form. */
 #define NIULASSENC_VERSION_MAJOR 0
-#define NIULASSENC_VERSION_MINOR 3
+#define NIULASSENC_VERSION_MINOR 4
 #define NIULASSENC_VERSION_PATCH 0
 #define NIULASSENC_VERSION \
     (NIULASSENC_VERSION_MAJOR * 0x10000u + NIULASSENC_VERSION_MINOR * 0x100u + NIULASSENC_VERSION_PATCH)
@@ -56,6 +57,7 @@ extern "C" {
 #define NIULASSENC_SLOT_BYTES 1728    /* reassembly memory of one slot */
 #define NIULASSENC_MEMORY_BYTES 55296 /* reassembly memory that a receive needs: 8 peers of 4 slots */
 #define NIULASSENC_ENTRIES 128        /* entries of a detector */
+#define NIULASSENC_IMAGE_BYTES 815    /* the longest settings image */
 
 /* What stands for a tenant, a binding, a peer or a number that is not there. 0xFFFF is a tenant's number too: the code, or what
  * a detector answers, decides. */
@@ -85,12 +87,14 @@ enum niulassenc_code {
     NIULASSENC_LENGTH_DIFFERS = 15,         /* a frame pending from this peer has this identifier and another length */
     NIULASSENC_ALREADY_RECEIVED = 16,       /* some byte of the segment was received already */
     NIULASSENC_NO_SLOT = 17,                /* a new identifier, and the peer's four slots are taken */
-    NIULASSENC_OUT_OF_RANGE = 18,           /* a setting or binding outside its range, or naming a peer not listed */
+    NIULASSENC_OUT_OF_RANGE = 18,           /* a setting or binding outside its range, or naming a peer not listed; or the
+                                               endpoint to save is one of a refused start or load */
     NIULASSENC_ALREADY_LISTED = 19,         /* peer or binding already listed */
     NIULASSENC_FULL = 20,                   /* 8 peers or 64 bindings are listed already */
-    NIULASSENC_OUTPUT_TOO_SHORT = 21,       /* output shorter than the packet */
+    NIULASSENC_OUTPUT_TOO_SHORT = 21,       /* output shorter than the packet or the settings image */
     NIULASSENC_EXCEEDS_MTU = 22,            /* VXLAN or NVGRE packet would exceed the MTU */
-    NIULASSENC_NO_SUCH = 23                 /* no such binding, or no such segment number */
+    NIULASSENC_NO_SUCH = 23,                /* no such binding, or no such segment number */
+    NIULASSENC_BAD_IMAGE = 24               /* not what saving some endpoint gives, byte by byte with nothing after it */
 };
 
 enum niulassenc_kind {
@@ -135,7 +139,7 @@ struct niulassenc_endpoint {
     uint8_t owners[NIULASSENC_BINDINGS];
 };
 
-/* What a start gives. A refused one (18) gives an endpoint with every number 0: adding to it is 18. */
+/* What a start or a load gives. A refused one (18; 24) gives an endpoint with every number 0: adding to it, or saving it, is 18. */
 struct niulassenc_started {
     struct niulassenc_endpoint endpoint;
     uint8_t code;
@@ -163,6 +167,12 @@ struct niulassenc_receipt {
 struct niulassenc_writing {
     size_t length;
     uint32_t segments;
+    uint8_t code;
+};
+
+/* What a save gives: the length of the settings image that was written, 0 where the code is not 0. */
+struct niulassenc_saving {
+    size_t length;
     uint8_t code;
 };
 
@@ -245,6 +255,10 @@ NIULASSENC_AT(niulassenc_writing, length, 0);
 NIULASSENC_AT(niulassenc_writing, segments, 8);
 NIULASSENC_AT(niulassenc_writing, code, 12);
 
+NIULASSENC_SIZE(niulassenc_saving, 16);
+NIULASSENC_AT(niulassenc_saving, length, 0);
+NIULASSENC_AT(niulassenc_saving, code, 8);
+
 NIULASSENC_SIZE(niulassenc_part_at, 24);
 NIULASSENC_AT(niulassenc_part_at, start, 0);
 NIULASSENC_AT(niulassenc_part_at, length, 8);
@@ -307,6 +321,15 @@ uint8_t niulassenc_tick(struct niulassenc_endpoint *endpoint);
 struct niulassenc_writing niulassenc_wrap(const struct niulassenc_endpoint *endpoint, uint32_t binding, const uint8_t *frame,
                                           size_t frame_length, uint32_t segment, uint32_t identifier, uint8_t *output,
                                           size_t output_length);
+
+/* Saves an endpoint's configuration: the settings image, at most 815 bytes, is written at the front of the output, and no byte
+ * behind it is touched: 18, then 21. The image has settings, peers and bindings, all in their order; of pending frames it has
+ * nothing, and they stay pending. */
+struct niulassenc_saving niulassenc_save(const struct niulassenc_endpoint *endpoint, uint8_t *output, size_t output_length);
+
+/* Loads a settings image: an endpoint with the configuration that was saved and no frame pending, as if started and listed anew:
+ * 24. Exactly what saving some endpoint gives is accepted; a byte too many is refused, so give the length of the whole file. */
+struct niulassenc_started niulassenc_load(const uint8_t *image, size_t image_length);
 
 /* The part to cut for a place, given the lengths of the packet and of the memory: the place itself where it fits, else the empty
  * part at the packet's start (0, 0, in the packet). What it gives always fits. */
@@ -372,9 +395,10 @@ static inline const char *niulassenc_text(uint32_t code)
         "setting or binding out of range",
         "already listed",
         "no room for another peer or binding",
-        "output too short for the packet",
+        "output too short",
         "packet would exceed the MTU",
         "no such binding or segment",
+        "not a good settings image",
     };
 
     return code < sizeof texts / sizeof *texts ? texts[code] : "unknown code";

@@ -165,6 +165,54 @@ impl Endpoint {
         })
     }
 
+    /// Writes the settings image of the configuration (settings, peers and bindings)
+    /// to the start of `output` and gives its length, at most
+    /// [`IMAGE_BYTES`](crate::IMAGE_BYTES). Pending frames are not in it, and stay
+    /// pending. Refused with 18 where the endpoint is one of a refused start or
+    /// load, then with 21 where the output is shorter than the image.
+    ///
+    /// ```
+    /// use niulassenc::{Endpoint, Kind, Refusal, IMAGE_BYTES};
+    ///
+    /// # fn main() -> Result<(), Refusal> {
+    /// let mut endpoint = Endpoint::start([10, 0, 0, 1].into(), 7471, 1500)?;
+    /// let peer = endpoint.add_peer([10, 0, 0, 2].into())?;
+    /// endpoint.add_binding(peer, Kind::Vxlan, 22, 7)?;
+    ///
+    /// let mut image = [0; IMAGE_BYTES]; // always enough
+    /// let length = endpoint.save(&mut image)?;
+    /// assert_eq!(length, 15 + 4 + 12); // one peer, one binding
+    /// assert_eq!(Endpoint::load(&image[..length]), Ok(endpoint));
+    /// # Ok(())
+    /// # }
+    /// ```
+    pub fn save(&self, output: &mut [u8]) -> Result<usize, Refusal> {
+        let saved = self.numbers.save(output);
+        Refusal::check(saved.code)?;
+        Ok(saved.length)
+    }
+
+    /// The endpoint whose configuration a settings image has, with no frame
+    /// pending: a new start, whatever was received before. Refused with 24 unless
+    /// the image is, byte by byte, what saving some endpoint gives; one more byte
+    /// behind it is refused too, so hand over the whole file.
+    ///
+    /// ```
+    /// use niulassenc::{Endpoint, Refusal};
+    ///
+    /// // The shortest image: 10.0.0.1, port 7471, MTU 1500, no peers, no bindings.
+    /// let image = [b'T', b'W', b'N', 0, 1, 10, 0, 0, 1, 0x1d, 0x2f, 0x05, 0xdc, 0, 0];
+    /// let endpoint = Endpoint::load(&image).expect("a good image");
+    /// assert_eq!((endpoint.stt_port(), endpoint.mtu()), (7471, 1500));
+    /// assert_eq!(Endpoint::load(&image[..14]), Err(Refusal::BadImage));
+    /// assert_eq!(Refusal::BadImage.number(), 24);
+    /// ```
+    pub fn load(image: &[u8]) -> Result<Endpoint, Refusal> {
+        let (numbers, code) = numbers::Endpoint::load(image);
+        Refusal::check(code)?;
+        Ok(Endpoint { numbers })
+    }
+
     /// Our own address.
     pub fn own_address(&self) -> Ipv4Addr {
         self.raw().own.into()
@@ -244,7 +292,7 @@ fn pending(slot: ffi::Slot) -> Option<Pending> {
     })
 }
 
-/// An endpoint from a start with plain numbers, a refused one too.
+/// An endpoint from a start or a load with plain numbers, a refused one too.
 impl From<numbers::Endpoint> for Endpoint {
     fn from(numbers: numbers::Endpoint) -> Endpoint {
         Endpoint { numbers }

@@ -87,6 +87,12 @@ pub struct Writing {
 }
 
 #[repr(C)]
+pub struct Saving {
+    pub length: usize,
+    pub code: u8,
+}
+
+#[repr(C)]
 pub struct PartAt {
     pub start: usize,
     pub length: usize,
@@ -154,6 +160,14 @@ extern "C" {
         output_length: usize,
     ) -> Writing;
 
+    pub fn niulassenc_save(
+        endpoint: *const Endpoint,
+        output: *mut u8,
+        output_length: usize,
+    ) -> Saving;
+
+    pub fn niulassenc_load(image: *const u8, image_length: usize) -> Started;
+
     pub fn niulassenc_cut(
         packet_length: usize,
         memory_length: usize,
@@ -195,6 +209,7 @@ layout!(Started: 1080, 8; endpoint 0, code 1072);
 layout!(Addition: 4, 2; number 0, code 2);
 layout!(Receipt: 24, 8; start 0, length 8, tenant 16, binding 18, code 20, in_memory 21);
 layout!(Writing: 16, 8; length 0, segments 8, code 12);
+layout!(Saving: 16, 8; length 0, code 8);
 layout!(PartAt: 24, 8; start 0, length 8, in_memory 16);
 layout!(Detector: 1544, 8; addresses 0, tenants 1024, peers 1280, count 1536);
 layout!(Observation: 4, 2; answer 0, peer 2);

@@ -3,8 +3,10 @@
 //! Outer IPv4 packets go in; inner Ethernet frames come out, each with the
 //! tenant whose it is. STT is reassembled in memory that the caller lends. This
 //! crate is a thin, safe cover over the archive that `rt staticlib niulassenc`
-//! writes: it allocates nothing, keeps no global state, and needs no `std`. A
-//! [`Detector`] beside it finds addresses that several peers show to one tenant.
+//! writes: it allocates nothing, keeps no global state, and needs no `std`. An
+//! endpoint's configuration can be saved as bytes and loaded again
+//! ([`Endpoint::save`], [`Endpoint::load`]). A [`Detector`] beside it finds
+//! addresses that several peers show to one tenant.
 //!
 //! ```
 //! use niulassenc::{Endpoint, Kind, Received, Refusal, MEMORY_NEEDED};
@@ -62,7 +64,7 @@ mod version;
 pub use detector::{observed_text, Detector, Entry, Observed};
 pub use endpoint::{Binding, Endpoint, Frame, Pending, Received, Wrapped};
 pub use kind::Kind;
-pub use limits::MEMORY_NEEDED;
+pub use limits::{IMAGE_BYTES, MEMORY_NEEDED};
 pub use place::Place;
 pub use refusal::{text, Refusal};
 pub use version::{matches, version, VERSION};

@@ -35,3 +35,6 @@ pub const MEMORY_NEEDED: usize = PEERS * SLOTS * SLOT_BYTES;
 
 /// Entries of a detector.
 pub const ENTRIES: usize = 128;
+
+/// Bytes of the longest settings image: 8 peers and 64 bindings.
+pub const IMAGE_BYTES: usize = 815;

@@ -1,5 +1,5 @@
-//! The calls with plain numbers in and out, as C has them: an answer is document
-//! 01's number; a setting, a kind or the number of a peer, a tenant or a binding
+//! The calls with plain numbers in and out, as C has them: an answer is the
+//! documents' number; a setting, a kind or the number of a peer, a tenant or a binding
 //! is 32 bits wide and may be out of its range. What a detector is told is not
 //! checked: its tenant and peer are 16 bits wide. The crate's own types stand on
 //! these; they serve who has numbers anyway.
@@ -51,6 +51,15 @@ pub struct Wrapped {
     pub code: u8,
 }
 
+/// The answer of a save.
+#[derive(Clone, Copy, Debug, PartialEq, Eq)]
+pub struct Saved {
+    /// Bytes of the settings image; 0 in a refusal.
+    pub length: usize,
+    /// 0, 18 or 21.
+    pub code: u8,
+}
+
 /// A duplicate address detector. It refers to nothing, no endpoint either: it may
 /// be moved and copied.
 #[derive(Clone, Debug, PartialEq, Eq)]
@@ -82,6 +91,25 @@ impl Endpoint {
         // layout `ffi` asserts. Every contract of the archive is proved for
         // every input, so it has no precondition beyond its types.
         let started = unsafe { ffi::niulassenc_start(own, stt_port, mtu) };
+        let endpoint = Endpoint {
+            raw: started.endpoint,
+        };
+        (endpoint, started.code)
+    }
+
+    /// The endpoint whose configuration a settings image has, with no frame
+    /// pending, and 0; or 24 and an endpoint with every number 0, as of a refused
+    /// start.
+    ///
+    /// # Panics
+    ///
+    /// Where the archive is of another version than this crate
+    /// ([`matches`](crate::matches)): its calls could write past an endpoint.
+    pub fn load(image: &[u8]) -> (Endpoint, u8) {
+        assert!(crate::matches(), "the archive is of another version");
+        // SAFETY: the pointer comes with the length of a slice that is borrowed
+        // for the whole call, which only reads it. The struct comes back by value.
+        let started = unsafe { ffi::niulassenc_load(image.as_ptr(), image.len()) };
         let endpoint = Endpoint {
             raw: started.endpoint,
         };
@@ -177,6 +205,18 @@ impl Endpoint {
             length: wrapped.length,
             segments: wrapped.segments,
             code: wrapped.code,
+        }
+    }
+
+    /// Writes the settings image of the configuration to the start of `output`.
+    #[inline]
+    pub fn save(&self, output: &mut [u8]) -> Saved {
+        // SAFETY: a slice with its length, borrowed alone, and the endpoint, both
+        // for the whole call. The archive writes within the output only.
+        let saved = unsafe { ffi::niulassenc_save(&self.raw, output.as_mut_ptr(), output.len()) };
+        Saved {
+            length: saved.length,
+            code: saved.code,
         }
     }
 

@@ -1,4 +1,4 @@
-//! The numbered refusals of document 01.
+//! The numbered refusals of documents 01 and 02.
 
 use core::fmt;
 
@@ -31,7 +31,7 @@ macro_rules! refusals {
                 }
             }
 
-            /// Document 01's number.
+            /// The number that the documents have for it.
             pub const fn number(self) -> u8 {
                 match self {
                     $(Refusal::$name => $number,)*
@@ -84,17 +84,19 @@ refusals! {
     17 NoSlot "the peer's slots are all taken"
         "a new identifier, and the peer's four slots are taken";
     18 OutOfRange "setting or binding out of range"
-        "a setting or binding outside its range, or naming a peer not listed";
+        "a setting or binding outside its range, or naming a peer not listed; or the endpoint to save is one of a refused start or load";
     19 AlreadyListed "already listed"
         "peer or binding already listed";
     20 Full "no room for another peer or binding"
         "8 peers or 64 bindings are listed already";
-    21 OutputTooShort "output too short for the packet"
-        "output shorter than the packet";
+    21 OutputTooShort "output too short"
+        "output shorter than the packet or the settings image";
     22 ExceedsMtu "packet would exceed the MTU"
         "VXLAN or NVGRE packet would exceed the MTU";
     23 NoSuch "no such binding or segment"
         "no such binding, or no such segment number";
+    24 BadImage "not a good settings image"
+        "not what saving some endpoint gives, byte by byte with nothing after it";
 }
 
 impl Refusal {

@@ -4,7 +4,7 @@ use crate::ffi;
 use core::mem::size_of;
 
 /// This crate's version: major × 65,536 + minor × 256 + patch.
-pub const VERSION: u32 = 0x00_03_00;
+pub const VERSION: u32 = 0x00_04_00;
 
 /// The archive's version, in the same form.
 pub fn version() -> u32 {
@@ -13,7 +13,7 @@ pub fn version() -> u32 {
 }
 
 /// Whether crate and archive go together: they have one version, and an endpoint
-/// and a detector have as many bytes here as there. A start asks this.
+/// and a detector have as many bytes here as there. A start and a load ask this.
 pub fn matches() -> bool {
     // SAFETY: nothing goes in and a number comes back.
     let endpoint = unsafe { ffi::niulassenc_endpoint_bytes() };

@@ -194,7 +194,7 @@ fn numbers_of_refusals_and_kinds() {
         .iter()
         .map(|refusal| refusal.number())
         .collect();
-    assert_eq!(numbers, (2..=23).collect::<Vec<u8>>());
+    assert_eq!(numbers, (2..=24).collect::<Vec<u8>>());
     for &refusal in Refusal::ALL {
         assert_eq!(Refusal::from_number(refusal.number()), Some(refusal));
     }
@@ -216,7 +216,7 @@ fn numbers_of_refusals_and_kinds() {
 /// A later version of the library may answer more than this one knows.
 #[test]
 fn an_unknown_code_is_a_refusal() {
-    for number in 24..=255 {
+    for number in 25..=255 {
         let refusal = Refusal::Unknown(number);
         assert_eq!(Refusal::from_number(number), Some(refusal));
         assert_eq!(refusal.number(), number);

@@ -44,6 +44,7 @@ fn ours() -> String {
         ("SLOT_BYTES", limits::SLOT_BYTES),
         ("MEMORY_BYTES", limits::MEMORY_NEEDED),
         ("ENTRIES", limits::ENTRIES),
+        ("IMAGE_BYTES", limits::IMAGE_BYTES),
         ("NONE", usize::from(numbers::NONE)),
     ] {
         let _ = writeln!(lines, "limit {name} {value}");
@@ -134,7 +135,7 @@ fn nothing_of_the_header_is_left_out() {
             (number && !name.starts_with("VERSION")).then_some(name)
         })
         .collect();
-    assert_eq!(limits.len(), 13);
+    assert_eq!(limits.len(), 14);
     for name in codes {
         assert!(program.contains(&format!("CODE({name});")), "{name}");
     }
