@@ -7,6 +7,7 @@
 
 pub mod lent;
 pub mod pair;
+pub mod raw;
 pub mod report;
 pub mod runs;
 pub mod shrink;
@@ -30,6 +31,10 @@ pub struct Counts {
     pub observed: [u64; 4],
     /// How many detectors came to keep all the entries that they can.
     pub full_detectors: u64,
+    /// Saves that were done, and those that were refused.
+    pub saves: [u64; 2],
+    /// Loads that gave an endpoint, and those that were refused.
+    pub loads: [u64; 2],
 }
 
 impl Counts {
@@ -43,7 +48,9 @@ impl Counts {
         self.receives += other.receives;
         self.full_detectors += other.full_detectors;
         let sums = self.codes.iter_mut().chain(&mut self.observed);
+        let sums = sums.chain(&mut self.saves).chain(&mut self.loads);
         let counts = other.codes.iter().chain(&other.observed);
+        let counts = counts.chain(&other.saves).chain(&other.loads);
         for (sum, count) in sums.zip(counts) {
             *sum += count;
         }
@@ -79,6 +86,8 @@ pub fn compare(run: &[Record]) -> Result<Counts, Difference> {
                 let last = code == 0 && pair.entries() == ENTRIES;
                 counts.full_detectors += u64::from(last);
             }
+            Record::Save { .. } => counts.saves[usize::from(code != 0)] += 1,
+            Record::Load { .. } => counts.loads[usize::from(code != 0)] += 1,
             _ => {}
         }
     }

@@ -64,6 +64,10 @@ fn report(name: &str, counts: &Counts, begun: Instant) {
     if counts.receives > 0 {
         println!("  answers to receives: {}", given.join(", "));
     }
+    if counts.saves != [0; 2] || counts.loads != [0; 2] {
+        let ([saved, unsaved], [loaded, bad]) = (counts.saves, counts.loads);
+        println!("  saves: {saved}, refused: {unsaved}; loads: {loaded}, refused: {bad}");
+    }
     if counts.observations() > 0 {
         let [new, known, duplicate, full] = counts.observed;
         let detectors = counts.full_detectors;

@@ -2,6 +2,7 @@
 //! detector of each beside them.
 
 use crate::lent::Lent;
+use crate::raw::{of_reference, same_numbers};
 use niulassenc as library;
 use niulassenc::limits::ENTRIES;
 use niulassenc::numbers::RawDetector;
@@ -23,7 +24,7 @@ pub struct Pair {
 }
 
 /// Says what differs.
-fn same<T: PartialEq + Debug>(name: &str, library: T, reference: T) -> Result<(), String> {
+pub fn same<T: PartialEq + Debug>(name: &str, library: T, reference: T) -> Result<(), String> {
     if library == reference {
         return Ok(());
     }
@@ -87,7 +88,7 @@ impl Pair {
         self.detectors()?;
         if matches!(
             record,
-            Record::Start { .. } | Record::Binding { .. } | Record::Tick
+            Record::Start { .. } | Record::Binding { .. } | Record::Tick | Record::Load { .. }
         ) {
             self.owners()?;
         }
@@ -128,6 +129,8 @@ impl Pair {
                 peer,
                 address,
             } => self.observe(*tenant, *peer, *address),
+            Record::Save { output_length } => self.save(usize::from(*output_length)),
+            Record::Load { image } => self.load(image),
         }
     }
 
@@ -285,6 +288,47 @@ impl Pair {
         same("segments", wrapped.segments, expected.segments)?;
         lent.check("output", &output)?;
         Ok(wrapped.code)
+    }
+
+    fn save(&mut self, output_length: usize) -> Result<u8, String> {
+        let mut output = vec![0xAA; output_length];
+        let mut lent = Lent::new(&output);
+        let mut typed = Lent::new(&output);
+        let saved = self.library.as_numbers().save(lent.slice());
+        let in_cover = self.library.save(typed.slice());
+        let expected = self.reference.save(&mut output);
+        let expected = expected.map_err(reference::Refusal::code);
+        same("code", saved.code, expected.err().unwrap_or(0))?;
+        same("length", saved.length, expected.unwrap_or(0))?;
+        lent.check("output", &output)?;
+        let in_cover = in_cover.map_err(library::Refusal::number);
+        same("length in the cover", in_cover, expected)?;
+        typed.check("output in the cover", &output)?;
+        Ok(saved.code)
+    }
+
+    /// What a load gives is compared of a refused one too; only one that is not
+    /// refused takes the place of the two endpoints.
+    fn load(&mut self, image: &[u8]) -> Result<u8, String> {
+        let mut lent = Lent::new(image);
+        let (given, code) = library::numbers::Endpoint::load(lent.slice());
+        lent.check("image", image)?;
+        let loaded = reference::Endpoint::load(image);
+        let expected = loaded.as_ref().map_or_else(|why| why.code(), |_| 0);
+        same("code", code, expected)?;
+        let typed = library::Endpoint::load(image);
+        same("code in the cover", code_of(typed), expected)?;
+        let Ok(loaded) = loaded else {
+            let refused = reference::Endpoint::start(0, 0, 0).0;
+            same_numbers(given.raw(), &of_reference(&refused))?;
+            return Ok(code);
+        };
+        same_numbers(given.raw(), &of_reference(&loaded))?;
+        self.library = given.into();
+        self.reference = loaded;
+        self.library_detector = library::Detector::start();
+        self.reference_detector = reference::Detector::start();
+        Ok(code)
     }
 
     /// Settings, listing and the pending frames.

@@ -101,5 +101,7 @@ pub fn describe(record: &Record) -> String {
             peer,
             address,
         } => format!("observe tenant {tenant}, peer {peer}, address {address:#014x}"),
+        Record::Save { output_length } => format!("save into an output of {output_length}"),
+        Record::Load { image } => format!("load{}", hex(image)),
     }
 }

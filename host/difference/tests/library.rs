@@ -82,6 +82,7 @@ fn directed_cases_show_no_difference() {
     let counts = expect(check(name, &runs::directed(SEED)));
     every_answer_was_given(&counts, 5);
     every_observation_was_given(&counts, 100);
+    saves_and_loads_were_made(&counts, 40);
 }
 
 #[test]
@@ -89,6 +90,7 @@ fn a_million_random_receives_show_no_difference() {
     let counts = expect(check_random(SEED, 1_000_000));
     assert!(counts.receives >= 1_000_000);
     every_answer_was_given(&counts, 1000);
+    saves_and_loads_were_made(&counts, 1000);
 }
 
 /// Every number of a detector is compared after every one of them.
@@ -118,6 +120,12 @@ fn sources_are_the_same() {
             assert_eq!(frame.source(), expected.to_be_bytes()[2..], "{bytes:?}");
         }
     }
+}
+
+/// Both that were done and that were refused.
+fn saves_and_loads_were_made(counts: &Counts, least: u64) {
+    let made = counts.saves.iter().chain(&counts.loads);
+    assert!(made.clone().all(|&count| count >= least), "{counts:?}");
 }
 
 fn every_observation_was_given(counts: &Counts, least: u64) {
