@@ -242,10 +242,10 @@ fn repeats(r: &mut Recorder, _: &mut Prng) {
     r.load(0, &two(bound(0, NVGRE, 5000, 7)));
     r.load(0, &two(bound(0, STT, 5000, 7)));
     r.load(0, &two(bound(0, VXLAN, 5001, 7)));
-    r.load(
-        24,
-        &sized(8, 64).with(|image| image.bindings[63] = image.bindings[0]),
-    );
+    for from in [0, 62] {
+        let repeat = |image: &mut Image| image.bindings[63] = image.bindings[from];
+        r.load(24, &sized(8, 64).with(repeat));
+    }
     r.save(0, 60);
 }
 
