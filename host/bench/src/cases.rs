@@ -2,7 +2,9 @@
 
 use crate::sides::Side;
 use crate::table::whole;
+use niulassenc_reference::Endpoint;
 use vectors::directed::{NVGRE, OWN, PEER_A, PORT, STT, VXLAN};
+use vectors::image::{Bound, Image};
 use vectors::packet::{self, Label, Path};
 use vectors::prng::Prng;
 
@@ -32,6 +34,8 @@ pub enum Call {
     Tick,
     Wrap(Vec<u8>),
     Observe(Seen),
+    Save,
+    Load(Vec<u8>),
 }
 
 /// What a detector is told of.
@@ -68,6 +72,14 @@ impl Listing {
         match self {
             Listing::Small => "1 binding",
             Listing::Full => "64 bindings",
+        }
+    }
+
+    /// With the number of peers, which an image has too.
+    fn full_name(self) -> &'static str {
+        match self {
+            Listing::Small => "1 peer, 1 binding",
+            Listing::Full => "8 peers, 64 bindings",
         }
     }
 
@@ -180,6 +192,7 @@ pub fn all() -> Vec<Case> {
     ticks(&mut cases);
     wraps(&mut cases);
     observations(&mut cases);
+    images(&mut cases);
     cases
 }
 
@@ -300,6 +313,50 @@ fn observations(cases: &mut Vec<Case>) {
             kept,
             ..case
         });
+    }
+}
+
+/// A bad image is refused at its last binding, when all others were read, or at its
+/// first byte.
+fn images(cases: &mut Vec<Case>) {
+    let case = |name: &str, listing, code, call| Case {
+        call,
+        ..Case::receive(name.to_string(), STT, listing, code, Vec::new())
+    };
+    for listing in [Listing::Small, Listing::Full] {
+        let size = listing.full_name();
+        let image = image(listing).bytes();
+        cases.push(case(&format!("save, {size}"), listing, 0, Call::Save));
+        cases.push(case(
+            &format!("load, {size}"),
+            listing,
+            0,
+            Call::Load(image),
+        ));
+    }
+    let full = image(Listing::Full);
+    let repeated = full.with(repeat_the_last_but_one);
+    let letters = packet::raw_byte(&full.bytes(), 0, 0);
+    for (why, image) in [
+        ("the last of 64 bindings listed already", repeated),
+        ("letters", letters),
+    ] {
+        let name = format!("refusal 24: {why}");
+        cases.push(case(&name, Listing::Full, 24, Call::Load(image)));
+    }
+}
+
+/// The settings image of a measured endpoint.
+fn image(listing: Listing) -> Image {
+    let case = Case::receive(String::new(), STT, listing, 0, Vec::new());
+    Image::of(&case.endpoint::<Endpoint>())
+}
+
+/// The tenant does not count for a repeat.
+fn repeat_the_last_but_one(image: &mut Image) {
+    if let [.., before, last] = &mut image.bindings[..] {
+        let tenant = last.tenant;
+        *last = Bound { tenant, ..*before };
     }
 }
 

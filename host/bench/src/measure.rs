@@ -49,6 +49,16 @@ fn counted_wrap<S: Side>(side: &mut S, binding: u32, frame: &[u8], output: &mut 
 }
 
 #[inline(never)]
+fn counted_save<S: Side>(side: &mut S, output: &mut [u8]) -> u8 {
+    side.save(output)
+}
+
+#[inline(never)]
+fn counted_load<S: Side>(image: &[u8]) -> u8 {
+    S::load(image)
+}
+
+#[inline(never)]
 fn counted_observe<S: Side>(detector: &mut S::Detector, seen: Seen) -> u8 {
     S::observe(detector, seen.tenant, seen.peer, seen.address)
 }
@@ -81,6 +91,8 @@ impl<'a, S: Side> Bench<'a, S> {
                 counted_wrap(&mut self.side, binding, frame, &mut self.output)
             }
             Call::Observe(seen) => counted_observe::<S>(&mut self.detector, *seen),
+            Call::Save => counted_save(&mut self.side, &mut self.output),
+            Call::Load(image) => counted_load::<S>(image),
         }
     }
 

@@ -2,6 +2,7 @@
 
 use niulassenc::numbers;
 use niulassenc_reference as reference;
+use std::hint::black_box;
 
 /// An endpoint, whoever made it. Addresses and answers are numbers.
 pub trait Side {
@@ -16,6 +17,9 @@ pub trait Side {
     fn receive(&mut self, packet: &[u8], memory: &mut [u8]) -> u8;
     fn tick(&mut self) -> u8;
     fn wrap(&mut self, binding: u32, frame: &[u8], output: &mut [u8]) -> u8;
+    fn save(&mut self, output: &mut [u8]) -> u8;
+    /// The endpoint that it gives is not kept, but it is made.
+    fn load(image: &[u8]) -> u8;
 
     fn detector() -> Self::Detector;
     fn observe(detector: &mut Self::Detector, tenant: u16, peer: u16, address: u64) -> u8;
@@ -55,6 +59,16 @@ impl Side for numbers::Endpoint {
     #[inline(always)]
     fn wrap(&mut self, binding: u32, frame: &[u8], output: &mut [u8]) -> u8 {
         numbers::Endpoint::wrap(self, binding, frame, 0, 7, output).code
+    }
+
+    #[inline(always)]
+    fn save(&mut self, output: &mut [u8]) -> u8 {
+        numbers::Endpoint::save(self, output).code
+    }
+
+    #[inline(always)]
+    fn load(image: &[u8]) -> u8 {
+        black_box(&numbers::Endpoint::load(image)).1
     }
 
     fn detector() -> numbers::Detector {
@@ -100,6 +114,18 @@ impl Side for reference::Endpoint {
     #[inline(always)]
     fn wrap(&mut self, binding: u32, frame: &[u8], output: &mut [u8]) -> u8 {
         reference::Endpoint::wrap(self, binding, frame, 0, 7, output).code
+    }
+
+    #[inline(always)]
+    fn save(&mut self, output: &mut [u8]) -> u8 {
+        reference::Endpoint::save(self, output).map_or_else(reference::Refusal::code, |_| 0)
+    }
+
+    #[inline(always)]
+    fn load(image: &[u8]) -> u8 {
+        let loaded = reference::Endpoint::load(image);
+        let loaded = black_box(&loaded).as_ref();
+        loaded.map_or_else(|refusal| refusal.code(), |_| 0)
     }
 
     fn detector() -> reference::Detector {
