@@ -3,7 +3,7 @@
 use crate::drawn::{any, near, IDS};
 use crate::sides::{expect, goes_around};
 use niulassenc::IMAGE_BYTES;
-use vectors::image::{Bound, Image, BINDING, FIXED, PEER};
+use vectors::image::{Bound, Image, BINDING, PEER, PEER_COUNT};
 use vectors::prng::Prng;
 
 /// Says that both take the image, or that both refuse it.
@@ -142,19 +142,19 @@ fn counts_above_the_limits() {
 #[test]
 fn every_count() {
     let good = near(3, 5);
-    let rest: Vec<u8> = good.bytes()[FIXED - 1 + 3 * PEER..].to_vec();
+    let (peer_count, binding_count) = (PEER_COUNT, PEER_COUNT + 1 + 3 * PEER);
     for count in 0..=255u8 {
         let peers = (0..u32::from(count)).map(|number| 0x0B00_0000 + number);
         let listed = good.with(|image| image.peers = peers.collect());
         is((3..=8).contains(&count), "peers", &listed);
         let mut bytes = good.bytes();
-        bytes[13] = count;
+        bytes[peer_count] = count;
         is(count == 3, "peer count", &bytes);
         let mut bytes = good.bytes();
-        bytes[14 + 3 * PEER] = count;
+        bytes[binding_count] = count;
         is(count == 5, "binding count", &bytes);
-        let cut = [&bytes[..14 + 3 * PEER], &rest[..1]].concat();
-        is(false, "no bindings behind their count", &cut);
+        let cut = &bytes[..=binding_count];
+        is(count == 0, "no bindings behind their count", cut);
     }
 }
 
