@@ -1,5 +1,6 @@
 //! Demand 3 on random runs: a peer's answers do not depend on what the other
-//! senders sent.
+//! senders sent. A load begins a new run from what it gives, as a start does; both
+//! stay where they are.
 
 use vectors::driver::Driver;
 use vectors::prng::Prng;
@@ -56,8 +57,10 @@ fn random_run(seed: u64, steps: usize) -> Vec<Step> {
 #[test]
 fn other_senders_do_not_matter() {
     let mut compared = [0; 18];
+    let mut loaded = 0;
     for seed in 0..4 {
         let run = random_run(seed, 2000);
+        loaded += run.iter().filter(|step| step.line == "load 0").count();
         for peer in 0x0A00_0002..=0x0A00_000E {
             let mut driver = Driver::new();
             for step in &run {
@@ -76,4 +79,5 @@ fn other_senders_do_not_matter() {
     for code in [0, 1].into_iter().chain(8..=17) {
         assert!(compared[code] > 10, "code {code}: {}", compared[code]);
     }
+    assert!(loaded > 10, "{loaded} loads");
 }
