@@ -36,5 +36,5 @@ pub const MEMORY_NEEDED: usize = PEERS * SLOTS * SLOT_BYTES;
 /// Entries of a detector.
 pub const ENTRIES: usize = 128;
 
-/// Bytes of the longest settings image: 8 peers and 64 bindings.
-pub const IMAGE_BYTES: usize = 815;
+/// Bytes of the longest settings image: 8 peers of 4 bytes, 64 bindings of 12.
+pub const IMAGE_BYTES: usize = 15 + 4 * PEERS + 12 * BINDINGS;
