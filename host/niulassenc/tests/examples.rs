@@ -18,6 +18,7 @@ fn examples_write_what_is_expected() {
         let output = Command::new(env!("CARGO"))
             .args(["run", "--quiet", "--offline", "--example", name])
             .current_dir(&folder)
+            .env("TMPDIR", env!("CARGO_TARGET_TMPDIR")) // for the files that they write
             .output()
             .expect("cargo is there");
         assert!(output.status.success(), "{name}: {output:?}");
@@ -26,5 +27,5 @@ fn examples_write_what_is_expected() {
         assert_eq!(written, expected.expect("what is expected"), "{name}");
         run += 1;
     }
-    assert!(run >= 3);
+    assert!(run >= 4);
 }
