@@ -9,8 +9,8 @@
  * - A pointer is never NULL, not even where its length is 0, and is aligned for its type.
  * - What one call is given does not overlap: endpoint, packet and memory are three separate objects, and so are endpoint,
  *   frame and output. A settings image and the output that one is saved to are no part of an endpoint either.
- * - An endpoint comes from niulassenc_start or niulassenc_load. It is plain data: it holds no pointer, may be copied, and needs no
- *   clean-up. Its fields may be read. Only the functions write it.
+ * - An endpoint comes from niulassenc_start or niulassenc_load. It is plain data: it holds no pointer, may be copied, and needs
+ *   no clean-up. Its fields may be read. Only the functions write it.
  * - Calls on one endpoint do not run at the same time; only wraps, niulassenc_owner and niulassenc_save may, with each other,
  *   since they only read it. Calls on different endpoints with different memories may: there is no state outside what a call is
  *   given.
@@ -139,7 +139,8 @@ struct niulassenc_endpoint {
     uint8_t owners[NIULASSENC_BINDINGS];
 };
 
-/* What a start or a load gives. A refused one (18; 24) gives an endpoint with every number 0: adding to it, or saving it, is 18. */
+/* What a start or a load gives. A refused one (18; 24) gives an endpoint with every number 0: adding to it is 18, and so is saving
+ * it. */
 struct niulassenc_started {
     struct niulassenc_endpoint endpoint;
     uint8_t code;

@@ -1,14 +1,16 @@
 /*
  * A fuzz target for clang's libFuzzer. An input is read as a run of calls: starts, additions, receives of raw and of built
- * packets, ticks, wraps and cuts, on one endpoint with one memory; observations by one detector, of what is delivered and of any
- * numbers. Everything that a call is lent ends right before a page that may not be touched, or begins right behind one. After
- * each call these are checked:
+ * packets, ticks, wraps, cuts, saves and loads, on one endpoint with one memory; observations by one detector, of what is
+ * delivered and of any numbers. Everything that a call is lent ends right before a page that may not be touched, or begins right
+ * behind one. After each call these are checked:
  *
  * - the code is one that the call can give;
  * - a refusal changed neither endpoint nor memory nor output, a good call only what it may change, and no call its input;
  * - what is delivered lies where the answer says, is a good frame, goes to the tenant of its binding, and came from the
  *   binding's owner;
- * - a detector answers what a search through its entries says, and only a new address changes it, by one entry.
+ * - a detector answers what a search through its entries says, and only a new address changes it, by one entry;
+ * - a saved image is the endpoint's numbers in their order, and loads again as the same configuration with no frame pending; a
+ *   load accepts what a start and additions accept, and nothing else.
  *
  * The archive is not instrumented, so the fuzzer is told what happened by counters of its own: the answers given to each call,
  * and how many frames were pending.
@@ -32,7 +34,7 @@ enum { MEMORY = NIULASSENC_MEMORY_BYTES, LONGEST = 2000, OWN = 0x0a000002, STT_P
         }                                                                       \
     } while (0)
 
-enum call { START, PEER, BINDING, RAW, BUILT, TICK, WRAP, CUT, OWNER, SOURCE, OBSERVE, CALLS };
+enum call { START, PEER, BINDING, RAW, BUILT, TICK, WRAP, CUT, OWNER, SOURCE, OBSERVE, SAVE, LOAD, CALLS };
 
 /* What the fuzzer looks at: each answer to each call, each number of pending frames, and the number of entries by eights. */
 enum { PENDING = CALLS * 32, ENTRIES = PENDING + NIULASSENC_PEERS * NIULASSENC_SLOTS + 1, COUNTERS = ENTRIES + 32 };
@@ -448,6 +450,139 @@ static void watch(void)
     CHECK(endpoint_same() && memory_same());
 }
 
+/* The image of the endpoint, written from its fields. A count that no call would give counts as the most that there can be. */
+static size_t image_of(uint8_t *image)
+{
+    unsigned peers = endpoint->peer_count < NIULASSENC_PEERS ? endpoint->peer_count : NIULASSENC_PEERS;
+    unsigned bindings = endpoint->binding_count < NIULASSENC_BINDINGS ? endpoint->binding_count : NIULASSENC_BINDINGS;
+    uint8_t *at = image + 14;
+
+    memcpy(image, "TWN\0\1", 5);
+    put32(image + 5, endpoint->own);
+    put16(image + 9, endpoint->port);
+    put16(image + 11, endpoint->mtu);
+    image[13] = (uint8_t)peers;
+    for (unsigned i = 0; i < peers; i++, at += 4)
+        put32(at, endpoint->addresses[i]);
+    *at++ = (uint8_t)bindings;
+    for (unsigned i = 0; i < bindings; i++, at += 12) {
+        at[0] = endpoint->owners[i];
+        at[1] = endpoint->kinds[i];
+        put32(at + 2, (uint32_t)(endpoint->networks[i] >> 32));
+        put32(at + 6, (uint32_t)endpoint->networks[i]);
+        put16(at + 10, endpoint->tenants[i]);
+    }
+    return (size_t)(at - image);
+}
+
+static uint64_t get(const uint8_t *at, size_t bytes)
+{
+    uint64_t value = 0;
+
+    for (; bytes > 0; bytes--)
+        value = value << 8 | *at++;
+    return value;
+}
+
+/* Whether an image is good: it has the bytes that its counts ask for, and a start and additions take all that it lists. Then they
+ * have made the endpoint that a load must give. */
+static bool listed(struct niulassenc_endpoint *made, const uint8_t *image, size_t length)
+{
+    if (length < 15 || memcmp(image, "TWN\0\1", 5) != 0)
+        return false;
+    unsigned peers = image[13];
+    if (length < 15 + 4 * peers)
+        return false;
+    const uint8_t *at = image + 14;
+    unsigned bindings = at[4 * peers];
+    if (length != 15 + 4 * peers + 12 * bindings)
+        return false;
+    struct niulassenc_started started =
+        niulassenc_start((uint32_t)get(image + 5, 4), (uint32_t)get(image + 9, 2), (uint32_t)get(image + 11, 2));
+    bool good = started.code == NIULASSENC_DONE;
+    *made = started.endpoint;
+    for (; peers > 0; peers--, at += 4)
+        good = niulassenc_add_peer(made, (uint32_t)get(at, 4)).code == NIULASSENC_DONE && good;
+    at++;
+    for (; bindings > 0; bindings--, at += 12) {
+        uint32_t tenant = (uint32_t)get(at + 10, 2);
+        good = niulassenc_add_binding(made, at[0], at[1], get(at + 2, 8), tenant).code == NIULASSENC_DONE && good;
+    }
+    return good;
+}
+
+/* Loads an image. What it gives, good or refused, is told from the calls that list the same. */
+static struct niulassenc_started load_image(const uint8_t *made, size_t length)
+{
+    static const struct niulassenc_endpoint refused;
+    struct niulassenc_endpoint expected;
+    uint8_t *image = part(packet_pages, length, at_end);
+
+    memcpy(image, made, length);
+    bool good = listed(&expected, made, length);
+    remember();
+    struct niulassenc_started got = niulassenc_load(image, length);
+    CHECK(got.code == (good ? NIULASSENC_DONE : NIULASSENC_BAD_IMAGE));
+    CHECK(memcmp(&got.endpoint, good ? &expected : &refused, ENDPOINT_BYTES) == 0);
+    CHECK(memcmp(image, made, length) == 0 && endpoint_same() && memory_same());
+    return got;
+}
+
+/* Saves, now and then with counts that no call would give. What is saved of others must load as the same configuration. */
+static void save(void)
+{
+    uint32_t which = number(1);
+    size_t room = which & 1 ? number(2) % (LONGEST + 1) : NIULASSENC_IMAGE_BYTES;
+    uint8_t *output = part(output_pages, room, at_end), image[NIULASSENC_IMAGE_BYTES];
+    struct niulassenc_endpoint kept = *endpoint;
+
+    if (which & 2) {
+        endpoint->peer_count = (uint16_t)number(2);
+        endpoint->binding_count = (uint16_t)number(2);
+    }
+    size_t length = image_of(image);
+    uint8_t code = endpoint->port == 0 ? NIULASSENC_OUT_OF_RANGE : room < length ? NIULASSENC_OUTPUT_TOO_SHORT : NIULASSENC_DONE;
+    memset(output, 0xa5, room);
+    remember();
+    struct niulassenc_saving got = niulassenc_save(endpoint, output, room);
+    count(SAVE, got.code);
+    CHECK(got.code == code && got.length == (code == NIULASSENC_DONE ? length : 0));
+    CHECK(memcmp(output, image, got.length) == 0);
+    for (size_t i = got.length; i < room; i++)
+        CHECK(output[i] == 0xa5);
+    CHECK(endpoint_same() && memory_same());
+    *endpoint = kept;
+    if (which & 2 || got.code != NIULASSENC_DONE)
+        return;
+    struct niulassenc_started loaded = load_image(output, got.length);
+    memset(kept.peers, 0, sizeof kept.peers);
+    CHECK(loaded.code == NIULASSENC_DONE && memcmp(&loaded.endpoint, &kept, ENDPOINT_BYTES) == 0);
+}
+
+/* Loads any bytes, or the image of the endpoint with some changed, cut off or behind it. What is loaded goes on in the endpoint's
+ * place, with the memory as it is. */
+static void load(void)
+{
+    uint8_t image[NIULASSENC_IMAGE_BYTES + 256] = {0};
+    uint32_t which = number(1);
+    size_t length = which & 1 ? bytes(image, number(2) % sizeof image) : image_of(image);
+
+    if (which & 2) /* behind the letters and the version, if they are there */
+        memcpy(image, "TWN\0\1", 5);
+    for (uint32_t changes = which >> 5; changes > 0; changes--)
+        image[number(2) % (length + 1)] = (uint8_t)number(1);
+    if (which & 4)
+        length = number(2) % (length + 1);
+    if (which & 8)
+        length += number(1);
+    if (length > sizeof image)
+        length = sizeof image;
+    struct niulassenc_started got = load_image(image, length);
+    count(LOAD, got.code);
+    if (got.code == NIULASSENC_DONE)
+        *endpoint = got.endpoint;
+}
+
 int LLVMFuzzerTestOneInput(const uint8_t *data, size_t size);
 
 int LLVMFuzzerInitialize(int *count, char ***arguments);
@@ -484,7 +619,7 @@ int LLVMFuzzerTestOneInput(const uint8_t *data, size_t size)
         CHECK(niulassenc_add_binding(endpoint, i, NIULASSENC_NVGRE, 0x1016, i).code == NIULASSENC_DONE);
     }
     while (left > 0) {
-        uint32_t next = number(1) % 20;
+        uint32_t next = number(1) % 22;
         if (next == 0)
             start();
         else if (next == 1)
@@ -505,6 +640,10 @@ int LLVMFuzzerTestOneInput(const uint8_t *data, size_t size)
             owner();
         else if (next == 17)
             source();
+        else if (next == 18)
+            save();
+        else if (next == 19)
+            load();
         else
             watch();
         count_pending();
