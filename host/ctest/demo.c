@@ -1,6 +1,6 @@
 /*
  * The library from C: an endpoint that delivers a VXLAN frame and an STT frame in two segments, what refusals leave, frames that
- * its peer wraps and it unwraps, and what ticks free. It is C++ as well.
+ * its peer wraps and it unwraps, what ticks free, and its configuration saved and loaded. It is C++ as well.
  * Each step prints a line; host/ctest/run compares them with demo.expected. Whatever a line cannot show is asserted.
  */
 #undef NDEBUG
@@ -147,6 +147,39 @@ static void ticks(struct niulassenc_endpoint *endpoint, const uint8_t *packet, s
     }
 }
 
+/* Prints a save's answer. What is behind the image stays as it came: all of the output, where the call is refused. */
+static size_t save(const struct niulassenc_endpoint *endpoint, const char *what, uint8_t *out, size_t size)
+{
+    memset(out, 0xa5, size);
+    struct niulassenc_saving saved = niulassenc_save(endpoint, out, size);
+    if (saved.code == NIULASSENC_DONE)
+        printf("%s: %zu bytes\n", what, saved.length);
+    else
+        printf("%s: %d, %s\n", what, saved.code, niulassenc_text(saved.code));
+    assert(saved.code == NIULASSENC_DONE || saved.length == 0);
+    for (size_t i = saved.length; i < size; i++)
+        assert(out[i] == 0xa5);
+    return saved.length;
+}
+
+/* The configuration as a settings image, and an endpoint from it: the same, since no frame is pending here. */
+static void images(const struct niulassenc_endpoint *endpoint)
+{
+    static const uint8_t begin[19] = {'T', 'W', 'N', 0, 1, 10, 0, 0, 2, 0x1d, 0x2f, 0x05, 0xdc, 1, 10, 0, 0, 1, 2};
+    uint8_t image[NIULASSENC_IMAGE_BYTES], other[NIULASSENC_IMAGE_BYTES];
+    size_t length = save(endpoint, "save", image, sizeof image);
+
+    assert(length == sizeof begin + 2 * 12 && memcmp(image, begin, sizeof begin) == 0);
+    save(endpoint, "save into 42 bytes", other, 42);
+    struct niulassenc_started loaded = niulassenc_load(image, length);
+    printf("load: %s\n", niulassenc_text(loaded.code));
+    assert(memcmp(&loaded.endpoint, endpoint, ENDPOINT_BYTES) == 0);
+    loaded = niulassenc_load(image, length + 1);
+    printf("load with a byte behind the image: %d, %s\n", loaded.code, niulassenc_text(loaded.code));
+    assert(loaded.endpoint.own == 0 && loaded.endpoint.port == 0 && loaded.endpoint.peer_count == 0);
+    save(&loaded.endpoint, "save what was not loaded", other, 0);
+}
+
 /* A place that does not fit gives the empty part at the packet's start. */
 static void misfits(void)
 {
@@ -202,6 +235,7 @@ int main(void)
     refusals(&endpoint);
     wraps(&endpoint);
     ticks(&endpoint, second, second_length);
+    images(&endpoint);
     misfits();
     return 0;
 }

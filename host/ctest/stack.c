@@ -1,8 +1,9 @@
 /*
- * stack START OTHER: how much stack each call uses. Every case runs on a painted stack of its own; the deepest byte that
+ * stack START LOAD OTHER: how much stack each call uses. Every case runs on a painted stack of its own; the deepest byte that
  * lost its paint tells the use, so only bytes that are written are seen. Counted with it are the few bytes of the frame that
  * makes the call, the struct that the call gives back where the compiler keeps it there, and what the C library's memcpy and
- * memset take. Fails where a start, of an endpoint or of a detector, uses more than START bytes, or another call more than OTHER.
+ * memset take. Fails where a start, of an endpoint or of a detector, uses more than START bytes, a load more than LOAD, or another
+ * call more than OTHER.
  */
 #define _XOPEN_SOURCE 700
 #undef NDEBUG
@@ -88,6 +89,17 @@ static void cut(void)
     struct niulassenc_part_at at = niulassenc_cut(given.packet_length, given.memory_length, given.frame_length, 2, true);
 
     code = at.length == 2 ? NIULASSENC_DONE : NIULASSENC_OUT_OF_RANGE;
+}
+
+static void save(void)
+{
+    code = niulassenc_save(&endpoint, output, given.output_length).code;
+}
+
+/* The packet is the image. */
+static void load(void)
+{
+    code = niulassenc_load(given.packet, given.packet_length).code;
 }
 
 static void owner(void)
@@ -350,6 +362,57 @@ static void cuts(struct subject *subject)
     measure(subject, NIULASSENC_OUT_OF_RANGE);
 }
 
+/* The longest image, and the same from counts that no call would give. */
+static void saves(struct subject *subject)
+{
+    endpoint = full;
+    given.output_length = NIULASSENC_IMAGE_BYTES;
+    measure(subject, NIULASSENC_DONE);
+    given.output_length--;
+    measure(subject, NIULASSENC_OUTPUT_TOO_SHORT);
+    endpoint.peer_count = endpoint.binding_count = UINT16_MAX;
+    measure(subject, NIULASSENC_OUTPUT_TOO_SHORT);
+    given.output_length = sizeof output;
+    measure(subject, NIULASSENC_DONE);
+    endpoint.port = 0;
+    measure(subject, NIULASSENC_OUT_OF_RANGE);
+}
+
+/* Loads the full configuration's image with one byte changed. */
+static void damaged_image(struct subject *subject, size_t at, uint8_t change)
+{
+    given.packet[at] ^= change;
+    measure(subject, NIULASSENC_BAD_IMAGE);
+    given.packet[at] ^= change;
+}
+
+/* Of a long list the last is wrong: all before it is listed by then. */
+static void loads(struct subject *subject)
+{
+    enum { LAST_PEER = 14 + 4 * 7, BINDING_COUNT = 46, LAST_BINDING = 47 + 12 * 63 };
+
+    given.packet_length = niulassenc_save(&full, given.packet, sizeof given.packet).length;
+    assert(given.packet_length == NIULASSENC_IMAGE_BYTES);
+    measure(subject, NIULASSENC_DONE);
+    damaged_image(subject, 0, 1);                              /* letters */
+    damaged_image(subject, 4, 2);                              /* version */
+    damaged_image(subject, 5, 0x0a ^ 0xe0);                    /* own address */
+    damaged_image(subject, 11, 0x80);                          /* MTU */
+    damaged_image(subject, 13, 1);                             /* 9 peers */
+    damaged_image(subject, LAST_PEER + 3, (OWN ^ PEER) & 255); /* our address */
+    damaged_image(subject, BINDING_COUNT, 1);                  /* 65 bindings */
+    damaged_image(subject, LAST_BINDING, 8);                   /* owner */
+    damaged_image(subject, LAST_BINDING + 1, NIULASSENC_STT);  /* kind */
+    put16(given.packet + LAST_BINDING + 8, 1000 + 55);         /* binding 55 again */
+    measure(subject, NIULASSENC_BAD_IMAGE);
+    given.packet_length--;
+    measure(subject, NIULASSENC_BAD_IMAGE);
+    given.packet_length += 2;
+    measure(subject, NIULASSENC_BAD_IMAGE);
+    given.packet_length = 0;
+    measure(subject, NIULASSENC_BAD_IMAGE);
+}
+
 static void owners(struct subject *subject)
 {
     endpoint = full;
@@ -412,6 +475,8 @@ int main(int count, char **arguments)
         {"receive", receive, receives, 0, 0},
         {"tick", tick, ticks, 0, 0},
         {"wrap", wrap, wraps, 0, 0},
+        {"save", save, saves, 0, 0},
+        {"load", load, loads, 0, 0},
         {"cut", cut, cuts, 0, 0},
         {"owner", owner, owners, 0, 0},
         {"source", source, sources, 0, 0},
@@ -421,12 +486,13 @@ int main(int count, char **arguments)
     };
     bool kept = true;
 
-    if (count != 3) {
-        fprintf(stderr, "usage: stack START OTHER\n");
+    if (count != 4) {
+        fprintf(stderr, "usage: stack START LOAD OTHER\n");
         return 2;
     }
     size_t of_start = strtoul(arguments[1], NULL, 10);
-    size_t of_others = strtoul(arguments[2], NULL, 10);
+    size_t of_load = strtoul(arguments[2], NULL, 10);
+    size_t of_others = strtoul(arguments[3], NULL, 10);
     for (size_t i = 0; i < sizeof inner; i++)
         inner[i] = (uint8_t)i;
     put16(inner + 12, 0x88b5);
@@ -436,7 +502,7 @@ int main(int count, char **arguments)
     for (size_t i = 0; i < sizeof subjects / sizeof *subjects; i++) {
         bool starts_something = subjects[i].call == start || subjects[i].call == detector_start;
         subjects[i].cases(&subjects[i]);
-        kept = within(&subjects[i], starts_something ? of_start : of_others) && kept;
+        kept = within(&subjects[i], starts_something ? of_start : subjects[i].call == load ? of_load : of_others) && kept;
     }
     return kept ? 0 : 1;
 }
