@@ -567,10 +567,16 @@ static void load(void)
     uint32_t which = number(1);
     size_t length = which & 1 ? bytes(image, number(2) % sizeof image) : image_of(image);
 
-    if (which & 2) /* behind the letters and the version, if they are there */
+    if (which & 2) /* any bytes, but for the letters and the version */
         memcpy(image, "TWN\0\1", 5);
-    for (uint32_t changes = which >> 5; changes > 0; changes--)
-        image[number(2) % (length + 1)] = (uint8_t)number(1);
+    if ((which & 17) == 16) { /* without bindings: a wrong peer mostly leaves some binding without its peer, and that hides it */
+        length = 15 + 4u * image[13];
+        image[length - 1] = 0;
+    }
+    for (uint32_t changes = which >> 5; changes > 0; changes--) {
+        size_t at = number(2) % (length + 1);
+        image[at] += (uint8_t)number(1);
+    }
     if (which & 4)
         length = number(2) % (length + 1);
     if (which & 8)
