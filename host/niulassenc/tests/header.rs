@@ -1,6 +1,7 @@
 //! C's header and this crate say the same: version, limits, the names, numbers
-//! and texts of the codes and of what a detector answers. `header.c` tells what
-//! the header has. The programs in Rattle have the same texts.
+//! and texts of the codes and of what a detector answers; the functions, and the
+//! layout of each struct. `header.c` tells what the header has. The programs in
+//! Rattle have the same texts.
 
 use niulassenc::{limits, numbers, observed_text, text, Observed, Refusal, VERSION};
 use std::fmt::{Debug, Write};
@@ -145,6 +146,65 @@ fn nothing_of_the_header_is_left_out() {
     for name in limits {
         assert!(program.contains(&format!("LIMIT({name});")), "{name}");
     }
+}
+
+/// The names of the library's functions in some lines: the last word before a
+/// parenthesis.
+fn functions<'a>(lines: impl Iterator<Item = &'a str>) -> Vec<&'a str> {
+    let words = lines.filter_map(|line| line.split_once('(')?.0.split(' ').next_back());
+    let mut names: Vec<&str> = words
+        .filter(|name| name.starts_with("niulassenc_"))
+        .collect();
+    names.sort_unstable();
+    names
+}
+
+/// What `ffi.rs` asserts of each struct, a line for each fact: its size, and where
+/// each field is.
+fn layouts_of_the_crate(source: &str) -> Vec<String> {
+    let mut facts = Vec::new();
+    for layout in source.split("\nlayout!(").skip(1) {
+        let (layout, _) = layout.split_once(");").expect("its end");
+        let (name, rest) = layout.split_once(": ").expect("a name");
+        let name = name_in_c(format_args!("{name}")).to_lowercase();
+        let (size, fields) = rest.split_once("; ").expect("size and alignment");
+        let (size, _) = size.split_once(", ").expect("a size");
+        facts.push(format!("{name} {size}"));
+        let fields = fields.split(',').map(str::trim);
+        facts.extend(fields.map(|field| format!("{name} {field}")));
+    }
+    facts.sort_unstable();
+    facts
+}
+
+/// The same of the header.
+fn layouts_of_the_header(source: &str) -> Vec<String> {
+    let mut facts = Vec::new();
+    for line in source.lines() {
+        let asserted = line.strip_prefix("NIULASSENC_SIZE(niulassenc_");
+        let asserted = asserted.or_else(|| line.strip_prefix("NIULASSENC_AT(niulassenc_"));
+        facts.extend(asserted.map(|fact| fact.trim_end_matches(");").replace(',', "")));
+    }
+    facts.sort_unstable();
+    facts
+}
+
+#[test]
+fn the_same_functions_and_structs() {
+    let folder = Path::new(env!("CARGO_MANIFEST_DIR"));
+    let header = std::fs::read_to_string(folder.join("../../include/niulassenc.h")).expect("there");
+    let ffi = std::fs::read_to_string(folder.join("src/ffi.rs")).expect("there");
+    // A prototype begins its line; what a function's body or a comment names does not.
+    let outside = header
+        .lines()
+        .filter(|line| line.starts_with(char::is_alphabetic));
+    let declared = functions(outside.filter(|line| !line.starts_with("static")));
+    let bound = functions(ffi.lines());
+    assert!(declared.contains(&"niulassenc_save") && declared.contains(&"niulassenc_load"));
+    assert_eq!(declared, bound);
+    let layouts = layouts_of_the_header(&header);
+    assert!(layouts.contains(&"saving code 8".to_owned()));
+    assert_eq!(layouts, layouts_of_the_crate(&ffi));
 }
 
 /// The programs in Rattle print the same text for each code, and for a number
