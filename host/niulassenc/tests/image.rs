@@ -215,6 +215,8 @@ fn bad_images() {
         ),
     ] {
         assert_eq!(Endpoint::load(&image), Err(Refusal::BadImage), "{why}");
+        let refused = (numbers::Endpoint::start(0, 0, 0).0, 24); // every number 0
+        assert_eq!(numbers::Endpoint::load(&image), refused, "{why}");
     }
     let text = Refusal::BadImage.to_string();
     assert_eq!(text, "not a good settings image (24)");
