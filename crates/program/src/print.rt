@@ -62,15 +62,16 @@ fn tunnel_answer(code: u8) {
     }
 }
 
-// What is wrong with a setting, or with what is to be wrapped.
+// What is wrong with a setting, with what is to be wrapped or saved, or with a settings image.
 fn call_answer(code: u8) {
     match code {
         18 => text(b"setting or binding out of range"),
         19 => text(b"already listed"),
         20 => text(b"no room for another peer or binding"),
-        21 => text(b"output too short for the packet"),
+        21 => text(b"output too short"),
         22 => text(b"packet would exceed the MTU"),
         23 => text(b"no such binding or segment"),
+        24 => text(b"not a good settings image"),
         _ => text(b"unknown code"),
     }
 }
