@@ -7,10 +7,11 @@ use detector::detector::Detector;
 use endpoint::answer::Place;
 use endpoint::config;
 use endpoint::config::Endpoint;
+use image::answer::Loaded;
 use program::number::fill;
 use program::print::text;
 
-// What every byte of an output is before a wrap.
+// What every byte of an output is before a wrap or a save.
 const UNWRITTEN: u8 = 0xAA;
 
 // The bytes in front of the frame in a wrap's payload: binding, segment, identifier and the output's length.
@@ -55,6 +56,13 @@ fn with(state: State, e: Endpoint) -> State {
     next
 }
 
+// With an endpoint in place of the run's, and the empty detector that starts with it.
+fn restarted(state: State, e: Endpoint) -> State {
+    let mut next = with(state, e);
+    next.detector = detector::detector::start();
+    next
+}
+
 // A refused start empties the detector too.
 fn start(state: State, f: &[u8]) -> State {
     let own = number::low32(number::at(f, 0, 4));
@@ -64,9 +72,7 @@ fn start(state: State, f: &[u8]) -> State {
     let answer = made.answer;
     line::started(answer);
     let e = made.endpoint;
-    let mut next = with(state, e);
-    next.detector = detector::detector::start();
-    next
+    restarted(state, e)
 }
 
 fn add_peer(state: State, f: &[u8]) -> State {
@@ -213,7 +219,55 @@ fn observe(state: State, f: &[u8]) -> State {
     next
 }
 
-// Every call but a receive and a wrap.
+fn save_in(e: Endpoint, output: &mut [u8]) {
+    number::fill_same(output, UNWRITTEN);
+    let answer = image::save::save(e, output);
+    line::saved(answer, output);
+}
+
+fn save_to(state: State, f: &[u8], output: &mut [u8]) -> State {
+    let room = number::low16(number::at(f, 0, 2)) as usize;
+    if output.len() < room {
+        return broken(state);
+    }
+    save_in(state.endpoint, &mut output[..room]);
+    state
+}
+
+fn save(state: State, f: &[u8]) -> State {
+    let mut output = [0u8; PAYLOAD_MAX];
+    save_to(state, f, &mut output)
+}
+
+// A refused load leaves endpoint and detector as they are.
+fn load_in(state: State, bytes: &[u8]) -> State {
+    let made = image::load::load(bytes);
+    let answer = made.answer;
+    let e = made.endpoint;
+    line::loaded(answer, e);
+    match answer {
+        Loaded::Done => restarted(state, e),
+        Loaded::BadImage => state,
+    }
+}
+
+fn load_read(state: State, length: usize, payload: &mut [u8]) -> State {
+    if !record::read_packet(length, payload) {
+        return broken(state);
+    }
+    if payload.len() < length {
+        return broken(state);
+    }
+    load_in(state, &payload[..length])
+}
+
+// As a wrap's payload, the image is read to a place of its own.
+pub(crate) fn load(state: State, length: usize) -> State {
+    let mut payload = [0u8; PAYLOAD_MAX];
+    load_read(state, length, &mut payload)
+}
+
+// Every call but a receive, a wrap and a load.
 pub(crate) fn other(state: State, op: u8, f: &[u8], packet: &mut [u8], memory: &mut [u8]) -> State {
     match op {
         record::START => start(state, f),
@@ -223,6 +277,7 @@ pub(crate) fn other(state: State, op: u8, f: &[u8], packet: &mut [u8], memory: &
         record::TICK => tick(state),
         record::VIEW => view(state, f, packet, memory),
         record::OBSERVE => observe(state, f),
+        record::SAVE => save(state, f),
         _ => broken(state),
     }
 }

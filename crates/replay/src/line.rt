@@ -1,5 +1,6 @@
 // The lines of the answers (host/README.md, "The files").
 use crate::hash::detector_hash;
+use crate::hash::endpoint_hash;
 use detector::detector::Detector;
 use detector::number::DUPLICATE;
 use detector::number::NONE;
@@ -12,6 +13,9 @@ use endpoint::answer::Target;
 use endpoint::answer::Tick;
 use endpoint::answer::Wrapped;
 use endpoint::code;
+use endpoint::config::Endpoint;
+use image::answer::Loaded;
+use image::answer::Saved;
 use program::number::hash;
 use program::print::decimal;
 use program::print::text;
@@ -180,5 +184,31 @@ pub(crate) fn observed(seen: Observation, d: Detector) {
     first_peer(seen);
     text(b" ");
     decimal(detector_hash(d));
+    text(b"\n");
+}
+
+// A refusal carries the length 0.
+pub(crate) fn saved(answer: Saved, output: &[u8]) {
+    text(b"save ");
+    match answer {
+        Saved::Refused(r) => {
+            decimal(image::code::save_code(r) as u64);
+            text(b" 0");
+        }
+        Saved::Written(length) => {
+            text(b"0 ");
+            decimal(length as u64);
+        }
+    }
+    text(b" ");
+    decimal(hash(0, output));
+    text(b"\n");
+}
+
+pub(crate) fn loaded(answer: Loaded, e: Endpoint) {
+    text(b"load ");
+    decimal(image::code::load_code(answer) as u64);
+    text(b" ");
+    decimal(endpoint_hash(e));
     text(b"\n");
 }

@@ -26,6 +26,9 @@ fn turn(state: State, memory: &mut [u8], packet: &mut [u8]) -> State {
             if op == record::WRAP {
                 return call::wrap(state, length);
             }
+            if op == record::LOAD {
+                return call::load(state, length);
+            }
             let mut fields = [0u8; FIELDS_MAX];
             if !record::read_fields(op, length, &mut fields) {
                 return call::broken(state);

@@ -21,7 +21,11 @@ pub(crate) const WRAP: u8 = 8;
 
 pub(crate) const OBSERVE: u8 = 9;
 
-// The longest payload, and the longest one that is neither a packet nor a frame.
+pub(crate) const SAVE: u8 = 10;
+
+pub(crate) const LOAD: u8 = 11;
+
+// The longest payload, and the longest one that is neither a packet, a frame nor an image.
 pub(crate) const PAYLOAD_MAX: usize = 2000;
 
 pub(crate) const FIELDS_MAX: usize = 17;
@@ -49,7 +53,7 @@ pub(crate) fn read_head(bytes: &mut [u8]) -> Head {
     Head::Record(low8(op), number::low16(length) as usize)
 }
 
-// The length of a payload that is neither a packet nor a frame. An op that has none gives one that no record tells.
+// The length of a payload that is neither a packet, a frame nor an image. An op that has none gives one that no record tells.
 fn fields_length(op: u8) -> usize {
     match op {
         START => 8,
@@ -59,6 +63,7 @@ fn fields_length(op: u8) -> usize {
         TICK => 0,
         VIEW => FIELDS_MAX,
         OBSERVE => 12,
+        SAVE => 2,
         _ => 65536,
     }
 }
@@ -75,7 +80,7 @@ pub(crate) fn read_fields(op: u8, length: usize, out: &mut [u8]) -> bool {
     n == length
 }
 
-// Reads a packet; false where there is no room for it or the input ends.
+// Reads a packet, or another payload of any length; false where there is no room for it or the input ends.
 pub(crate) fn read_packet(length: usize, out: &mut [u8]) -> bool {
     if out.len() < length {
         return false;
