@@ -14,6 +14,7 @@ pub mod Stt
 pub mod Frame
 pub mod Carriage
 pub mod Table
+pub mod Offset
 pub mod Write
 pub mod WriteIs
 pub mod Refusal

@@ -12,6 +12,7 @@ pub mod Stt
 pub mod Frame
 pub mod Carriage
 pub mod Table
+pub mod Offset
 pub mod Write
 pub mod Layout
 pub mod Laws

@@ -30,7 +30,7 @@ pub record IsNvgre (vsid : ℕ) (frame payload : List ℕ) : Type 0 where
 
 -- ---- need not be believed: what the reader answers
 
--- The checks 9 and 11 of document 01, in their order.
+-- 9 of document 01, then 26 and 27 (document 02, §4), byte by byte.
 unfoldable pub nvgreChecks : List ℕ → List (Check Refusal)
 nvgreChecks s =
     (ltb (length s) 8 ⇒ R.Short)

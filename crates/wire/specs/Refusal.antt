@@ -1,39 +1,61 @@
--- The numbers of document 01's table for the causes that a format knows.
-use Prim.Native.Nat.{ℕ}
+-- What an answer tells (documents 01 and 02), and that of each cause that a format knows.
+use Prim.Native.Nat.{ℕ, _+_}
 use Rattle.wire.specs.declared.refusal.Refusal.{Refusal}
 use Rattle.wire.specs.declared.refusal.Refusal.the-variants as R
 
--- ---- need not be believed: a number for each cause
+-- the number of an answer, and the offset of the first offending byte, in the packet or in the STT frame (02 §4); 0 where no byte is named
+pub record Finding : Type 0 where
+  pub number : ℕ
+  pub offset : ℕ
 
-unfoldable pub codeOf : Refusal → ℕ
+infix 25 _atByte_
+abbrev pub _atByte_ : ℕ → ℕ → Finding
+n atByte i = record { number = n; offset = i }
+
+-- a number alone
+-- Open: only data
+abbrev pub only : ℕ → Finding
+only n = n atByte 0
+
+-- ---- need not be believed: number and offset for each cause. In the packet, its IP payload begins at `start`
+
+unfoldable pub findingOf : (start : ℕ) → Refusal → Finding
 -- 3: under 20 bytes; version not 4; header length under 5 words; total length below the header or above the bytes given
-codeOf R.Truncated = 3
-codeOf R.Version = 3
-codeOf R.HeaderLength = 3
-codeOf R.TotalLength = 3
+findingOf start R.Truncated = only 3
+findingOf start R.Version = only 3
+findingOf start R.HeaderLength = only 3
+findingOf start R.TotalLength = only 3
 -- 4: IPv4 header checksum wrong
-codeOf R.HeaderChecksum = 4
+findingOf start R.HeaderChecksum = only 4
 -- 5: more-fragments bit set or fragment offset not 0
-codeOf R.Fragment = 5
+findingOf start R.Fragment = only 5
 -- 8: protocol not 17, 6 or 47; or destination port not the tunnel's
-codeOf R.Protocol = 8
-codeOf R.Port = 8
+findingOf start R.Protocol = only 8
+findingOf start R.Port = only 8
 -- 9: carriage header broken
-codeOf R.Short = 9
-codeOf R.UdpLength = 9
-codeOf R.TcpLength = 9
-codeOf R.DataOffset = 9
+findingOf start R.Short = only 9
+findingOf start R.UdpLength = only 9
+findingOf start R.TcpLength = only 9
+findingOf start R.DataOffset = only 9
 -- 10: UDP checksum non-zero and wrong, or TCP checksum wrong
-codeOf R.UdpChecksum = 10
-codeOf R.TcpChecksum = 10
--- 11: tunnel header wrong
-codeOf R.VxlanFlag = 11
-codeOf R.GreFlags = 11
-codeOf R.GreVersion = 11
-codeOf R.GreTypeHigh = 11
-codeOf R.GreTypeLow = 11
-codeOf R.SttVersion = 11
-codeOf R.SttFlags = 11
+findingOf start R.UdpChecksum = only 10
+findingOf start R.TcpChecksum = only 10
+-- 25: VXLAN flag missing, behind 8 bytes of UDP
+findingOf start R.VxlanFlag = 25 atByte (start + 8)
+-- 26: first two bytes of GRE wrong
+findingOf start R.GreFlags = 26 atByte start
+findingOf start R.GreVersion = 26 atByte (start + 1)
+-- 27: GRE protocol type wrong
+findingOf start R.GreTypeHigh = 27 atByte (start + 2)
+findingOf start R.GreTypeLow = 27 atByte (start + 3)
+-- 28: STT version; 29: STT flags both set; in the STT frame
+findingOf start R.SttVersion = 28 atByte 0
+findingOf start R.SttFlags = 29 atByte 1
 -- 13: inner frame breaks its rule
-codeOf R.FrameLength = 13
-codeOf R.FrameTag = 13
+findingOf start R.FrameLength = only 13
+findingOf start R.FrameTag = only 13
+
+-- the number, wherever the payload begins
+-- Open: a field of what is shut
+abbrev pub codeOf : Refusal → ℕ
+codeOf r = findingOf 0 r .number

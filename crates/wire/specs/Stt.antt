@@ -41,7 +41,7 @@ pub record IsStt (context : ℕ) (frame whole : List ℕ) : Type 0 where
 
 -- ---- need not be believed: what the reader answers, and its statement
 
--- The check 11 of document 01. A complete frame has at least 32 bytes.
+-- 28 and 29 (document 02, §4). A complete frame has at least 32 bytes.
 unfoldable pub sttChecks : List ℕ → List (Check Refusal)
 sttChecks s =
     (ltb (length s) 18 ⇒ R.Short)

@@ -32,7 +32,7 @@ pub record IsVxlan (vni : ℕ) (frame payload : List ℕ) : Type 0 where
 abbrev pub vniAt : List ℕ → ℕ
 vniAt s = beAt s 4 3
 
--- The check 11 of document 01. What UDP carries has at least 8 bytes.
+-- 25 (document 02, §4). What UDP carries has at least 8 bytes.
 unfoldable pub vxlanChecks : List ℕ → List (Check Refusal)
 vxlanChecks s =
     (ltb (length s) 8 ⇒ R.Short)

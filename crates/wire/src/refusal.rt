@@ -1,7 +1,7 @@
 // Why a packet or a frame is not what a format asks for, as fine as the causes are.
-// `codeOf` of specs/Refusal.antt gives each its number of document 01's table.
+// `findingOf` of specs/Refusal.antt gives each its number of the documents' table, and the byte that it names.
 ghost use mathlib.Core.Path.{_≡_};
-ghost use Rattle.wire.specs.Refusal.{codeOf};
+ghost use Rattle.wire.specs.Refusal.{codeOf, findingOf};
 
 pub enum Refusal {
     // IPv4
@@ -33,7 +33,7 @@ pub enum Refusal {
     FrameTag,
 }
 
-// The number of document 01's table.
+// The number of the documents' table.
 pub fn code(r: Refusal) -> u8
     ensures { λ n. ⌜ n ≡ codeOf r ⌝ }
 {
@@ -52,14 +52,46 @@ pub fn code(r: Refusal) -> u8
         Refusal::DataOffset => 9,
         Refusal::UdpChecksum => 10,
         Refusal::TcpChecksum => 10,
-        Refusal::VxlanFlag => 11,
-        Refusal::GreFlags => 11,
-        Refusal::GreVersion => 11,
-        Refusal::GreTypeHigh => 11,
-        Refusal::GreTypeLow => 11,
-        Refusal::SttVersion => 11,
-        Refusal::SttFlags => 11,
+        Refusal::VxlanFlag => 25,
+        Refusal::GreFlags => 26,
+        Refusal::GreVersion => 26,
+        Refusal::GreTypeHigh => 27,
+        Refusal::GreTypeLow => 27,
+        Refusal::SttVersion => 28,
+        Refusal::SttFlags => 29,
         Refusal::FrameLength => 13,
         Refusal::FrameTag => 13,
+    }
+}
+
+// The offset of the first offending byte: in the packet, whose IP payload begins at `start`, or in the STT frame. 0 where the answer names no byte.
+pub fn offset(start: u8, r: Refusal) -> u16
+    ensures { λ n. ⌜ n ≡ findingOf start r .offset ⌝ }
+{
+    let at = start as u16;
+    match r {
+        Refusal::Truncated => 0,
+        Refusal::Version => 0,
+        Refusal::HeaderLength => 0,
+        Refusal::TotalLength => 0,
+        Refusal::HeaderChecksum => 0,
+        Refusal::Fragment => 0,
+        Refusal::Protocol => 0,
+        Refusal::Port => 0,
+        Refusal::Short => 0,
+        Refusal::UdpLength => 0,
+        Refusal::TcpLength => 0,
+        Refusal::DataOffset => 0,
+        Refusal::UdpChecksum => 0,
+        Refusal::TcpChecksum => 0,
+        Refusal::VxlanFlag => at + 8,
+        Refusal::GreFlags => at,
+        Refusal::GreVersion => at + 1,
+        Refusal::GreTypeHigh => at + 2,
+        Refusal::GreTypeLow => at + 3,
+        Refusal::SttVersion => 0,
+        Refusal::SttFlags => 1,
+        Refusal::FrameLength => 0,
+        Refusal::FrameTag => 0,
     }
 }

@@ -1,6 +1,6 @@
 -- Laws of ordered checks.
 use mathlib.Core.Path.{_≡_, refl}
-use mathlib.Core.Bool.{Bool, true, false, not}
+use mathlib.Core.Bool.{Bool, true, false, not, _||_}
 use Prim.Native.Nat.{ℕ, zero, suc}
 use lib.Dec.{eqb}
 use borrow.Author.Tests.{ltb-true, ltb-false, leb-true, leb-false, eqb-true, eq-eqb, not-false, lt-ltb, le-ltb, le-leb, lt-leb, ne-eqb}
@@ -88,6 +88,18 @@ unfolding first
 decided refused [] accepted n p = refl
 decided refused ((test ⇒ r) ∷ checks) accepted zero p = rw p
 decided refused ((test ⇒ r) ∷ checks) accepted (suc n) p = rw (p .0) (decided refused checks accepted n (p .1))
+
+-- no cause of several
+pub neither : (a b : Bool) → a ≡ false → b ≡ false → (a || b) ≡ false
+neither a b p q = rw (p, q)
+
+pub or-false-l : (a b : Bool) → (a || b) ≡ false → a ≡ false
+or-false-l true b e = e
+or-false-l false b e = refl
+
+pub or-false-r : (a b : Bool) → (a || b) ≡ false → b ≡ false
+or-false-r true b e = cc
+or-false-r false b e = e
 
 -- a check for a number other than the one that is asked for
 pub is-not : (a b : ℕ) → a ≡ b → not (eqb a b) ≡ false

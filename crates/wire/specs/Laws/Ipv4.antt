@@ -199,6 +199,14 @@ ipv4-bounds s h eq =
     let e : ipv4At s ≡ h = cc (p .1) in
     rw (← e) (omega (arith, tests), omega (arith, tests))
 
+-- fifteen words at most
+pub ipv4-start : (s : List ℕ) (h : Ipv4) → ipv4Of s ≡ I.Packet h → h .start ≤ 60
+unfolding ipv4Of ipv4At
+ipv4-start s h eq =
+    let p = passed I.Refused (ipv4Checks s) (I.Packet (ipv4At s)) (I.Packet h) (λ r e. let z : _≡_ {A = ℕ} 0 1 = cc in omega arith) eq in
+    let e : ipv4At s ≡ h = cc (p .1) in
+    rw (← e) (omega arith)
+
 -- ---- what the code cites: its exit number n, and what it accepts
 
 pub ipv4-exit : (s : List ℕ) (n : ℕ) → At (ipv4Checks s) n → ipv4Of s ≡ given I.Refused (ipv4Checks s) (I.Packet (ipv4At s)) n

@@ -1,6 +1,6 @@
 -- `wire::refusal::code` meets its contract.
 use mathlib.Core.Path.{sym, ap}
-use Rattle.wire.specs.Refusal.{codeOf}
+use Rattle.wire.specs.Refusal.{codeOf, findingOf}
 use borrow.Author.Needs.{needs}
 use Rattle.wire.proofs.refusal.code.Statement.{statement}
 use Rattle.wire.proofs.refusal.code.Tie as tie
@@ -75,95 +75,95 @@ enum-told-23 : tie.Need-enum-told-23
 enum-told-23 c = search needs
 
 returns : tie.Need-returns
-unfolding codeOf
+unfolding findingOf
 returns c = sym (ap codeOf (c .enum-told .given .1))
 
 returns-2 : tie.Need-returns-2
-unfolding codeOf
+unfolding findingOf
 returns-2 c = sym (ap codeOf (c .enum-told2 .given .1))
 
 returns-3 : tie.Need-returns-3
-unfolding codeOf
+unfolding findingOf
 returns-3 c = sym (ap codeOf (c .enum-told3 .given .1))
 
 returns-4 : tie.Need-returns-4
-unfolding codeOf
+unfolding findingOf
 returns-4 c = sym (ap codeOf (c .enum-told4 .given .1))
 
 returns-5 : tie.Need-returns-5
-unfolding codeOf
+unfolding findingOf
 returns-5 c = sym (ap codeOf (c .enum-told5 .given .1))
 
 returns-6 : tie.Need-returns-6
-unfolding codeOf
+unfolding findingOf
 returns-6 c = sym (ap codeOf (c .enum-told6 .given .1))
 
 returns-7 : tie.Need-returns-7
-unfolding codeOf
+unfolding findingOf
 returns-7 c = sym (ap codeOf (c .enum-told7 .given .1))
 
 returns-8 : tie.Need-returns-8
-unfolding codeOf
+unfolding findingOf
 returns-8 c = sym (ap codeOf (c .enum-told8 .given .1))
 
 returns-9 : tie.Need-returns-9
-unfolding codeOf
+unfolding findingOf
 returns-9 c = sym (ap codeOf (c .enum-told9 .given .1))
 
 returns-10 : tie.Need-returns-10
-unfolding codeOf
+unfolding findingOf
 returns-10 c = sym (ap codeOf (c .enum-told10 .given .1))
 
 returns-11 : tie.Need-returns-11
-unfolding codeOf
+unfolding findingOf
 returns-11 c = sym (ap codeOf (c .enum-told11 .given .1))
 
 returns-12 : tie.Need-returns-12
-unfolding codeOf
+unfolding findingOf
 returns-12 c = sym (ap codeOf (c .enum-told12 .given .1))
 
 returns-13 : tie.Need-returns-13
-unfolding codeOf
+unfolding findingOf
 returns-13 c = sym (ap codeOf (c .enum-told13 .given .1))
 
 returns-14 : tie.Need-returns-14
-unfolding codeOf
+unfolding findingOf
 returns-14 c = sym (ap codeOf (c .enum-told14 .given .1))
 
 returns-15 : tie.Need-returns-15
-unfolding codeOf
+unfolding findingOf
 returns-15 c = sym (ap codeOf (c .enum-told15 .given .1))
 
 returns-16 : tie.Need-returns-16
-unfolding codeOf
+unfolding findingOf
 returns-16 c = sym (ap codeOf (c .enum-told16 .given .1))
 
 returns-17 : tie.Need-returns-17
-unfolding codeOf
+unfolding findingOf
 returns-17 c = sym (ap codeOf (c .enum-told17 .given .1))
 
 returns-18 : tie.Need-returns-18
-unfolding codeOf
+unfolding findingOf
 returns-18 c = sym (ap codeOf (c .enum-told18 .given .1))
 
 returns-19 : tie.Need-returns-19
-unfolding codeOf
+unfolding findingOf
 returns-19 c = sym (ap codeOf (c .enum-told19 .given .1))
 
 returns-20 : tie.Need-returns-20
-unfolding codeOf
+unfolding findingOf
 returns-20 c = sym (ap codeOf (c .enum-told20 .given .1))
 
 returns-21 : tie.Need-returns-21
-unfolding codeOf
+unfolding findingOf
 returns-21 c = sym (ap codeOf (c .enum-told21 .given .1))
 
 returns-22 : tie.Need-returns-22
-unfolding codeOf
+unfolding findingOf
 returns-22 c = sym (ap codeOf (c .enum-told22 .given .1))
 
 returns-23 : tie.Need-returns-23
-unfolding codeOf
+unfolding findingOf
 returns-23 c = sym (ap codeOf (c .enum-told23 .given .1))
 
 pub code-spec : {M : Type 1} → statement M
