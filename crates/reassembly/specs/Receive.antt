@@ -31,7 +31,7 @@ viewOf packet m a = cond (a .inMemory) (partOfSlice m (a .start) (a .len)) (part
 
 -- what a receive answers, as far as the theory of runs looks: what a refusal and a delivery carry is the user's
 pub record Answers : Type 1 where
-  -- an answer; what a bad frame's verdict carries (11 to 13); what a good one's does (tenant, binding)
+  -- an answer; what a bad frame's verdict carries (28, 29, 12, 13); what a good one's does (tenant, binding)
   pub A : Type 0
   pub Bad : Type 0
   pub Good : Type 0
@@ -78,7 +78,7 @@ module _ (W : Answers) where
   abbrev pub bare : W .A → Answer
   bare a = record { reply = a; bytes = [] }
 
-  -- what checks 11 to 13 say of a complete frame
+  -- what the checks of a complete frame (28, 29, 12, 13) say of it
   pub data Verdict : Type 0 where
     bad : W .Bad → Verdict
     good : W .Good → Verdict

@@ -14,7 +14,7 @@ use Rattle.reassembly.specs.Store.{bytesOf, takeIn}
 use Rattle.reassembly.specs.Receive.{nowhere, rowOf, viewOf, Answers, Answer, Verdict, Reading, otherSender, direct, segment, Event, receive, tick}
 use Rattle.reassembly.specs.Receive.{takeAnswer}
 
--- what reads a configuration: what a packet is taken for; what checks 11 to 13 say of a complete frame from this peer, of whose segments this was noted;
+-- what reads a configuration: what a packet is taken for; what 28, 29, 12 and 13 say of a complete frame from this peer, of whose segments this was noted;
 -- and the peer whose packet it is: it passes checks 3 to 6 and its source is that peer
 pub record Layers (W : Answers) (Config : Type 0) : Type 0 where
   pub header : Config → List ℕ → Reading W

@@ -1,15 +1,15 @@
 -- DOCUMENT 01's TABLE ("The numbered answers"), the rows of an STT segment: 14, then 15 and 16 if a frame with its identifier is pending, otherwise 17; then 1.
 -- A condition speaks of the peer's four slots, the memory before the call and the segment.
 -- The endpoint's page (crate endpoint, specs/Table.antt) joins these rows with its own.
--- `Table` is THE STATEMENT: the number of what taking gives is that of the first row that applies, and where none does, the frame is complete and has
+-- `Table` is THE STATEMENT: what taking gives is told by the first row that applies, and where none does, the frame is complete and has
 -- the bytes named here. Laws/Table.antt proves it (`reassembly-table`).
 use Prim.Native.Nat.{ℕ, _+_, _-_, _*_, _/_, _%_, _^_, _<_, _≤_}
 use mathlib.Core.Path.{_≡_}
 use mathlib.Core.Bool.{Bool, not, cond, _&&_, _||_}
 use mathlib.Core.List.{List, [], _∷_}
 use lib.ListN.{length, getD}
-use Rattle.wire.specs.Checks.{_⇒_}
-use Rattle.wire.specs.Table.{Rows, _otherwise_, _is_, _isnt_, _below_, _above_, _atLeast_}
+use Rattle.wire.specs.Refusal.{Finding, only}
+use Rattle.wire.specs.Table.{Rows, _⇒_, _otherwise_, _is_, _isnt_, _below_, _above_, _atLeast_}
 use Rattle.reassembly.specs.Base.{someBelow, allBelow, table}
 use Rattle.lookup.specs.Search.{lowest, found}
 use Rattle.reassembly.specs.Slots.{Slot, Peer, free}
@@ -59,14 +59,14 @@ module _ (peer : ℕ) (row : Peer) (memory : List ℕ) (g : Seg) where
 
 -- ---- need not be believed: THE STATEMENT of taking, and its words
 
--- the number of what taking gave: a rejection's, 1 of a pending frame, and what is made of a complete one, by its bytes in the memory
-unfoldable pub takenNumber : (List ℕ → ℕ) → (peer : ℕ) → Seg → Effect bytesOf → Outcome → ℕ
-takenNumber f peer g o (Rejected r) = rejectionCode r
-takenNumber f peer g o Pending = 1
-takenNumber f peer g o (Complete s) = f (frameIn bytesOf (o .mem) (slotNo peer s) (g .frame-length))
-takenNumber f peer g o NoMemory = 2
+-- what taking tells: a rejection's number, 1 of a pending frame, and what is made of a complete one, by its bytes in the memory
+unfoldable pub takenTells : (List ℕ → Finding) → (peer : ℕ) → Seg → Effect bytesOf → Outcome → Finding
+takenTells f peer g o (Rejected r) = only (rejectionCode r)
+takenTells f peer g o Pending = only 1
+takenTells f peer g o (Complete s) = f (frameIn bytesOf (o .mem) (slotNo peer s) (g .frame-length))
+takenTells f peer g o NoMemory = only 2
 
 pub record Table : Type 0 where
-  pub segment : (f : List ℕ → ℕ) (peer : ℕ) (row : Peer) (memory : List ℕ) (g : Seg) → peer < 8 → 55296 ≤ length memory
+  pub segment : (f : List ℕ → Finding) (peer : ℕ) (row : Peer) (memory : List ℕ) (g : Seg) → peer < 8 → 55296 ≤ length memory
       → let o : Effect bytesOf = takeIn peer row memory g in
-      takenNumber f peer g o (o .outcome) ≡ (segmentRows peer row memory g otherwise f (completeFrame peer row memory g))
+      takenTells f peer g o (o .outcome) ≡ (segmentRows peer row memory g otherwise f (completeFrame peer row memory g))

@@ -9,7 +9,8 @@ use Rattle.reassembly.specs.Slots.{Note}
 use Rattle.reassembly.specs.Take.{Seg, Ops, Rejection, rejectionCode, Rejected, Pending, Complete, NoMemory, Effect, slotNo, frameIn}
 use Rattle.reassembly.specs.Store.{bytesOf, slotStart}
 use Rattle.reassembly.specs.Receive.{Place, partOfSlice, viewOf, Answers, Verdict, bad, good, frameAnswer, takeAnswer}
-use Rattle.reassembly.specs.Table.{takenNumber}
+use Rattle.wire.specs.Refusal.{Finding, only}
+use Rattle.reassembly.specs.Table.{takenTells}
 
 -- ---- which bytes a place names
 
@@ -64,20 +65,20 @@ module _ (W : Answers) where
     unfolding takeAnswer
     complete-reply s = refl
 
--- its number
-module _ (f : List ℕ → ℕ) (p : ℕ) (g : Seg) (o : Effect bytesOf) where
-  pub rejected-number : (r : Rejection) → takenNumber f p g o (Rejected r) ≡ rejectionCode r
-  unfolding takenNumber
-  rejected-number r = refl
+-- what taking tells
+module _ (f : List ℕ → Finding) (p : ℕ) (g : Seg) (o : Effect bytesOf) where
+  pub rejected-told : (r : Rejection) → takenTells f p g o (Rejected r) ≡ only (rejectionCode r)
+  unfolding takenTells
+  rejected-told r = refl
 
-  pub pending-number : takenNumber f p g o Pending ≡ 1
-  unfolding takenNumber
-  pending-number = refl
+  pub pending-told : takenTells f p g o Pending ≡ only 1
+  unfolding takenTells
+  pending-told = refl
 
-  pub complete-number : (s : ℕ) → takenNumber f p g o (Complete s) ≡ f (frameIn bytesOf (o .mem) (slotNo p s) (g .frame-length))
-  unfolding takenNumber
-  complete-number s = refl
+  pub complete-told : (s : ℕ) → takenTells f p g o (Complete s) ≡ f (frameIn bytesOf (o .mem) (slotNo p s) (g .frame-length))
+  unfolding takenTells
+  complete-told s = refl
 
-  pub no-memory-number : takenNumber f p g o NoMemory ≡ 2
-  unfolding takenNumber
-  no-memory-number = refl
+  pub no-memory-told : takenTells f p g o NoMemory ≡ only 2
+  unfolding takenTells
+  no-memory-told = refl

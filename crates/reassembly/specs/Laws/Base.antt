@@ -1,7 +1,7 @@
 -- Laws of `Base`, and case analysis that keeps the equation (of a Bool: wire's; else lookup's).
 use mathlib.Core.Path.{_≡_, refl, sym, ap, _∙_}
 use mathlib.Core.Logic.{_⊎_, inl, inr}
-use mathlib.Core.Bool.{Bool, true, false, _&&_, _||_}
+use mathlib.Core.Bool.{Bool, true, false, _&&_}
 use mathlib.Core.List.{List, [], _∷_, _++_, map}
 use mathlib.Core.Option.{none, some}
 use Prim.Native.Nat.{ℕ, zero, suc, _<_}
@@ -11,6 +11,7 @@ use lib.Seq.{getD-at}
 use lib.Dec.{ltb}
 use borrow.Author.Tests.{ltb-true, ltb-false}
 pub use Rattle.wire.specs.Laws.Bytes.{caseB}
+pub use Rattle.wire.specs.Laws.Checks.{or-false-l, or-false-r}
 pub use Rattle.lookup.specs.Laws.Cases.{caseO, either, clash, and-l, and-r, or-cases, or-true-r}
 use Rattle.lookup.specs.Search.{lowest}
 use Rattle.lookup.specs.Laws.Search.{lowest-some, lowest-none}
@@ -62,14 +63,6 @@ and-yes false = refl
 pub and-no : (b : Bool) → (b && false) ≡ false
 and-no true = refl
 and-no false = refl
-
-pub or-false-l : (a b : Bool) → (a || b) ≡ false → a ≡ false
-or-false-l true b e = e
-or-false-l false b e = refl
-
-pub or-false-r : (a b : Bool) → (a || b) ≡ false → b ≡ false
-or-false-r true b e = cc
-or-false-r false b e = e
 
 pub allBelow-at : (n : ℕ) (f : ℕ → Bool) → allBelow n f ≡ true → (i : ℕ) → i < n → f i ≡ true
 unfolding allBelow

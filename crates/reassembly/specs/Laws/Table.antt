@@ -8,10 +8,12 @@ use native.Mathlib.Omega.{arith}
 use lib.ListN.{length, getD, set}
 use lib.Dec.{ltb, eqb}
 use borrow.Author.Tests.{ltb-false, not-true, not-false}
-use Rattle.wire.specs.Checks.{pick}
+use Rattle.wire.specs.Checks.{Passed, pick}
+use Rattle.wire.specs.Refusal.{Finding, only}
 use Rattle.wire.specs.Laws.Checks.{choices, unless}
 use Rattle.wire.specs.Table.{_otherwise_}
 use Rattle.wire.specs.Laws.Table.{under, row4}
+use Rattle.wire.specs.Laws.Offset.{Low}
 use Rattle.reassembly.specs.Laws.Base.{caseB, caseO, clash, or-false-l, or-false-r, allBelow-ext, allBelow-at, allBelow-intro, table-ext, length-table}
 use Rattle.reassembly.specs.Base.{someBelow, allBelow, within}
 use Rattle.lookup.specs.Search.{lowest}
@@ -25,7 +27,7 @@ use Rattle.reassembly.specs.Take.{frameIn, finish, placed, takeSegment}
 use Rattle.reassembly.specs.Take as K
 use Rattle.reassembly.specs.Store.{isOn, bitAt, slotStart, mapStart, clearAt, putAt, receivedAt, byteAt, bytesOf, takeIn}
 use Rattle.reassembly.specs.Laws.Store.{take-in, bytes-laws}
-use Rattle.reassembly.specs.Table.{segmentRows, completeFrame, takenNumber, Table}
+use Rattle.reassembly.specs.Table.{segmentRows, completeFrame, takenTells, Table}
 use Rattle.reassembly.specs.Table as T
 
 cond-true : {A : Type 0} (b : Bool) (x y : A) → b ≡ true → cond b x y ≡ x
@@ -37,13 +39,13 @@ or-no false b true q r = sym q
 or-no false b false q r = r
 
 -- the rows 15 to 17 of a new identifier, and of one that is pending
-new-row : (w a b c : Bool) (x : ℕ) → w ≡ false → pick (w && a) 15 (pick (w && b) 16 (pick (not w && c) 17 x)) ≡ pick c 17 x
-new-row true a b c x q = clash (cc (q))
-new-row false a b c x q = refl
+new-row : {A : Type 0} (i j k : A) (w a b c : Bool) (x : A) → w ≡ false → pick (w && a) i (pick (w && b) j (pick (not w && c) k x)) ≡ pick c k x
+new-row i j k true a b c x q = clash (cc (q))
+new-row i j k false a b c x q = refl
 
-old-row : (w a b c : Bool) (x : ℕ) → w ≡ true → pick (w && a) 15 (pick (w && b) 16 (pick (not w && c) 17 x)) ≡ pick a 15 (pick b 16 x)
-old-row true a b c x q = refl
-old-row false a b c x q = clash (cc (q))
+old-row : {A : Type 0} (i j k : A) (w a b c : Bool) (x : A) → w ≡ true → pick (w && a) i (pick (w && b) j (pick (not w && c) k x)) ≡ pick a i (pick b j x)
+old-row i j k true a b c x q = refl
+old-row i j k false a b c x q = clash (cc (q))
 
 -- the search of a row is a search
 slots-lowest : (f : Slot → Bool) (l : List Slot) → first f l ≡ lowest (λ (s : ℕ). f (getD l s free)) mostSlots
@@ -51,7 +53,7 @@ unfolding first
 slots-lowest f l = sym (lowest-four (λ (s : ℕ). f (getD l s free)))
 
 -- 14, and what follows
-chosen-is : (h : Choice → ℕ) (row : List Slot) (g : Seg) → h (chosen row g)
+chosen-is : {A : Type 0} (h : Choice → A) (row : List Slot) (g : Seg) → h (chosen row g)
     ≡ pick (eqb (length (g .bytes)) 0) (h (reject K.Empty))
     (pick (ltb (g .frame-length) 32) (h (reject K.FrameLength))
     (pick (ltb 1532 (g .frame-length)) (h (reject K.FrameLength))
@@ -64,7 +66,7 @@ chosen-is h row g =
     caseB (ltb 1532 (g .frame-length)) (λ c. rw (a, b, c)) (λ c.
     caseB (ltb (g .frame-length) (g .offset + length (g .bytes))) (λ d. rw (a, b, c, d)) (λ d. rw (a, b, c, d)))))
 
-module _ (f : List ℕ → ℕ) (p : ℕ) (row : Peer) (m : List ℕ) (g : Seg) where
+module _ (f : List ℕ → Finding) (p : ℕ) (row : Peer) (m : List ℕ) (g : Seg) where
   -- the words of the page, of this segment
   abbrev slots : List Slot
   slots = row .slots
@@ -93,19 +95,19 @@ module _ (f : List ℕ → ℕ) (p : ℕ) (row : Peer) (m : List ℕ) (g : Seg) 
   abbrev full : Bool
   full = allBelow mostSlots (λ (s : ℕ). getD slots s free .pending)
 
-  effectNumber : Effect bytesOf → ℕ
-  effectNumber o = takenNumber f p g o (o .outcome)
+  effectTells : Effect bytesOf → Finding
+  effectTells o = takenTells f p g o (o .outcome)
 
   -- what follows 17
-  abbrev last : ℕ
-  last = pick (not complete) 1 (f (completeFrame p row m g))
+  abbrev last : Finding
+  last = pick (not complete) (only 1) (f (completeFrame p row m g))
 
-  finish-number : (s : ℕ) (row' : List Slot) (after : List ℕ) (note : Note)
+  finish-told : (s : ℕ) (row' : List Slot) (after : List ℕ) (note : Note)
       → K.complete bytesOf after (slotNo p s) frameLength ≡ complete
       → (complete ≡ true → frameIn bytesOf after (slotNo p s) frameLength ≡ completeFrame p row m g)
-      → effectNumber (finish bytesOf p s row' after g note) ≡ last
-  unfolding effectNumber takenNumber
-  finish-number s row' after note r h =
+      → effectTells (finish bytesOf p s row' after g note) ≡ last
+  unfolding effectTells takenTells
+  finish-told s row' after note r h =
       caseB (K.complete bytesOf after (slotNo p s) frameLength)
       (λ c. let w : complete ≡ true = sym r ∙ c in rw (c, w) (ap f (h w)))
       (λ c. let w : complete ≡ false = sym r ∙ c in rw (c, w))
@@ -156,8 +158,8 @@ module _ (f : List ℕ → ℕ) (p : ℕ) (row : Peer) (m : List ℕ) (g : Seg) 
           ∙ cond-true (carried i) _ _ c ∙ sym (cond-true (carried i) _ _ c))
 
     -- 15 and 16, or 17
-    placedNumber : Choice → ℕ
-    placedNumber c = effectNumber (placed bytesOf p slots m g c)
+    placedTells : Choice → Finding
+    placedTells c = effectTells (placed bytesOf p slots m g c)
 
     is-full : first isFree slots ≡ none → full ≡ true
     unfolding isFree
@@ -171,74 +173,74 @@ module _ (f : List ℕ → ℕ) (p : ℕ) (row : Peer) (m : List ℕ) (g : Seg) 
         (λ h. clash (cc (allBelow-at mostSlots (λ (s : ℕ). getD slots s free .pending) h s (w .is-slot), not-true (getD slots s free .pending) (w .passes))))
         (λ h. h)
 
-    new-number : pending ≡ false → placedNumber (chooseNew (first isFree slots)) ≡ pick full 17 last
-    unfolding placedNumber effectNumber rejectionCode takenNumber
-    new-number way =
+    new-told : pending ≡ false → placedTells (chooseNew (first isFree slots)) ≡ pick full (only 17) last
+    unfolding placedTells effectTells rejectionCode takenTells
+    new-told way =
         caseO (first isFree slots)
-        (λ r. ap (λ (o : Option ℕ). placedNumber (chooseNew o)) r ∙ sym (ap (λ (b : Bool). pick b 17 last) (is-full r)))
+        (λ r. ap (λ (o : Option ℕ). placedTells (chooseNew o)) r ∙ sym (ap (λ (b : Bool). pick b (only 17) last) (is-full r)))
         (λ s r.
         let slot : s < mostSlots = first-some isFree slots s r .is-slot in
-        ap (λ (o : Option ℕ). placedNumber (chooseNew o)) r
-        ∙ finish-number s (set slots s (openedSlot g)) (opened way s slot) (noteAfter noNote g) (new-complete way s slot) (new-frame way s slot)
-        ∙ sym (ap (λ (b : Bool). pick b 17 last) (not-full s r)))
+        ap (λ (o : Option ℕ). placedTells (chooseNew o)) r
+        ∙ finish-told s (set slots s (openedSlot g)) (opened way s slot) (noteAfter noNote g) (new-complete way s slot) (new-frame way s slot)
+        ∙ sym (ap (λ (b : Bool). pick b (only 17) last) (not-full s r)))
 
     same-overlap : overlaps bytesOf m (slotNo p at) g ≡ overlap
     unfolding overlaps receivedAt bitAt isOn mapStart slotNo
     same-overlap = refl
 
-    old-number : pending ≡ true → at < mostSlots
-        → placedNumber (choose slots g (some at)) ≡ pick (not (eqb (getD slots at free .«frame_length») frameLength)) 15 (pick overlap 16 last)
-    unfolding placedNumber effectNumber slotNo takenNumber rejectionCode
-    old-number way slot = by-length (eqb (getD slots at free .«frame_length») frameLength)
+    old-told : pending ≡ true → at < mostSlots
+        → placedTells (choose slots g (some at)) ≡ pick (not (eqb (getD slots at free .«frame_length») frameLength)) (only 15) (pick overlap (only 16) last)
+    unfolding placedTells effectTells slotNo takenTells rejectionCode
+    old-told way slot = by-length (eqb (getD slots at free .«frame_length») frameLength)
       where
-        by-overlap : (b : Bool) → overlaps bytesOf m (slotNo p at) g ≡ b → placedNumber (old at) ≡ pick b 16 last
+        by-overlap : (b : Bool) → overlaps bytesOf m (slotNo p at) g ≡ b → placedTells (old at) ≡ pick b (only 16) last
         by-overlap true q = rw q
         by-overlap false q =
-            rw q (finish-number at (set slots at (furtherSlot (getD slots at free) g)) stored (noteAfter (noteOf (getD slots at free)) g)
+            rw q (finish-told at (set slots at (furtherSlot (getD slots at free) g)) stored (noteAfter (noteOf (getD slots at free)) g)
             (old-complete way slot) (λ _. old-frame way slot))
 
-        by-length : (b : Bool) → placedNumber (cond b (old at) (reject K.LengthDiffers)) ≡ pick (not b) 15 (pick overlap 16 last)
+        by-length : (b : Bool) → placedTells (cond b (old at) (reject K.LengthDiffers)) ≡ pick (not b) (only 15) (pick overlap (only 16) last)
         by-length true = by-overlap overlap same-overlap
         by-length false = refl
 
-    abbrev chosenNumber : ℕ
-    chosenNumber =
-        pick (pending && not (eqb (getD slots at free .«frame_length») frameLength)) 15
-        (pick (pending && overlap) 16 (pick (not pending && full) 17 last))
+    abbrev chosenTells : Finding
+    chosenTells =
+        pick (pending && not (eqb (getD slots at free .«frame_length») frameLength)) (only 15)
+        (pick (pending && overlap) (only 16) (pick (not pending && full) (only 17) last))
 
-    choose-number : placedNumber (choose slots g (first (bears (g .identifier)) slots)) ≡ chosenNumber
+    choose-told : placedTells (choose slots g (first (bears (g .identifier)) slots)) ≡ chosenTells
     unfolding bears
-    choose-number =
+    choose-told =
         let same : first (bears (g .identifier)) slots ≡ lowest (T.pendingIn p row m g) mostSlots = slots-lowest (bears (g .identifier)) slots in
         caseO (lowest (T.pendingIn p row m g) mostSlots)
         (λ q. let way : pending ≡ false = found-none (T.pendingIn p row m g) mostSlots q in
-        ap (λ (o : Option ℕ). placedNumber (choose slots g o)) (same ∙ q) ∙ new-number way ∙ sym (new-row pending _ _ full last way))
+        ap (λ (o : Option ℕ). placedTells (choose slots g o)) (same ∙ q) ∙ new-told way ∙ sym (new-row (only 15) (only 16) (only 17) pending _ _ full last way))
         (λ s q.
         let r : lowest (T.pendingIn p row m g) mostSlots ≡ some at = found-is (lowest (T.pendingIn p row m g) mostSlots) s q in
         let way : pending ≡ true = found-some (T.pendingIn p row m g) mostSlots s q in
-        ap (λ (o : Option ℕ). placedNumber (choose slots g o)) (same ∙ r)
-        ∙ old-number way (lowest-some (T.pendingIn p row m g) mostSlots at r .below)
-        ∙ sym (old-row pending _ overlap full last way))
+        ap (λ (o : Option ℕ). placedTells (choose slots g o)) (same ∙ r)
+        ∙ old-told way (lowest-some (T.pendingIn p row m g) mostSlots at r .below)
+        ∙ sym (old-row (only 15) (only 16) (only 17) pending _ overlap full last way))
 
-  segment-number : p < mostPeers → 55296 ≤ length m → effectNumber (takeSegment bytesOf p row m g) ≡ (segmentRows p row m g otherwise f
+  segment-told : p < mostPeers → 55296 ≤ length m → effectTells (takeSegment bytesOf p row m g) ≡ (segmentRows p row m g otherwise f
       (completeFrame p row m g))
-  unfolding effectNumber placedNumber takeSegment segmentRows rejectionCode takenNumber
-  segment-number small enough =
+  unfolding effectTells placedTells takeSegment segmentRows rejectionCode takenTells
+  segment-told small enough =
       simp choices
-      (chosen-is (λ (c : Choice). effectNumber (placed bytesOf p slots m g c)) slots g
-      ∙ unless (eqb (length (g .bytes)) 0) 14 _ _ (λ _.
-      unless (ltb frameLength 32) 14 _ _ (λ _.
-      unless (ltb 1532 frameLength) 14 _ _ (λ most.
-      unless (ltb frameLength (g .offset + length (g .bytes))) 14 _ _ (λ inside.
-      choose-number enough small (ltb-false 1532 frameLength most) (ltb-false frameLength (g .offset + length (g .bytes)) inside)))))
-      ∙ row4 14 (eqb (length (g .bytes)) 0) (ltb frameLength 32) (ltb 1532 frameLength) (ltb frameLength (g .offset + length (g .bytes))) _)
+      (chosen-is (λ (c : Choice). effectTells (placed bytesOf p slots m g c)) slots g
+      ∙ unless (eqb (length (g .bytes)) 0) (only 14) _ _ (λ _.
+      unless (ltb frameLength 32) (only 14) _ _ (λ _.
+      unless (ltb 1532 frameLength) (only 14) _ _ (λ most.
+      unless (ltb frameLength (g .offset + length (g .bytes))) (only 14) _ _ (λ inside.
+      choose-told enough small (ltb-false 1532 frameLength most) (ltb-false frameLength (g .offset + length (g .bytes)) inside)))))
+      ∙ row4 (only 14) (eqb (length (g .bytes)) 0) (ltb frameLength 32) (ltb 1532 frameLength) (ltb frameLength (g .offset + length (g .bytes))) _)
 
-  taken-number : p < mostPeers → 55296 ≤ length m → effectNumber (takeIn p row m g) ≡ (segmentRows p row m g otherwise f (completeFrame p row m g))
-  taken-number small enough = ap effectNumber (take-in p row m g small enough) ∙ segment-number small enough
+  taken-told : p < mostPeers → 55296 ≤ length m → effectTells (takeIn p row m g) ≡ (segmentRows p row m g otherwise f (completeFrame p row m g))
+  taken-told small enough = ap effectTells (take-in p row m g small enough) ∙ segment-told small enough
 
 pub reassembly-table : Table
-unfolding effectNumber
-reassembly-table = record { segment = λ f p row m g small enough. taken-number f p row m g small enough }
+unfolding effectTells
+reassembly-table = record { segment = λ f p row m g small enough. taken-told f p row m g small enough }
 
 -- ---- for what is made of a complete frame: behind these rows it has at least 32 bytes
 
@@ -247,14 +249,22 @@ module _ (p : ℕ) (row : Peer) (m : List ℕ) (g : Seg) where
   unfolding completeFrame
   complete-length = length-table (g .frame-length) _
 
-  pub under-segment : (x y : ℕ) → (32 ≤ length (completeFrame p row m g) → x ≡ y) → (segmentRows p row m g otherwise x) ≡ (segmentRows p row m g otherwise y)
+  -- they name no byte
+  pub segment-low : Low (segmentRows p row m g)
   unfolding segmentRows
-  under-segment x y h =
-      under (λ (n : ℕ). n) (segmentRows p row m g) x y (λ q.
+  segment-low = (omega arith, (omega arith, (omega arith, (omega arith, (omega arith, tt)))))
+
+  pub long-segment : Passed (segmentRows p row m g) → 32 ≤ length (completeFrame p row m g)
+  unfolding segmentRows
+  long-segment q =
       let a : Bool = eqb (length (g .bytes)) 0 in
       let b : Bool = ltb (g .frame-length) 32 in
       let c : Bool = ltb 1532 (g .frame-length) in
       let d : Bool = ltb (g .frame-length) (g .offset + length (g .bytes)) in
       let r : (a || b) ≡ false = or-false-l (a || b) c (or-false-l (a || b || c) d (q .0)) in
       let s : 32 ≤ g .frame-length = ltb-false (g .frame-length) 32 (or-false-r a b r) in
-      h (omega (arith, complete-length)))
+      omega (arith, complete-length)
+
+  pub under-segment : (x y : Finding) → (32 ≤ length (completeFrame p row m g) → x ≡ y)
+      → (segmentRows p row m g otherwise x) ≡ (segmentRows p row m g otherwise y)
+  under-segment x y h = under (λ (z : Finding). z) (segmentRows p row m g) x y (λ q. h (long-segment q))
