@@ -1,7 +1,7 @@
--- Document 01's number and values for each answer ("The numbered answers").
+-- The documents' number and values for each answer ("The numbered answers").
 use Prim.Native.Nat.{ℕ}
 use mathlib.Core.Option.{Option, none, some}
-use Rattle.wire.specs.Refusal as W
+use Rattle.wire.specs.Refusal.{Finding, _atByte_, only, codeOf}
 use Rattle.reassembly.specs.Take.{rejectionCode}
 use Rattle.reassembly.specs.Receive as P
 use Rattle.endpoint.specs.declared.answer.Place.{Place}
@@ -22,15 +22,18 @@ use Rattle.endpoint.specs.declared.answer.WrapRefusal.the-variants as X
 use Rattle.endpoint.specs.declared.answer.Wrapped.{Wrapped}
 use Rattle.endpoint.specs.declared.answer.Wrapped.the-variants as Y
 
--- ---- need not be believed: a number for each refusal
+-- ---- need not be believed: a number for each refusal, and the byte that it names
+
+abbrev pub dropOf : Drop → Finding
+dropOf D.MemoryTooSmall = only 2
+dropOf (D.Format r offset) = codeOf r atByte offset
+dropOf D.NotForUs = only 6
+dropOf D.UnknownPeer = only 7
+dropOf D.NoBinding = only 12
+dropOf (D.Segment r) = only (rejectionCode r)
 
 abbrev pub dropCode : Drop → ℕ
-dropCode D.MemoryTooSmall = 2
-dropCode (D.Format r) = W.codeOf r
-dropCode D.NotForUs = 6
-dropCode D.UnknownPeer = 7
-dropCode D.NoBinding = 12
-dropCode (D.Segment r) = rejectionCode r
+dropCode d = dropOf d .number
 
 -- Open: three cases, three numbers
 abbrev pub configCode : ConfigRefusal → ℕ
@@ -44,19 +47,24 @@ configCode C.Full = 20
 abbrev pub placeOf : Place → P.Place
 placeOf p = record { inMemory = p .«in_memory»; start = p .start; len = p .length }
 
--- what a receive gives back: its number, and the tenant, binding and place of answer 0. A refusal and answer 1 carry no tenant and no binding, and the empty
--- place
+-- what a receive gives back: its number; the offset of the first offending byte (25 to 29; 0 in other answers); and the tenant, binding and place of answer 0.
+-- A refusal and answer 1 carry no tenant and no binding, and the empty place
 pub record Values : Type 0 where
   pub number : ℕ
+  pub offset : ℕ
   pub tenant : Option ℕ
   pub binding : Option ℕ
   pub place : P.Place
 
 -- Open: the record `answers` (Receive.antt) holds equations that compute with it
 abbrev pub valuesOf : Received → Values
-valuesOf (R.Delivered t p) = record { number = 0; tenant = some (t .tenant); binding = some (t .binding); place = placeOf p }
-valuesOf R.Pending = record { number = 1; tenant = none; binding = none; place = P.nowhere }
-valuesOf (R.Dropped d) = record { number = dropCode d; tenant = none; binding = none; place = P.nowhere }
+valuesOf (R.Delivered t p) = record { number = 0; offset = 0; tenant = some (t .tenant); binding = some (t .binding); place = placeOf p }
+valuesOf R.Pending = record { number = 1; offset = 0; tenant = none; binding = none; place = P.nowhere }
+valuesOf (R.Dropped d) = record { number = dropOf d .number; offset = dropOf d .offset; tenant = none; binding = none; place = P.nowhere }
+
+-- number and offset
+abbrev pub toldBy : Values → Finding
+toldBy v = v .number atByte v .offset
 
 unfoldable pub addedCode : Added → ℕ
 addedCode (A.Number n) = 0

@@ -147,7 +147,7 @@ pub record Configured (e : Endpoint) : Type 0 where
   pub binding-once : (i j : ℕ) → i < e .«binding_count» → j < e .«binding_count» → getD (e .owners) i 0 ≡ getD (e .owners) j 0
       → getD (e .kinds) i 0 ≡ getD (e .kinds) j 0 → getD (e .networks) i 0 ≡ getD (e .networks) j 0 → i ≡ j
 
--- ---- receive: 0 to 17
+-- ---- receive: 0 to 10, 12 to 17, 25 to 29
 
 -- what a refusal and answer 1 carry: no tenant, no binding, the empty place
 pub record Empties (v : Values) : Type 0 where
@@ -212,9 +212,9 @@ pub record Completed (e : Endpoint) (m packet : List ℕ) (p s : ℕ) (g : Seg) 
   pub complete : (i : ℕ) → i < g .frame-length → bitOf m′ (mapAt p s) i ≡ true
   pub freed : slotAt e′ p s .pending ≡ false
 
--- THE EXCEPTION: 11, 12 or 13, on the segment that makes its STT frame complete. It is stored all the same, and its slot given back
+-- THE EXCEPTION: 28, 29, 12 or 13, on the segment that makes its STT frame complete. It is stored all the same, and its slot given back
 pub record FoundBad (e : Endpoint) (m packet : List ℕ) (number : ℕ) (e′ : Endpoint) (m′ : List ℕ) : Type 0 where
-  pub is : number among (11 ∷ 12 ∷ 13 ∷ []) ≡ true
+  pub is : number among (28 ∷ 29 ∷ 12 ∷ 13 ∷ []) ≡ true
   pub p : ℕ
   pub s : ℕ
   pub g : Seg
@@ -242,14 +242,17 @@ pub record Delivered (e : Endpoint) (m packet : List ℕ) (v : Values) (e′ : E
   pub from : FromPacket e m packet t (v .place) e′ m′ ⊎ FromMemory e m packet t (v .place) e′ m′
 
 pub record ReceiveRule (e : Endpoint) (m packet : List ℕ) (v : Values) (e′ : Endpoint) (m′ : List ℕ) : Type 0 where
-  pub number : v .number ≤ 17
+  pub number : ((v .number ≤ 17) × (v .number ≢ 11)) ⊎ ((25 ≤ v .number) × (v .number ≤ 29))
+  -- only these name a byte
+  pub offset : v .number among (25 ∷ 26 ∷ 27 ∷ 28 ∷ 29 ∷ []) ≡ false → v .offset ≡ 0
   pub empties : v .number ≢ 0 → Empties v
   pub delivered : v .number ≡ 0 → Delivered e m packet v e′ m′
   pub not-yet : v .number ≡ 1 → NotYet e m packet e′ m′
   -- a refusal is every number but 0 and 1
   pub refused : v .number ≢ 0 → v .number ≢ 1 → Unchanged e m e′ m′ ⊎ FoundBad e m packet (v .number) e′ m′
-  -- 11, 12 or 13 on an STT segment is always the exception
-  pub found-bad : (p : ℕ) (g : Seg) → CarriesSegment (configOf e) packet p g → v .number among (11 ∷ 12 ∷ 13 ∷ []) ≡ true
+  -- 25 to 29, 12 or 13 on an STT segment is always the exception, so that 25 to 27 are never given on one
+  pub found-bad : (p : ℕ) (g : Seg) → CarriesSegment (configOf e) packet p g
+      → v .number among (25 ∷ 26 ∷ 27 ∷ 28 ∷ 29 ∷ 12 ∷ 13 ∷ []) ≡ true
       → FoundBad e m packet (v .number) e′ m′
   -- and no receive changes the configuration
   pub configuration : SameConfiguration e e′

@@ -24,6 +24,7 @@ use Rattle.endpoint.specs.Run.{Left, left, endsOf}
 use Rattle.endpoint.specs.Formats.{CarriesFrame}
 use Rattle.endpoint.specs.Reached.{Reached}
 use Rattle.endpoint.specs.Table.{Table}
+use Rattle.endpoint.specs.Offset.{Offsets}
 use Rattle.endpoint.specs.Demand1.{slotAt, StartRule, PeerAdded, BindingAdded, AddRule, Configured, ReceiveRule, TickRule, WrapRule}
 use Rattle.endpoint.specs.Demand2.{Delivers, MadeUp, Packets}
 use Rattle.endpoint.specs.Demand2Writing.{Demand2Writing}
@@ -46,8 +47,9 @@ pub record Demand1 : Type 0 where
   pub view : (packet memory : RefT (List ℕ)) (place : Place) (r : RefT (List ℕ)) → Viewed packet memory (placeOf place) r → ViewRule packet memory place r
   pub wrap : (e : Endpoint) (binding : ℕ) (frame : List ℕ) (segment identifier : ℕ) (output : List ℕ)
       → WrapRule output (wrapValuesOf (wrapOf e binding frame segment identifier output .answer)) (wrapOf e binding frame segment identifier output .output)
-  -- which number is given when: the first row of document 01's table that applies
+  -- which number is given when: the first row of document 01's table that applies; and which byte 25 to 29 name: the first that breaks its rule
   pub table : Table
+  pub offsets : Offsets
   -- so every set-up keeps the rules of a configuration, and has every slot free; and what comes from the calls later keeps them
   pub set-up : (own port mtu : ℕ) (adds : List Adding) → Configured (setUp own port mtu adds)
   pub all-free : (own port mtu : ℕ) (adds : List Adding) (p s : ℕ) → slotAt (setUp own port mtu adds) p s .pending ≡ false
@@ -72,7 +74,8 @@ pub record Demand2 : Type 0 where
 -- ---- 3: of every set-up that a start and any adding calls can leave, refused ones too, and every peer
 
 pub record Demand3 : Type 0 where
-  -- whatever the others sent; and every mixing of cuts of good frames
+  -- whatever the others sent; and every mixing of cuts of good frames. An answer is all that a receive gives back, number, offset and the rest, and the bytes
+  -- handed back
   pub claims : (own port mtu : ℕ) (adds : List Adding) (p : ℕ) → p < 8 → Claim answers Config layers (endsOf (setUp own port mtu adds)) p
   -- every run, mixing or not: the slot rules, and of which segments a complete frame is made up
   pub every : (own port mtu : ℕ) (adds : List Adding) (p : ℕ) → p < 8 → EveryRun answers Config layers p (endsOf (setUp own port mtu adds))

@@ -63,8 +63,8 @@ pub record CarriesSegment (c : Config) (packet : List ℕ) (p : ℕ) (g : Seg) :
   pub segment : IsSegment source (c .own) (c .port) (g .frame-length) (g .offset) (g .identifier) (g .bytes) payload
   pub no-mark : g .mark ≡ noMark
 
--- a complete STT frame from peer p passes 11 to 13: it carries this inner frame on the network of its Context ID, which is bound to the target, and the
--- frame keeps its rule
+-- a complete STT frame from peer p passes 28, 29, 12 and 13: it carries this inner frame on the network of its Context ID, which is bound to the target, and
+-- the frame keeps its rule
 pub record GoodFrame (c : Config) (p : ℕ) (whole : List ℕ) (t : Target) (inner : List ℕ) : Type 0 where
   pub context : ℕ
   pub stt : IsStt context inner whole

@@ -11,6 +11,7 @@ pub mod Formats
 pub mod Demand1
 pub mod Demand3
 pub mod Demand2
+pub mod Silent
 pub mod Demand1Receive
 pub mod Calls
 pub mod Wrap
@@ -28,5 +29,6 @@ pub mod PossibleRun
 pub mod WorkedRun
 pub mod Possible
 pub mod Table
+pub mod Offset
 pub mod Promises
 pub mod Demands

@@ -16,5 +16,6 @@ pub mod Demand2Writing
 pub mod RoundTrip
 pub mod WorkedCases
 pub mod Table
+pub mod Offset
 pub mod Demands
 pub mod Laws

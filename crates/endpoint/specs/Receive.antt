@@ -7,6 +7,8 @@ use mathlib.Core.Option.{Option, none, some}
 use lib.ListN.{length, getD, set, drop}
 use lib.Dec.{ltb, eqb}
 use Rattle.wire.specs.Bytes.{part}
+use Rattle.wire.specs.Refusal.{findingOf}
+use Rattle.wire.specs.declared.refusal.Refusal.{Refusal}
 use Rattle.wire.specs.Ipv4.{ipv4Of}
 use Rattle.wire.specs.Carriage.{carriageOf}
 use Rattle.wire.specs.Stt.{sttOf}
@@ -77,7 +79,7 @@ answers = record {
 
 abbrev pub byFrame : FrameRead → Target → Verdict answers
 byFrame F.Good t = good t
-byFrame (F.Refused r) t = bad (D.Format r)
+byFrame (F.Refused r) t = bad (D.Format r 0)
 
 abbrev pub byBinding : (tenants : List ℕ) → Option ℕ → FrameRead → Verdict answers
 byBinding tenants none frame = bad D.NoBinding
@@ -88,7 +90,11 @@ unfoldable pub innerFrom : (networks kinds owners tenants : List ℕ) (n peer ki
 innerFrom networks kinds owners tenants n peer kind network frame =
     byBinding tenants (lowest (binds networks kinds owners peer kind network) n) (frameOf frame)
 
--- ---- need not be believed: what is made of a packet: checks 3 to 10, and for VXLAN and NVGRE 11 to 13
+-- ---- need not be believed: what is made of a packet: checks 3 to 10, and for VXLAN and NVGRE 25 to 27, 12 and 13
+
+-- a format is broken: the cause, and the byte that it names. In the packet, the IP payload begins at `start`; in an STT frame, `start` is 0
+abbrev pub brokenAt : (start : ℕ) → Refusal → Drop
+brokenAt start r = D.Format r (findingOf start r .offset)
 
 -- the answer on a frame that lies at a place
 abbrev pub answerAt : Verdict answers → Place → Received
@@ -103,7 +109,7 @@ abbrev pub tunnelOf : Config → (peer kind network at : ℕ) → List ℕ → R
 tunnelOf c peer kind network at frame = tunnelFrom (c .networks) (c .kinds) (c .owners) (c .tenants) (c .bindings) peer kind network at frame
 
 abbrev pub byPayload : Config → (peer start end : ℕ) → List ℕ → Carried → Reading answers
-byPayload c p start end k (C.Refused r) = direct p (R.Dropped (D.Format r))
+byPayload c p start end k (C.Refused r) = direct p (R.Dropped (brokenAt start r))
 byPayload c p start end k (C.Tunnel t) = direct p (tunnelOf c p (t .kind) (t .network) (start + t .start) (part k (start + t .start) end))
 byPayload c p start end k (C.Segment g) = segment p (segOf g (part k (start + g .start) end))
 
@@ -116,7 +122,7 @@ byDestination c h k true = byPeer c h k (findPeer c (h .source))
 byDestination c h k false = otherSender (R.Dropped D.NotForUs)
 
 abbrev pub byIpv4 : Config → List ℕ → Ipv4Read → Reading answers
-byIpv4 c k (I.Refused r) = otherSender (R.Dropped (D.Format r))
+byIpv4 c k (I.Refused r) = otherSender (R.Dropped (D.Format r 0))
 byIpv4 c k (I.Packet h) = byDestination c h k (eqb (h .destination) (c .own))
 
 unfoldable pub headerOf : Config → List ℕ → Reading answers
@@ -130,10 +136,10 @@ bySender c (I.Packet h) = cond (eqb (h .destination) (c .own)) (findPeer c (h .s
 unfoldable pub sourceOf : Config → List ℕ → Option ℕ
 sourceOf c k = bySender c (ipv4Of k)
 
--- ---- need not be believed: what a complete STT frame from peer p is worth: checks 11, 12, 13
+-- ---- need not be believed: what a complete STT frame from peer p is worth: 28, 29, then 12, 13
 
 abbrev pub byStt : SttRead → (ℕ → Verdict answers) → Verdict answers
-byStt (T.Refused r) next = bad (D.Format r)
+byStt (T.Refused r) next = bad (brokenAt 0 r)
 byStt (T.Header context) next = next context
 
 unfoldable pub sttFrom : (networks kinds owners tenants : List ℕ) (n peer : ℕ) → List ℕ → Verdict answers

@@ -26,7 +26,7 @@ use Rattle.reassembly.specs.declared.take.Outcome.the-variants as O
 use Rattle.endpoint.specs.Answer.{placeOf}
 use Rattle.endpoint.specs.Search.{lowest}
 use Rattle.endpoint.specs.Config.{hasAddress, mostBindings}
-use Rattle.endpoint.specs.Receive.{answerAt, innerFrom, rowAt}
+use Rattle.endpoint.specs.Receive.{brokenAt, answerAt, innerFrom, rowAt}
 use Rattle.endpoint.specs.declared.answer.Drop.{Drop}
 use Rattle.endpoint.specs.declared.answer.Drop.the-variants as D
 use Rattle.endpoint.specs.declared.answer.Received.{Received}
@@ -41,12 +41,12 @@ use Rattle.endpoint.specs.declared.receive.Offer.the-variants as B
 use Rattle.endpoint.specs.declared.receive.Changed.{Changed}
 use Rattle.reassembly.specs.Slots.{mostPeers, mostSlots}
 
--- ---- need not be believed: a packet is opened: check 2, then 3 to 10, and 11 for VXLAN and NVGRE. `room` is the memory's length, and `peers` of the
+-- ---- need not be believed: a packet is opened: check 2, then 3 to 10, and 25 to 27. `room` is the memory's length, and `peers` of the
 -- addresses are listed
 
 -- what a listed peer's packet brings, by what it carries
 abbrev pub carriedFrom : (start end : ℕ) → Carried → Content
-carriedFrom start end (C.Refused r) = A.Refused (D.Format r)
+carriedFrom start end (C.Refused r) = A.Refused (brokenAt start r)
 carriedFrom start end (C.Tunnel t) =
     A.Frame (record { network = t .network; place = record { start = start + t .start; length = end - (start + t .start); «in_memory» = false }; kind = t .kind })
 carriedFrom start end (C.Segment g) = A.Segment (record { header = g; start = start + g .start; length = end - (start + g .start) })
@@ -60,7 +60,7 @@ fromOther d = record { peer = 0; content = A.Refused d }
 
 -- one of which no listed peer is known to be the sender, by what its IPv4 header reads as
 abbrev pub unlistedOf : Ipv4Read → Arrival
-unlistedOf (I.Refused r) = fromOther (D.Format r)
+unlistedOf (I.Refused r) = fromOther (D.Format r 0)
 unlistedOf (I.Packet h) = fromOther D.UnknownPeer
 
 abbrev pub openPeer : Option ℕ → Content → Arrival
@@ -72,17 +72,17 @@ openHeader addresses own port peers k h =
     cond (eqb (h .destination) own) (openPeer (lowest (hasAddress addresses (h .source)) peers) (contentFrom port h k)) (fromOther D.NotForUs)
 
 abbrev pub openIp : Ipv4Read → (Ipv4 → Arrival) → Arrival
-openIp (I.Refused r) next = fromOther (D.Format r)
+openIp (I.Refused r) next = fromOther (D.Format r 0)
 openIp (I.Packet h) next = next h
 
 unfoldable pub openOf : (addresses : List ℕ) (own port peers : ℕ) → (packet : List ℕ) → (room : ℕ) → Arrival
 openOf addresses own port peers k room = cond (ltb room 55296) (fromOther D.MemoryTooSmall) (openIp (ipv4Of k) (openHeader addresses own port peers k))
 
--- ---- need not be believed: a segment is taken: 14 to 17, then 11 where the frame is complete
+-- ---- need not be believed: a segment is taken: 14 to 17, then 28 and 29 where the frame is complete
 
 -- a complete STT frame that lies in the memory from `at` on
 abbrev pub sttOffer : (at size : ℕ) → SttRead → Offer
-sttOffer at size (T.Refused r) = B.Refused (D.Format r)
+sttOffer at size (T.Refused r) = B.Refused (brokenAt 0 r)
 sttOffer at size (T.Header context) = B.Frame (record { network = context; place = record { start = at + 18; length = size - 18; «in_memory» = true }; kind = 3 })
 
 unfoldable pub offerAt : (at : ℕ) → List ℕ → Offer

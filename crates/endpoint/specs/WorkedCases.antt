@@ -7,7 +7,7 @@ use mathlib.Core.List.{List, [], _∷_, _++_, map}
 use lib.ListN.{replicate}
 use Rattle.wire.specs.Sum.{total, ones}
 use Rattle.wire.specs.Nvgre.{nvgreOf}
-use Rattle.wire.specs.Refusal.{codeOf}
+use Rattle.wire.specs.Refusal.{Finding, only, findingOf}
 use Rattle.wire.specs.Write.{sourcePort}
 use Rattle.wire.specs.declared.carriage.Carried.{Carried}
 use Rattle.wire.specs.declared.carriage.Carried.the-variants as C
@@ -33,14 +33,17 @@ own = 0x0a000001
 abbrev peer : ℕ
 peer = 0x0a000002
 
--- the number that is given to an NVGRE header with this first byte: the refusal's, or else 0
-abbrev carriedCode : Carried → ℕ
-carriedCode (C.Tunnel t) = 0
-carriedCode (C.Segment g) = 0
-carriedCode (C.Refused r) = codeOf r
+-- number and offset that are given to an NVGRE header with this first byte, behind an IPv4 header of 20 bytes: the refusal's, or else 0 and 0
+abbrev carriedFinding : Carried → Finding
+carriedFinding (C.Tunnel t) = only 0
+carriedFinding (C.Segment g) = only 0
+carriedFinding (C.Refused r) = findingOf 20 r
 
-abbrev nvgreFirst : ℕ → ℕ
-nvgreFirst x = carriedCode (nvgreOf (x ∷ 0 ∷ 0x65 ∷ 0x58 ∷ 0 ∷ 16 ∷ 0 ∷ 0 ∷ []))
+abbrev findingList : Finding → List ℕ
+findingList x = x .number ∷ x .offset ∷ []
+
+abbrev nvgreFirst : ℕ → List ℕ
+nvgreFirst x = findingList (carriedFinding (nvgreOf (x ∷ 0 ∷ 0x65 ∷ 0x58 ∷ 0 ∷ 16 ∷ 0 ∷ 0 ∷ [])))
 
 -- the number that is given to a first segment of one byte, of a frame of this length: 0 where a slot is found for it
 abbrev choiceCode : Choice → ℕ
@@ -100,8 +103,8 @@ cases =
     ∷ (segmentsOf 3 1442 1500 ∷ segmentsOf 3 1443 1500 ∷ [] is 1 ∷ 2 ∷ [])
     -- 6. frame length 31 is 14, 32 is not; 1,532 is not, 1,533 is
     ∷ (lengthCode 31 ∷ lengthCode 32 ∷ lengthCode 1532 ∷ lengthCode 1533 ∷ [] is 14 ∷ 0 ∷ 0 ∷ 14 ∷ [])
-    -- 7. NVGRE first byte 0x23 passes, 0x24 is 11
-    ∷ (nvgreFirst 0x23 ∷ nvgreFirst 0x24 ∷ [] is 0 ∷ 11 ∷ [])
+    -- 7. NVGRE first byte 0x23 passes, 0x24 is 26 (document 02, §4), at byte 20
+    ∷ (nvgreFirst 0x23 ++ nvgreFirst 0x24 is 0 ∷ 0 ∷ 26 ∷ 20 ∷ [])
     -- 8. the map of a 9-byte reach: 0xFF, 0x01 are set; with 0xFF, 0x00 it is not complete
     ∷ (setBits (0 ∷ 0 ∷ []) 0 0 9 is 0xff ∷ 0x01 ∷ [])
     ∷ (complete (0xff ∷ 0x01 ∷ []) ∷ complete (0xff ∷ 0x00 ∷ []) ∷ [] is 1 ∷ 0 ∷ [])

@@ -21,8 +21,8 @@ pub struct Target {
 pub enum Drop {
     // 2: the reassembly memory has under 55,296 bytes
     MemoryTooSmall,
-    // 3 to 5, 8 to 11, 13: it breaks a format
-    Format(Refusal),
+    // 3 to 5, 8 to 10, 13, 25 to 29: it breaks a format; and the offset of the first offending byte, 0 where the answer names none
+    Format(Refusal, u8),
     // 6: it is not for us
     NotForUs,
     // 7: no listed peer sent it

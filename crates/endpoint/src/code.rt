@@ -1,6 +1,6 @@
-// Document 01's number for each answer ("The numbered answers"), as specs/Answer.antt gives it.
+// The documents' number for each answer ("The numbered answers"), and the byte that it names (02 §4), as specs/Answer.antt gives them.
 ghost use mathlib.Core.Path.{_≡_};
-ghost use Rattle.endpoint.specs.Answer.{dropCode, configCode, addedCode, startCode, tickCode, valuesOf, wrapRefusalCode};
+ghost use Rattle.endpoint.specs.Answer.{dropOf, dropCode, configCode, addedCode, startCode, tickCode, valuesOf, wrapRefusalCode};
 use crate::answer::Added;
 use crate::answer::ConfigRefusal;
 use crate::answer::Drop;
@@ -14,7 +14,7 @@ pub fn drop_code(d: Drop) -> u8
 {
     match d {
         Drop::MemoryTooSmall => 2,
-        Drop::Format(r) => wire::refusal::code(r),
+        Drop::Format(r, _) => wire::refusal::code(r),
         Drop::NotForUs => 6,
         Drop::UnknownPeer => 7,
         Drop::NoBinding => 12,
@@ -29,6 +29,30 @@ pub fn received_code(answer: Received) -> u8
         Received::Delivered(_, _) => 0,
         Received::Pending => 1,
         Received::Dropped(d) => drop_code(d),
+    }
+}
+
+// The offset of the first offending byte, in the packet or in the STT frame.
+pub fn drop_offset(d: Drop) -> u8
+    ensures { λ n. ⌜ n ≡ dropOf d .offset ⌝ }
+{
+    match d {
+        Drop::MemoryTooSmall => 0,
+        Drop::Format(_, offset) => offset,
+        Drop::NotForUs => 0,
+        Drop::UnknownPeer => 0,
+        Drop::NoBinding => 0,
+        Drop::Segment(_) => 0,
+    }
+}
+
+pub fn received_offset(answer: Received) -> u8
+    ensures { λ n. ⌜ n ≡ valuesOf answer .offset ⌝ }
+{
+    match answer {
+        Received::Delivered(_, _) => 0,
+        Received::Pending => 0,
+        Received::Dropped(d) => drop_offset(d),
     }
 }
 

@@ -4,11 +4,11 @@ ghost use Prim.Native.Nat.{_+_, _≤_, min};
 ghost use lib.ListN.{length};
 ghost use Rattle.wire.specs.Bytes.{Bytes};
 ghost use Rattle.reassembly.specs.Slots.{mostPeers};
-ghost use Rattle.endpoint.specs.Answer.{valuesOf};
-ghost use Rattle.wire.specs.Table.{numbered};
+ghost use Rattle.endpoint.specs.Answer.{valuesOf, toldBy};
+ghost use Rattle.wire.specs.Table.{told};
 ghost use Rattle.endpoint.specs.Table.{receiveRows};
 ghost use Rattle.endpoint.specs.Demand1.{ReceiveRule};
-ghost use Rattle.endpoint.specs.Receive.{stepOf, receiptOf};
+ghost use Rattle.endpoint.specs.Receive.{brokenAt, stepOf, receiptOf};
 ghost use Rattle.endpoint.specs.Stages.{fromOther, unlistedOf, contentFrom, openOf, offerAt, Lies, offerOf, bringsSegment, untakenOf, takeOf, changedOf};
 ghost use Rattle.endpoint.specs.Stages.{deliverOf};
 ghost use Rattle.endpoint.specs.Config.{mostBindings};
@@ -37,6 +37,8 @@ use wire::ipv4::Ipv4;
 use wire::ipv4::Ipv4Read;
 use wire::number::KIND_STT;
 use wire::number::STT_HEADER;
+use wire::refusal::Refusal;
+use wire::refusal::offset;
 use wire::segment::Segment;
 use wire::stt::SttRead;
 
@@ -100,14 +102,23 @@ fn unlisted(ip: Ipv4Read) -> Arrival
     ensures { λ r. ⌜ r ≡ unlistedOf ip ⌝ }
 {
     match ip {
-        Ipv4Read::Refused(r) => other_sender(Drop::Format(r)),
+        Ipv4Read::Refused(r) => other_sender(Drop::Format(r, 0)),
         Ipv4Read::Packet(_) => other_sender(Drop::UnknownPeer),
     }
 }
 
-// What a listed peer's packet brings: 8 to 10, and 11 for VXLAN and NVGRE.
+// A format is broken. In the packet, the IP payload begins at `start`, behind at most fifteen words; in an STT frame, `start` is 0.
+fn broken(start: usize, r: Refusal) -> Drop
+    requires { ⌜ start ≤ 60 ⌝ }
+    ensures { λ d. ⌜ d ≡ brokenAt start r ⌝ }
+{
+    let at = offset(start as u8, r);
+    Drop::Format(r, at as u8)
+}
+
+// What a listed peer's packet brings: 8 to 10, and 25 to 27.
 fn unpack(port: u16, h: Ipv4, packet: &[u8]) -> Content
-    requires { ⌜ (h .start ≤ h .end) × (h .end ≤ length (now packet)) ⌝ }
+    requires { ⌜ (h .start ≤ h .end) × ((h .end ≤ length (now packet)) × (h .start ≤ 60)) ⌝ }
     ensures { λ r. ⌜ r ≡ contentFrom port h (now (packet .entry)) ⌝ }
 {
     let start = h.start;
@@ -116,7 +127,7 @@ fn unpack(port: u16, h: Ipv4, packet: &[u8]) -> Content
     let read = carriage::read(h.protocol, h.source, h.destination, port, payload);
     match read {
         Carried::Refused(r) => {
-            return Content::Refused(Drop::Format(r));
+            return Content::Refused(broken(start, r));
         }
         Carried::Tunnel(t) => {
             let at = start + t.start;
@@ -141,7 +152,7 @@ fn unpack(port: u16, h: Ipv4, packet: &[u8]) -> Content
     }
 }
 
-// Opens a packet: checks 2 to 10 in order, and 11 for VXLAN and NVGRE. `room` is the memory's length.
+// Opens a packet: checks 2 to 10 in order, and 25 to 27. `room` is the memory's length.
 pub fn open(
     addresses: &[u32; PEERS],
     own: u32,
@@ -173,14 +184,14 @@ pub fn open(
     }
 }
 
-// A complete STT frame that lies in the memory from `at` on: check 11.
+// A complete STT frame that lies in the memory from `at` on: 28, 29.
 fn complete(at: usize, frame: &[u8]) -> Offer
     requires { ⌜ at + length (now frame) ≤ 65536 ⌝ }
     ensures { λ r. ⌜ r ≡ offerAt at (now (frame .entry)) ⌝ }
 {
     let header = wire::stt::read(frame);
     match header {
-        SttRead::Refused(r) => Offer::Refused(Drop::Format(r)),
+        SttRead::Refused(r) => Offer::Refused(broken(0, r)),
         SttRead::Header(context) => Offer::Frame(InnerFrame {
             network: context,
             place: Place {
@@ -234,7 +245,7 @@ pub fn untaken(arrival: Arrival) -> Offer
     }
 }
 
-// Takes the segment that a packet brings, with its sender's peer record: 14 to 17, then 11 where the frame is complete. All else passes.
+// Takes the segment that a packet brings, with its sender's peer record: 14 to 17, then 28 and 29 where the frame is complete. All else passes.
 pub fn take(row: Peer, arrival: Arrival, packet: &[u8], memory: &mut [u8]) -> Changed
     ensures { λ r. ⌜ r ≡ changedOf (takeOf row arrival (now (packet .entry)) (now (memory .entry))) ⌝ }
     ensures { λ _. ⌜ now (memory .exit) ≡ takeOf row arrival (now (packet .entry)) (now (memory .entry)) .mem ⌝ }
@@ -302,7 +313,7 @@ pub fn deliver<'a, 'r>(
             let read = wire::frame::read(frame);
             match read {
                 FrameRead::Refused(r) => {
-                    return Received::Dropped(Drop::Format(r));
+                    return Received::Dropped(Drop::Format(r, 0));
                 }
                 FrameRead::Good => {
                     return Received::Delivered(
@@ -319,11 +330,11 @@ pub fn deliver<'a, 'r>(
 }
 
 // Receives a packet. The memory is lent; a delivered STT frame lies there until the next receive. Promised: answer, endpoint and memory are the
-// definition's; document 01's number is the table's; and demand 1.
+// definition's; number and offset are the table's; and demand 1.
 pub fn receive(e: Endpoint, packet: &[u8], memory: &mut [u8]) -> ReceiveResult
     ensures { λ r. ⌜ r ≡ receiptOf e (stepOf e (now (memory .entry)) (now (packet .entry))) ⌝ }
     ensures { λ _. ⌜ now (memory .exit) ≡ stepOf e (now (memory .entry)) (now (packet .entry)) .mem ⌝ }
-    ensures { λ r. ⌜ (Bytes (now (packet .entry)) → valuesOf (r .answer) .number ≡ numbered (receiveRows e (now (memory .entry)) (now (packet .entry)))) ⌝ }
+    ensures { λ r. ⌜ (Bytes (now (packet .entry)) → toldBy (valuesOf (r .answer)) ≡ told (receiveRows e (now (memory .entry)) (now (packet .entry)))) ⌝ }
     ensures { λ r. ⌜ ReceiveRule e (now (memory .entry)) (now (packet .entry)) (valuesOf (r .answer)) (r .endpoint) (now (memory .exit)) ⌝ }
 {
     let arrival = open(

@@ -11,7 +11,8 @@ use lib.ListN.{length, getD, set, take, drop}
 use lib.Seq.{set-getD, getD-set-same, getD-set-other}
 use lib.Dec.{ltb, eqb}
 use Rattle.wire.specs.Bytes.{Bytes}
-use Rattle.wire.specs.Laws.Refusal.{refusal-codes, stt-code, frame-code}
+use Rattle.wire.specs.Refusal.{Finding, codeOf, findingOf}
+use Rattle.wire.specs.Laws.Refusal.{Told, refusal-told, stt-code, frame-plain}
 use Rattle.wire.specs.Stt.{sttOf}
 use Rattle.wire.specs.Frame.{frameOf}
 use Rattle.wire.specs.declared.stt.SttRead.{SttRead}
@@ -40,8 +41,10 @@ use Rattle.reassembly.specs.declared.take.Outcome.the-variants as O
 use Rattle.endpoint.specs.Answer.{dropCode, placeOf, valuesOf}
 use Rattle.endpoint.specs.Search.{lowest}
 use Rattle.endpoint.specs.Config.{Config, configOf, binds}
-use Rattle.endpoint.specs.Receive.{answers, byBinding, innerFrom, byStt, sttFrom, headerOf, judgeOf, Step, rowAt, unchanged, stepped, stepOf, withRow}
+use Rattle.endpoint.specs.Receive.{brokenAt, answers, byBinding, innerFrom, byStt, sttFrom, headerOf, judgeOf, Step, rowAt, unchanged, stepped, stepOf}
+use Rattle.endpoint.specs.Receive.{withRow}
 use Rattle.endpoint.specs.Laws.Receive.{header-kept, config-few, Conclusive, header-conclusive}
+use Rattle.endpoint.specs.Laws.Silent.{step-silent}
 use Rattle.endpoint.specs.Formats.{CarriesFrame, GoodFrame}
 use Rattle.endpoint.specs.Laws.Formats.{segment-sound, segment-complete, frame-sound}
 use Rattle.endpoint.specs.Laws.Demand2.{SegBytes, header-bytes, lies-view, verdict-good, after-inside, judged-good}
@@ -57,49 +60,62 @@ use Rattle.endpoint.specs.Demand1.{FromPacket, FromMemory, Delivered, Re
 
 -- ---- its numbers
 
--- a refusal's number is one of 2 to 17
-drop-codes : (d : Drop) → (2 ≤ dropCode d) × (dropCode d ≤ 17)
-drop-codes D.MemoryTooSmall = (omega arith, omega arith)
-drop-codes (D.Format r) = let c = refusal-codes r in (omega (arith, c .0), omega (arith, c .1))
-drop-codes D.NotForUs = (omega arith, omega arith)
-drop-codes D.UnknownPeer = (omega arith, omega arith)
-drop-codes D.NoBinding = (omega arith, omega arith)
-drop-codes (D.Segment r) = let c = rejection-codes r in (omega (arith, c .0), c .1)
+abbrev Number : ℕ → Type 0
+Number n = ((n ≤ 17) × (n ≢ 11)) ⊎ ((25 ≤ n) × (n ≤ 29))
 
-number-most : (a : Received) → valuesOf a .number ≤ 17
-number-most (R.Delivered t p) = omega arith
-number-most R.Pending = omega arith
-number-most (R.Dropped d) = drop-codes d .1
+-- a refusal's number is one of 2 to 10, 12 to 17, 25 to 29
+drop-codes : (d : Drop) → (2 ≤ dropCode d) × Number (dropCode d)
+drop-codes D.MemoryTooSmall = (omega arith, inl (omega arith, λ z. omega arith))
+drop-codes (D.Format r o) = by (refusal-told 0 r)
+  where
+    by : Told 0 (findingOf 0 r) → (2 ≤ codeOf r) × Number (codeOf r)
+    by (inl x) = (omega (arith, x .0), inl (omega (arith, x .1 .0), λ z. omega (arith, x .1 .0)))
+    by (inr (inl x)) = (omega (arith, x .0), inl (omega (arith, x .0), λ z. omega (arith, x .0)))
+    by (inr (inr x)) = (omega (arith, x .0), inr (x .0, x .1 .0))
+drop-codes D.NotForUs = (omega arith, inl (omega arith, λ z. omega arith))
+drop-codes D.UnknownPeer = (omega arith, inl (omega arith, λ z. omega arith))
+drop-codes D.NoBinding = (omega arith, inl (omega arith, λ z. omega arith))
+drop-codes (D.Segment r) = let c = rejection-codes r in (omega (arith, c .0), inl (c .1, λ z. omega (arith, c .0)))
+
+number-one : (a : Received) → Number (valuesOf a .number)
+number-one (R.Delivered t p) = inl (omega arith, λ z. omega arith)
+number-one R.Pending = inl (omega arith, λ z. omega arith)
+number-one (R.Dropped d) = drop-codes d .1
 
 empties : (a : Received) → valuesOf a .number ≢ 0 → Empties (valuesOf a)
 empties (R.Delivered t p) d = absurd (d refl)
 empties R.Pending d = record { no-tenant = refl; no-binding = refl; start = refl; size = refl; in-packet = refl }
 empties (R.Dropped x) d = record { no-tenant = refl; no-binding = refl; start = refl; size = refl; in-packet = refl }
 
--- ---- a frame is found bad by 11, 12 or 13
+-- ---- a frame is found bad by 28, 29, 12 or 13
 
 bound-bad : (tenants : List ℕ) (o : Option ℕ) (frame : List ℕ) (r : FrameRead) → frameOf frame ≡ r → (d : Drop) → byBinding tenants o r ≡ bad d
-    → dropCode d among (11 ∷ 12 ∷ 13 ∷ []) ≡ true
+    → dropCode d among (28 ∷ 29 ∷ 12 ∷ 13 ∷ []) ≡ true
 bound-bad tenants none frame r q d e = let z : D.NoBinding ≡ d = cc (e) in rw (← z)
 bound-bad tenants (some b) frame I.Good q d e = clash (cc (e))
-bound-bad tenants (some b) frame (I.Refused r) q d e = let z : D.Format r ≡ d = cc (e) in rw (← z, frame-code frame r q)
+bound-bad tenants (some b) frame (I.Refused r) q d e =
+    let z : D.Format r 0 ≡ d = cc (e) in
+    let is : codeOf r ≡ 13 = ap (λ (x : Finding). x .number) (frame-plain frame r 0 q) in
+    rw (← z, is)
 
 inner-bad : (networks kinds owners tenants : List ℕ) (n peer kind network : ℕ) (frame : List ℕ) (d : Drop)
     → innerFrom networks kinds owners tenants n peer kind network frame ≡ bad d
-    → dropCode d among (11 ∷ 12 ∷ 13 ∷ []) ≡ true
+    → dropCode d among (28 ∷ 29 ∷ 12 ∷ 13 ∷ []) ≡ true
 unfolding innerFrom
 inner-bad networks kinds owners tenants n peer kind network frame d e =
     bound-bad tenants (lowest (binds networks kinds owners peer kind network) n) frame (frameOf frame) refl d e
 
 judge-bad : (c : Config) (p : ℕ) (note : Note) (frame : List ℕ) (d : Drop) → 18 ≤ length frame → judgeOf c p note frame ≡ bad d
-    → dropCode d among (11 ∷ 12 ∷ 13 ∷ []) ≡ true
+    → dropCode d among (28 ∷ 29 ∷ 12 ∷ 13 ∷ []) ≡ true
 unfolding judgeOf sttFrom
 judge-bad c p note frame d l e = by (sttOf frame) refl e
   where
     by : (r : SttRead) → sttOf frame ≡ r
         → byStt r (λ context. innerFrom (c .networks) (c .kinds) (c .owners) (c .tenants) (c .bindings) p 3 context (drop 18 frame)) ≡ bad d
-        → dropCode d among (11 ∷ 12 ∷ 13 ∷ []) ≡ true
-    by (H.Refused r) q e = let z : D.Format r ≡ d = cc (e) in rw (← z, stt-code frame r l q)
+        → dropCode d among (28 ∷ 29 ∷ 12 ∷ 13 ∷ []) ≡ true
+    by (H.Refused r) q e =
+        let z : brokenAt 0 r ≡ d = cc (e) in
+        either (stt-code frame r l q) (λ v. rw (← z, v)) (λ v. rw (← z, v))
     by (H.Header context) q e = inner-bad (c .networks) (c .kinds) (c .owners) (c .tenants) (c .bindings) p 3 context (drop 18 frame) d e
 
 verdict-bad : (x : Verdict answers) (i n : ℕ) (frame : List ℕ) (d : Drop) → frameAnswer answers x i n frame .reply ≡ R.Dropped d → x ≡ bad d
@@ -280,16 +296,25 @@ module _ (e : Endpoint) (m k : List ℕ) (d : Drop) where
   refused : stepOf e m k .answer ≡ R.Dropped d → Refused (stepOf e m k)
   refused t = step-cases e m k Refused (λ z. same 0 (rowAt e 0) m (R.Dropped D.MemoryTooSmall) refl refl) seen t
 
-rejection-not : (r : Rejection) → rejectionCode r among (11 ∷ 12 ∷ 13 ∷ []) ≡ false
+rejection-not : (r : Rejection) → rejectionCode r among (25 ∷ 26 ∷ 27 ∷ 28 ∷ 29 ∷ 12 ∷ 13 ∷ []) ≡ false
 rejection-not r =
     let n : ℕ = rejectionCode r in
     let least : 14 ≤ n = rejection-codes r .0 in
-    rw (ne-eqb n 11 (λ z. omega arith), ne-eqb n 12 (λ z. omega arith), ne-eqb n 13 (λ z. omega arith))
+    let most : n ≤ 17 = rejection-codes r .1 in
+    rw (
+      ne-eqb n 25 (λ z. omega arith),
+      ne-eqb n 26 (λ z. omega arith),
+      ne-eqb n 27 (λ z. omega arith),
+      ne-eqb n 28 (λ z. omega arith),
+      ne-eqb n 29 (λ z. omega arith),
+      ne-eqb n 12 (λ z. omega arith),
+      ne-eqb n 13 (λ z. omega arith),
+    )
 
--- 11, 12 or 13 on a segment is given only where a complete frame is found bad
+-- 25 to 29, 12 or 13 on a segment is given only where a complete frame is found bad
 module _ (e : Endpoint) (m k : List ℕ) (p : ℕ) (g : Seg) (h : headerOf (configOf e) k ≡ segment p g) where
   abbrev Bad : Received → Type 0
-  Bad a = valuesOf a .number among (11 ∷ 12 ∷ 13 ∷ []) ≡ true
+  Bad a = valuesOf a .number among (25 ∷ 26 ∷ 27 ∷ 28 ∷ 29 ∷ 12 ∷ 13 ∷ []) ≡ true
       → FoundBad e m k (valuesOf a .number) (withRow e p (takeIn p (rowAt e p) m g .row)) (takeIn p (rowAt e p) m g .mem)
 
   judged-bad : (s : ℕ) → takeIn p (rowAt e p) m g .outcome ≡ O.Complete s → (frame : List ℕ) (x : Verdict answers)
@@ -307,7 +332,7 @@ module _ (e : Endpoint) (m k : List ℕ) (p : ℕ) (g : Seg) (h : headerOf (conf
   outcome-bad (O.Complete s) q =
       rw (complete-reply answers (judgeOf (configOf e)) bytesOf p g (takeIn p (rowAt e p) m g) s) (judged-bad s q _ _ refl)
 
-  step-bad : valuesOf (stepOf e m k .answer) .number among (11 ∷ 12 ∷ 13 ∷ []) ≡ true
+  step-bad : valuesOf (stepOf e m k .answer) .number among (25 ∷ 26 ∷ 27 ∷ 28 ∷ 29 ∷ 12 ∷ 13 ∷ []) ≡ true
       → FoundBad e m k (valuesOf (stepOf e m k .answer) .number) (withRow e (stepOf e m k .peer) (stepOf e m k .row)) (stepOf e m k .mem)
   unfolding stepOf
   step-bad n =
@@ -413,7 +438,8 @@ module _ (e : Endpoint) (m k : List ℕ) where
 
   pub receive-rule : ReceiveRule e m k (valuesOf (stepOf e m k .answer)) left (stepOf e m k .mem)
   receive-rule = record {
-    number = number-most (stepOf e m k .answer);
+    number = number-one (stepOf e m k .answer);
+    offset = step-silent e m k;
     empties = empties (stepOf e m k .answer);
     delivered = by-zero (stepOf e m k .answer) refl;
     not-yet = by-one (stepOf e m k .answer) refl;

@@ -6,6 +6,7 @@ use Rattle.endpoint.specs.Receive.{answers, layers, receiptOf}
 use Rattle.endpoint.specs.Laws.View.{view-rule}
 use Rattle.endpoint.specs.Laws.Calls.{calls-are, receive-is}
 use Rattle.endpoint.specs.Laws.Table.{document-table}
+use Rattle.endpoint.specs.Laws.Offset.{offsets}
 use Rattle.endpoint.specs.Laws.Demand1.{start-rule, add-peer-rule, add-binding-rule, tick-rule, wrap-rule}
 use Rattle.endpoint.specs.Laws.Demand1Receive.{receive-rule}
 use Rattle.endpoint.specs.Laws.Configured.{set-up-configured, set-up-free, reached-configured}
@@ -26,6 +27,7 @@ demand-one = record {
   view = view-rule;
   wrap = wrap-rule;
   table = document-table;
+  offsets = offsets;
   set-up = set-up-configured;
   all-free = set-up-free;
   reached = reached-configured;

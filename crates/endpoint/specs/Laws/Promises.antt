@@ -3,12 +3,12 @@ use Prim.Native.Nat.{ℕ}
 use mathlib.Core.Path.{_≡_, refl, _∙_}
 use mathlib.Core.List.{List}
 use Rattle.wire.specs.Bytes.{Bytes}
-use Rattle.endpoint.specs.Answer.{valuesOf, startCode, addedCode, addedValuesOf, tickCode, wrapValuesOf}
+use Rattle.endpoint.specs.Answer.{valuesOf, toldBy, startCode, addedCode, addedValuesOf, tickCode, wrapValuesOf}
 use Rattle.endpoint.specs.Config.{startOf, addPeerOf, addBindingOf, tickOf}
 use Rattle.endpoint.specs.Receive.{stepOf, receiptOf}
 use Rattle.endpoint.specs.Wrap.{wrapOf}
 use Rattle.endpoint.specs.Reached.{Reached}
-use Rattle.wire.specs.Table.{numbered}
+use Rattle.wire.specs.Table.{told, numbered}
 use Rattle.endpoint.specs.Table.{startRows, addPeerRows, addBindingRows, receiveRows, wrapRows}
 use Rattle.endpoint.specs.Laws.Table.{document-table}
 use Rattle.endpoint.specs.Demand1.{StartRule, PeerAdded, BindingAdded, AddRule, ReceiveRule, TickRule, WrapRule}
@@ -54,7 +54,7 @@ add-binding-promised e peer kind network tenant r is =
 pub receive-promised : (e : Endpoint) (m k : List ℕ) (r : ReceiveResult) (m′ : List ℕ) → r ≡ receiptOf e (stepOf e m k) → m′ ≡ stepOf e m k .mem
     → (r ≡ receiptOf e (stepOf e m k))
     × ((m′ ≡ stepOf e m k .mem)
-    × ((Bytes k → valuesOf (r .answer) .number ≡ numbered (receiveRows e m k)) × ReceiveRule e m k (valuesOf (r .answer)) (r .endpoint) m′))
+    × ((Bytes k → toldBy (valuesOf (r .answer)) ≡ told (receiveRows e m k)) × ReceiveRule e m k (valuesOf (r .answer)) (r .endpoint) m′))
 unfolding receiptOf
 receive-promised e m k r m′ is left = (is, (left, (λ b. rw is (document-table .receive e m k b), rw (is, left) (receive-rule e m k))))
 

@@ -50,7 +50,8 @@ use Rattle.endpoint.specs.Laws.Search.{lowest-some}
 use Rattle.endpoint.specs.declared.search.Lookup.{Lookup}
 use Rattle.endpoint.specs.declared.search.Lookup.the-variants as L
 use Rattle.endpoint.specs.Config.{Config, configOf, hasAddress, findPeer, binds, mostBindings}
-use Rattle.endpoint.specs.Receive.{answers, isDelivered, innerFrom, answerAt, tunnelFrom, byPayload, byPeer, headerOf, byDestination, byIpv4, bySender}
+use Rattle.endpoint.specs.Receive.{brokenAt, answers, isDelivered, innerFrom, answerAt, tunnelFrom, byPayload, byPeer, headerOf, byDestination, byIpv4}
+use Rattle.endpoint.specs.Receive.{bySender}
 use Rattle.endpoint.specs.Receive.{sourceOf, byStt, sttFrom, judgeOf, Step, rowAt, unchanged, stepped, stepOf, withRow}
 use Rattle.endpoint.specs.declared.answer.Drop.{Drop}
 use Rattle.endpoint.specs.declared.answer.Drop.the-variants as D
@@ -85,7 +86,7 @@ found-among d test n all f q s = q ∙ ap (λ (x : ℕ). foundOf d (lowest test 
 -- ---- the ways out of what a listed peer's packet brings
 
 module _ (port : ℕ) (h : Ipv4) (k payload : List ℕ) (is : payload ≡ part k (h .start) (h .end)) where
-  pub content-refused : (r : Refusal) → carriageOf (h .protocol) (h .source) (h .destination) port payload ≡ C.Refused r → A.Refused (D.Format r)
+  pub content-refused : (r : Refusal) → carriageOf (h .protocol) (h .source) (h .destination) port payload ≡ C.Refused r → A.Refused (brokenAt (h .start) r)
       ≡ contentFrom port h k
   unfolding contentFrom
   content-refused r read = rw (← is, read)
@@ -127,10 +128,10 @@ module _ (addresses : List ℕ) (own port peers : ℕ) (k : List ℕ) (room : �
         unfolding openOf
         open-peer p x q r = rw (le-ltb room 55296 enough, ip, eq-eqb (h .destination) own ours, q, r)
 
--- ---- the ways out of a complete STT frame's check 11
+-- ---- the ways out of a complete STT frame's checks 28 and 29
 
 module _ (at : ℕ) (frame : List ℕ) where
-  pub offer-refused : (r : Refusal) → sttOf frame ≡ T.Refused r → B.Refused (D.Format r) ≡ offerAt at frame
+  pub offer-refused : (r : Refusal) → sttOf frame ≡ T.Refused r → B.Refused (brokenAt 0 r) ≡ offerAt at frame
   unfolding offerAt
   offer-refused r e = rw e
 
@@ -242,7 +243,7 @@ module _ (networks kinds owners tenants : List ℕ) (n peer : ℕ) (o : Offer) (
 
     module _ (b : ℕ) (found : lowest (binds networks kinds owners peer (f .kind) (f .network)) n ≡ some b) (frame : List ℕ)
         (view : frame ≡ viewOf k m (placeOf (f .place))) where
-      pub deliver-bad : (r : Refusal) → frameOf frame ≡ F.Refused r → R.Dropped (D.Format r) ≡ deliverOf networks kinds owners tenants n peer o k m
+      pub deliver-bad : (r : Refusal) → frameOf frame ≡ F.Refused r → R.Dropped (D.Format r 0) ≡ deliverOf networks kinds owners tenants n peer o k m
       unfolding deliverOf innerFrom
       deliver-bad r e = rw (is, found, ← view, e)
 
@@ -289,7 +290,7 @@ module _ (c : Config) (p : ℕ) (k after : List ℕ) (i n : ℕ) (long : 18 ≤ 
       ≡ frameAnswer answers (byStt x (λ context. innerFrom (c .networks) (c .kinds) (c .owners) (c .tenants) (c .bindings) p 3 context (drop 18 whole))) i n
       whole .reply
   unfolding deliverOf
-  header-out (T.Refused r) = sym (bad-reply answers (D.Format r) i n whole)
+  header-out (T.Refused r) = sym (bad-reply answers (brokenAt 0 r) i n whole)
   header-out (T.Header context) =
       rw (slot-view k after i n long inside) (verdict-out (innerFrom (c .networks) (c .kinds) (c .owners) (c .tenants) (c .bindings) p 3 context
       (drop 18 whole)) i n whole)

@@ -9,16 +9,19 @@ use native.Mathlib.Omega.{arith}
 use lib.ListN.{length, getD, drop}
 use lib.Dec.{ltb, leb, eqb}
 use borrow.Author.Tests.{ltb-true, ltb-false, leb-false, lt-ltb, le-ltb, le-leb, lt-leb, ne-eqb}
-use Rattle.wire.specs.Checks.{pick, _⇒_}
+use Rattle.wire.specs.Checks.{pick}
+use Rattle.wire.specs.Refusal.{Finding, _atByte_, only, codeOf, findingOf}
+use Rattle.wire.specs.Laws.Refusal.{refusal-number, ipv4-plain, frame-plain}
+use Rattle.wire.specs.declared.refusal.Refusal.{Refusal}
 use Rattle.wire.specs.Bytes.{Bytes, part}
-use Rattle.wire.specs.Laws.Bytes.{part-short, part-drop, bytes-part}
+use Rattle.wire.specs.Laws.Bytes.{part-short, part-drop}
 use Rattle.wire.specs.Laws.Write.{vxlan-length-is, nvgre-length-is, segment-length-is}
 use Rattle.wire.specs.Ipv4.{ipv4Of}
 use Rattle.wire.specs.Carriage.{carriageOf}
 use Rattle.wire.specs.Stt.{sttOf}
 use Rattle.wire.specs.Frame.{frameOf}
 use Rattle.wire.specs.Table as T
-use Rattle.wire.specs.Table.{_andThen_, _otherwise_}
+use Rattle.wire.specs.Table.{_⇒_, _andThen_, _otherwise_}
 use Rattle.wire.specs.Laws.Checks.{choices, unless}
 use Rattle.wire.specs.Laws.Table.{pull, behind, row3, row6, payload-is, segment-bytes-are, total-most, wire-table}
 use Rattle.wire.specs.declared.ipv4.Ipv4.{Ipv4}
@@ -42,12 +45,12 @@ use Rattle.reassembly.specs.Take.{Seg, segOf, Effect, slotNo, frameIn}
 use Rattle.reassembly.specs.declared.take.Outcome.{Outcome}
 use Rattle.reassembly.specs.declared.take.Outcome.the-variants as O
 use Rattle.reassembly.specs.Store.{bytesOf, takeIn}
-use Rattle.reassembly.specs.Table.{segmentRows, completeFrame, takenNumber}
+use Rattle.reassembly.specs.Table.{segmentRows, completeFrame, takenTells}
 use Rattle.reassembly.specs.Laws.Table.{reassembly-table, under-segment}
 use Rattle.reassembly.specs.Laws.Answers.{bad-reply, good-reply, rejected-reply, pending-reply, complete-reply, no-memory-reply}
-use Rattle.reassembly.specs.Laws.Answers.{rejected-number, pending-number, complete-number, no-memory-number}
+use Rattle.reassembly.specs.Laws.Answers.{rejected-told, pending-told, complete-told, no-memory-told}
 use Rattle.reassembly.specs.Receive.{nowhere, Answer, Reading, segment, frameAnswer, takeAnswer, Verdict, bad, good}
-use Rattle.endpoint.specs.Answer.{dropCode, addedCode, startCode, valuesOf, wrapValuesOf}
+use Rattle.endpoint.specs.Answer.{dropOf, addedCode, startCode, valuesOf, toldBy, wrapValuesOf}
 use Rattle.endpoint.specs.Config.{isSome, configOf, hasAddress, findPeer, binds, findBinding, fresh, startChecks, refusedStart, startOf, refusedAdd}
 use Rattle.endpoint.specs.Config.{addPeerChecks, withAddress, addPeerOf, isNetwork, addBindingChecks, withBinding, addBindingOf, mostBindings}
 use Rattle.endpoint.specs.Receive.{byBinding, byFrame, innerFrom, answerAt, tunnelFrom, tunnelOf, answers, byPayload, byPeer, byDestination, byIpv4}
@@ -163,89 +166,94 @@ binding-done e peer kind network tenant p i t once room =
 
 -- ---- the inner frame: 12, 13
 
-frame-row : (n : ℕ) (frame : List ℕ) → T.frameNumber n (frameOf frame) ≡ pick (T.badFrame frame) 13 n
-frame-row n frame = simp choices at (wire-table .inner-frame n frame)
+-- the two fields that a broken format is told by are one finding
+broken-told : (start : ℕ) (r : Refusal) → codeOf r atByte findingOf start r .offset ≡ findingOf start r
+broken-told start r = ap (λ (n : ℕ). n atByte findingOf start r .offset) (sym (refusal-number start r))
 
--- the number of a verdict
-verdictNumber : Verdict answers → ℕ
-verdictNumber (bad d) = dropCode d
-verdictNumber (good t) = 0
+frame-row : (x : Finding) (frame : List ℕ) → T.frameTells 0 x (frameOf frame) ≡ pick (T.badFrame frame) (only 13) x
+frame-row x frame = simp choices at (wire-table .inner-frame 0 x frame)
+
+-- what a verdict tells
+verdictTells : Verdict answers → Finding
+verdictTells (bad d) = dropOf d
+verdictTells (good t) = only 0
 
 module _ (e : Endpoint) (peer kind network : ℕ) (frame : List ℕ) where
   abbrev verdict : Verdict answers
   verdict = innerFrom (e .networks) (e .kinds) (e .owners) (e .tenants) (P.bindings e) peer kind network frame
 
-  inner-number : verdictNumber verdict ≡ T.numbered (P.innerRows e peer kind network frame)
-  unfolding innerFrom binds verdictNumber P.innerRows
-  inner-number =
+  inner-told : verdictTells verdict ≡ T.told (P.innerRows e peer kind network frame)
+  unfolding innerFrom binds verdictTells P.innerRows
+  inner-told =
       rw (some-lowest (P.bindings e) (P.isBinding e peer kind network))
       (simp choices (by-binding (lowest (P.isBinding e peer kind network) (P.bindings e))))
     where
-      by-frame : (r : FrameRead) (t : Target) → verdictNumber (byFrame r t) ≡ T.frameNumber 0 r
-      by-frame F.Good t = refl
-      by-frame (F.Refused r) t = refl
+      by-frame : (r : FrameRead) → frameOf frame ≡ r → (t : Target) → verdictTells (byFrame r t) ≡ T.frameTells 0 (only 0) r
+      by-frame F.Good q t = refl
+      by-frame (F.Refused r) q t = ap (λ (x : Finding). x .number atByte 0) (frame-plain frame r 0 q) ∙ sym (frame-plain frame r 0 q)
 
-      by-binding : (o : Option ℕ) → verdictNumber (byBinding (e .tenants) o (frameOf frame)) ≡ pick (not (isSome o)) 12 (pick (T.badFrame frame) 13 0)
+      by-binding : (o : Option ℕ) → verdictTells (byBinding (e .tenants) o (frameOf frame))
+          ≡ pick (not (isSome o)) (only 12) (pick (T.badFrame frame) (only 13) (only 0))
       by-binding none = refl
-      by-binding (some b) = by-frame (frameOf frame) (record { tenant = getD (e .tenants) b 0; binding = b }) ∙ frame-row 0 frame
+      by-binding (some b) = by-frame (frameOf frame) refl (record { tenant = getD (e .tenants) b 0; binding = b }) ∙ frame-row (only 0) frame
 
--- ---- a complete STT frame: 11, 12, 13
+-- ---- a complete STT frame: 28, 29, 12, 13
 
 module _ (e : Endpoint) (peer : ℕ) where
   abbrev judgeRows : List ℕ → T.Rows
   judgeRows frame = T.sttRows frame andThen P.innerRows e peer 3 (T.contextOf frame) (drop 18 frame)
 
-  judge-number : (note : Note) (frame : List ℕ) → 18 ≤ length frame → verdictNumber (judgeOf (configOf e) peer note frame) ≡ T.numbered (judgeRows frame)
-  unfolding judgeOf sttFrom configOf verdictNumber
-  judge-number note frame l =
+  judge-told : (note : Note) (frame : List ℕ) → 18 ≤ length frame → verdictTells (judgeOf (configOf e) peer note frame) ≡ T.told (judgeRows frame)
+  unfolding judgeOf sttFrom configOf verdictTells
+  judge-told note frame l =
       by-header (sttOf frame)
-      ∙ wire-table .stt-frame (λ context. verdictNumber (verdict e peer 3 context (drop 18 frame))) frame l
-      ∙ ap (λ (n : ℕ). T.sttRows frame otherwise n) (inner-number e peer 3 (T.contextOf frame) (drop 18 frame))
-      ∙ sym (behind (T.sttRows frame) (P.innerRows e peer 3 (T.contextOf frame) (drop 18 frame)) 0)
+      ∙ wire-table .stt-frame 0 (λ context. verdictTells (verdict e peer 3 context (drop 18 frame))) frame l
+      ∙ ap (λ (x : Finding). T.sttRows frame otherwise x) (inner-told e peer 3 (T.contextOf frame) (drop 18 frame))
+      ∙ sym (behind (T.sttRows frame) (P.innerRows e peer 3 (T.contextOf frame) (drop 18 frame)) (only 0))
     where
-      by-header : (x : SttRead) → verdictNumber (byStt x (λ context. verdict e peer 3 context (drop 18 frame)))
-          ≡ T.sttNumber (λ context. verdictNumber (verdict e peer 3 context (drop 18 frame))) x
+      by-header : (x : SttRead) → verdictTells (byStt x (λ context. verdict e peer 3 context (drop 18 frame)))
+          ≡ T.sttTells 0 (λ context. verdictTells (verdict e peer 3 context (drop 18 frame))) x
       by-header (H.Header context) = refl
-      by-header (H.Refused r) = refl
+      by-header (H.Refused r) = broken-told 0 r
 
 -- ---- an STT segment: 14, 15, 16, 17, 1, and then those of the complete frame
 
--- the number of the answer to what is made of a packet
-seenNumber : Endpoint → List ℕ → Reading answers → ℕ
-seenNumber e m x = valuesOf (stepped e m x .answer) .number
+-- what the answer to what is made of a packet tells
+seenTells : Endpoint → List ℕ → Reading answers → Finding
+seenTells e m x = toldBy (valuesOf (stepped e m x .answer))
 
-verdict-reply-number : (v : Verdict answers) (i n : ℕ) (frame : List ℕ) → valuesOf (frameAnswer answers v i n frame .reply) .number ≡ verdictNumber v
-unfolding verdictNumber
-verdict-reply-number (bad d) i n frame = ap (λ (a : Received). valuesOf a .number) (bad-reply answers d i n frame)
-verdict-reply-number (good t) i n frame = ap (λ (a : Received). valuesOf a .number) (good-reply answers t i n frame)
+verdict-reply-told : (v : Verdict answers) (i n : ℕ) (frame : List ℕ) → toldBy (valuesOf (frameAnswer answers v i n frame .reply)) ≡ verdictTells v
+unfolding verdictTells
+verdict-reply-told (bad d) i n frame = ap (λ (a : Received). toldBy (valuesOf a)) (bad-reply answers d i n frame)
+verdict-reply-told (good t) i n frame = ap (λ (a : Received). toldBy (valuesOf a)) (good-reply answers t i n frame)
 
 module _ (e : Endpoint) (m : List ℕ) (p : ℕ) (g : Seg) where
   -- what is made of a complete frame; its note says nothing in the base
-  judged : List ℕ → ℕ
-  judged frame = verdictNumber (judgeOf (configOf e) p noNote frame)
+  judged : List ℕ → Finding
+  judged frame = verdictTells (judgeOf (configOf e) p noNote frame)
 
-  outcome-number : (o : Effect bytesOf) (x : Outcome) → valuesOf (takeAnswer answers (judgeOf (configOf e)) bytesOf p g o x .reply) .number
-      ≡ takenNumber judged p g o x
+  outcome-told : (o : Effect bytesOf) (x : Outcome) → toldBy (valuesOf (takeAnswer answers (judgeOf (configOf e)) bytesOf p g o x .reply))
+      ≡ takenTells judged p g o x
   unfolding judged judgeOf
-  outcome-number o (O.Rejected r) =
-      ap (λ (a : Received). valuesOf a .number) (rejected-reply answers (judgeOf (configOf e)) bytesOf p g o r) ∙ sym (rejected-number judged p g o r)
-  outcome-number o O.Pending =
-      ap (λ (a : Received). valuesOf a .number) (pending-reply answers (judgeOf (configOf e)) bytesOf p g o) ∙ sym (pending-number judged p g o)
-  outcome-number o (O.Complete s) =
-      ap (λ (a : Answer answers). valuesOf (a .reply) .number) (complete-reply answers (judgeOf (configOf e)) bytesOf p g o s)
-      ∙ verdict-reply-number (judgeOf (configOf e) p (o .note) (frameIn bytesOf (o .mem) (slotNo p s) (g .frame-length))) _ _ _
-      ∙ sym (complete-number judged p g o s)
-  outcome-number o O.NoMemory =
-      ap (λ (a : Received). valuesOf a .number) (no-memory-reply answers (judgeOf (configOf e)) bytesOf p g o) ∙ sym (no-memory-number judged p g o)
+  outcome-told o (O.Rejected r) =
+      ap (λ (a : Received). toldBy (valuesOf a)) (rejected-reply answers (judgeOf (configOf e)) bytesOf p g o r) ∙ sym (rejected-told judged p g o r)
+  outcome-told o O.Pending =
+      ap (λ (a : Received). toldBy (valuesOf a)) (pending-reply answers (judgeOf (configOf e)) bytesOf p g o) ∙ sym (pending-told judged p g o)
+  outcome-told o (O.Complete s) =
+      ap (λ (a : Answer answers). toldBy (valuesOf (a .reply))) (complete-reply answers (judgeOf (configOf e)) bytesOf p g o s)
+      ∙ verdict-reply-told (judgeOf (configOf e) p (o .note) (frameIn bytesOf (o .mem) (slotNo p s) (g .frame-length))) _ _ _
+      ∙ sym (complete-told judged p g o s)
+  outcome-told o O.NoMemory =
+      ap (λ (a : Received). toldBy (valuesOf a)) (no-memory-reply answers (judgeOf (configOf e)) bytesOf p g o) ∙ sym (no-memory-told judged p g o)
 
-  segment-number : p < mostPeers → 55296 ≤ length m
-      → seenNumber e m (segment p g) ≡ T.numbered (segmentRows p (rowAt e p) m g andThen judgeRows e p (completeFrame p (rowAt e p) m g))
-  unfolding seenNumber judged
-  segment-number small enough =
-      outcome-number (takeIn p (rowAt e p) m g) (takeIn p (rowAt e p) m g .outcome)
+  segment-told : p < mostPeers → 55296 ≤ length m
+      → seenTells e m (segment p g) ≡ T.told (segmentRows p (rowAt e p) m g andThen judgeRows e p (completeFrame p (rowAt e p) m g))
+  unfolding seenTells judged
+  segment-told small enough =
+      outcome-told (takeIn p (rowAt e p) m g) (takeIn p (rowAt e p) m g .outcome)
       ∙ reassembly-table .segment judged p (rowAt e p) m g small enough
-      ∙ under-segment p (rowAt e p) m g _ _ (λ l. judge-number e p noNote (completeFrame p (rowAt e p) m g) (omega arith))
-      ∙ sym (behind (segmentRows p (rowAt e p) m g) (judgeRows e p (completeFrame p (rowAt e p) m g)) 0)
+      ∙ under-segment p (rowAt e p) m g _ _ (λ l. judge-told e p noNote (completeFrame p (rowAt e p) m g) (omega arith))
+      ∙ sym (behind (segmentRows p (rowAt e p) m g) (judgeRows e p (completeFrame p (rowAt e p) m g)) (only 0))
 
 -- ---- the payload, the sender and the outer header
 
@@ -282,122 +290,122 @@ module _ (e : Endpoint) (m k : List ℕ) where
   carriage = T.payloadRows protocol (T.sourceOf k) (T.destinationOf k) (e .port) payload
 
   abbrev next : T.Rows
-  next = cond (eqb protocol 17) (P.vxlanNext e peer payload) (cond (eqb protocol 47) (P.nvgreNext e peer payload) (P.sttNext e m peer payload))
+  next = cond (eqb protocol 17) (P.vxlanNext e peer start payload) (cond (eqb protocol 47) (P.nvgreNext e peer start payload) (P.sttNext e m peer payload))
 
   -- what is made of a tunnel and of a segment
-  tunnelNumber : Tunnel → ℕ
-  tunnelNumber t = valuesOf (tunnelOf (configOf e) peer (t .kind) (t .network) (start + t .start) (part k (start + t .start) end)) .number
+  tunnelTells : Tunnel → Finding
+  tunnelTells t = toldBy (valuesOf (tunnelOf (configOf e) peer (t .kind) (t .network) (start + t .start) (part k (start + t .start) end)))
 
-  segmentNumber : Segment → ℕ
-  segmentNumber g = seenNumber e m (segment peer (segOf g (part k (start + g .start) end)))
+  segmentTells : Segment → Finding
+  segmentTells g = seenTells e m (segment peer (segOf g (part k (start + g .start) end)))
 
-  carried-is : (x : Carried) → seenNumber e m (byPayload (configOf e) peer start end k x) ≡ T.carriedNumber tunnelNumber segmentNumber x
-  unfolding seenNumber tunnelNumber segmentNumber
-  carried-is (C.Refused r) = refl
+  carried-is : (x : Carried) → seenTells e m (byPayload (configOf e) peer start end k x) ≡ T.carriedTells start tunnelTells segmentTells x
+  unfolding seenTells tunnelTells segmentTells
+  carried-is (C.Refused r) = broken-told start r
   carried-is (C.Tunnel t) = refl
   carried-is (C.Segment g) = refl
 
   tunnel-rows : (rows : T.Rows) (kind network at : ℕ)
-      → (rows otherwise tunnelNumber (record { kind = kind; network = network; start = at }))
-      ≡ T.numbered (rows andThen P.innerRows e peer kind network (drop at payload))
-  unfolding tunnelNumber tunnelFrom configOf verdictNumber
+      → (rows otherwise tunnelTells (record { kind = kind; network = network; start = at }))
+      ≡ T.told (rows andThen P.innerRows e peer kind network (drop at payload))
+  unfolding tunnelTells tunnelFrom configOf verdictTells
   tunnel-rows rows kind network at =
-      ap (λ (n : ℕ). rows otherwise n) (
+      ap (λ (x : Finding). rows otherwise x) (
       by-verdict (verdict e peer kind network (part k (start + at) end)) _
-      ∙ inner-number e peer kind network (part k (start + at) end)
-      ∙ ap (λ (frame : List ℕ). T.numbered (P.innerRows e peer kind network frame)) (sym (part-drop k start end at)))
-      ∙ sym (behind rows (P.innerRows e peer kind network (drop at payload)) 0)
+      ∙ inner-told e peer kind network (part k (start + at) end)
+      ∙ ap (λ (frame : List ℕ). T.told (P.innerRows e peer kind network frame)) (sym (part-drop k start end at)))
+      ∙ sym (behind rows (P.innerRows e peer kind network (drop at payload)) (only 0))
     where
-      by-verdict : (v : Verdict answers) (place : Place) → valuesOf (answerAt v place) .number ≡ verdictNumber v
+      by-verdict : (v : Verdict answers) (place : Place) → toldBy (valuesOf (answerAt v place)) ≡ verdictTells v
       by-verdict (bad d) place = refl
       by-verdict (good t) place = refl
 
-  segment-is : peer < mostPeers → 55296 ≤ length m → segmentNumber carried ≡ T.numbered (P.sttNext e m peer payload)
-  unfolding segmentNumber P.sttNext
+  segment-is : peer < mostPeers → 55296 ≤ length m → segmentTells carried ≡ T.told (P.sttNext e m peer payload)
+  unfolding segmentTells P.sttNext
   segment-is small enough =
-      ap (λ (bs : List ℕ). seenNumber e m (segment peer (segOf carried bs)))
+      ap (λ (bs : List ℕ). seenTells e m (segment peer (segOf carried bs)))
       (sym (part-drop k start end (4 * T.dataWordsOf payload)) ∙ sym (segment-bytes-are payload))
-      ∙ segment-number e m peer (P.segmentOf payload) small enough
+      ∙ segment-told e m peer (P.segmentOf payload) small enough
 
-  payload-number : Bytes k → peer < mostPeers → 55296 ≤ length m
-      → seenNumber e m (byPayload (configOf e) peer start end k (carriageOf protocol (T.sourceOf k) (T.destinationOf k) (e .port) payload))
-      ≡ T.numbered (carriage andThen next)
+  payload-told : Bytes k → peer < mostPeers → 55296 ≤ length m
+      → seenTells e m (byPayload (configOf e) peer start end k (carriageOf protocol (T.sourceOf k) (T.destinationOf k) (e .port) payload))
+      ≡ T.told (carriage andThen next)
   unfolding P.vxlanNext P.nvgreNext
-  payload-number bytes small enough =
+  payload-told bytes small enough =
       carried-is (carriageOf protocol (T.sourceOf k) (T.destinationOf k) (e .port) payload)
-      ∙ wire-table .payload tunnelNumber segmentNumber protocol (T.sourceOf k) (T.destinationOf k) (e .port) payload (bytes-part k bytes start end) short
-      ∙ ap (λ (n : ℕ). carriage otherwise n) by-protocol
-      ∙ sym (behind carriage next 0)
+      ∙ wire-table .payload tunnelTells segmentTells start protocol (T.sourceOf k) (T.destinationOf k) (e .port) payload short
+      ∙ ap (λ (x : Finding). carriage otherwise x) by-protocol
+      ∙ sym (behind carriage next (only 0))
     where
       short : length payload ≤ 65535
       short = omega (arith, total-most k bytes, part-short k start end)
 
-      by-protocol : cond (eqb protocol 17) (T.vxlanRows payload otherwise tunnelNumber (record { kind = 1; network = T.vniOf payload; start = 16 }))
-          (cond (eqb protocol 47) (T.nvgreRows payload otherwise tunnelNumber (record { kind = 2; network = T.vsidOf payload; start = 8 }))
-          (segmentNumber carried)) ≡ T.numbered next
+      by-protocol : cond (eqb protocol 17) (T.vxlanRows start payload otherwise tunnelTells (record { kind = 1; network = T.vniOf payload; start = 16 }))
+          (cond (eqb protocol 47) (T.nvgreRows start payload otherwise tunnelTells (record { kind = 2; network = T.vsidOf payload; start = 8 }))
+          (segmentTells carried)) ≡ T.told next
       by-protocol =
           caseB (eqb protocol 17)
-          (λ a. rw a (tunnel-rows (T.vxlanRows payload) 1 (T.vniOf payload) 16))
+          (λ a. rw a (tunnel-rows (T.vxlanRows start payload) 1 (T.vniOf payload) 16))
           (λ a. caseB (eqb protocol 47)
-          (λ b. rw (a, b) (tunnel-rows (T.nvgreRows payload) 2 (T.vsidOf payload) 8))
+          (λ b. rw (a, b) (tunnel-rows (T.nvgreRows start payload) 2 (T.vsidOf payload) 8))
           (λ b. rw (a, b) (segment-is small enough)))
 
   -- what follows 6, and what follows 5
-  abbrev seventh : ℕ
-  seventh = pick (not (someBelow (P.peers e) sends)) 7 (T.numbered (carriage andThen next))
+  abbrev seventh : Finding
+  seventh = pick (not (someBelow (P.peers e) sends)) (only 7) (T.told (carriage andThen next))
 
   abbrev header : Ipv4
   header = record { start = start; end = end; source = T.sourceOf k; destination = T.destinationOf k; protocol = protocol }
 
   -- what is made of a packet whose header is good
-  good-header : Ipv4 → ℕ
-  good-header h = seenNumber e m (byDestination (configOf e) h k (eqb (h .destination) (e .own)))
+  good-header : Ipv4 → Finding
+  good-header h = seenTells e m (byDestination (configOf e) h k (eqb (h .destination) (e .own)))
 
   module _ (bytes : Bytes k) (enough : 55296 ≤ length m) where
-    peer-number : seenNumber e m (byPeer (configOf e) header k (findPeer (configOf e) (T.sourceOf k))) ≡ seventh
-    unfolding findPeer configOf hasAddress seenNumber
-    peer-number =
+    peer-told : seenTells e m (byPeer (configOf e) header k (findPeer (configOf e) (T.sourceOf k))) ≡ seventh
+    unfolding findPeer configOf hasAddress seenTells
+    peer-told =
         rw (some-lowest (P.peers e) sends)
         (caseO (lowest sends (P.peers e)) (λ q. rw q) (λ p q.
         let r : lowest sends (P.peers e) ≡ some peer = found-is (lowest sends (P.peers e)) p q in
         let small : peer < mostPeers = omega (arith, lowest-some sends (P.peers e) peer r .below) in
-        ap (λ (o : Option ℕ). seenNumber e m (byPeer (configOf e) header k o)) r
-        ∙ payload-number bytes small enough
-        ∙ sym (ap (λ (b : Bool). pick (not b) 7 (T.numbered (carriage andThen next))) (ap isSome r))))
+        ap (λ (o : Option ℕ). seenTells e m (byPeer (configOf e) header k o)) r
+        ∙ payload-told bytes small enough
+        ∙ sym (ap (λ (b : Bool). pick (not b) (only 7) (T.told (carriage andThen next))) (ap isSome r))))
 
-    ours-number : (b : Bool) → seenNumber e m (byDestination (configOf e) header k b) ≡ pick (not b) 6 seventh
-    unfolding seenNumber
-    ours-number false = refl
-    ours-number true = peer-number
+    ours-told : (b : Bool) → seenTells e m (byDestination (configOf e) header k b) ≡ pick (not b) (only 6) seventh
+    unfolding seenTells
+    ours-told false = refl
+    ours-told true = peer-told
 
-    header-number : seenNumber e m (headerOf (configOf e) k) ≡ (T.ipv4Rows k otherwise pick (not (eqb (T.destinationOf k) (e .own))) 6 seventh)
-    unfolding headerOf configOf seenNumber good-header
-    header-number =
-        by-header (ipv4Of k)
-        ∙ wire-table .ipv4 good-header k
-        ∙ ap (λ (n : ℕ). T.ipv4Rows k otherwise n) (ours-number (eqb (T.destinationOf k) (e .own)))
+    header-told : seenTells e m (headerOf (configOf e) k) ≡ (T.ipv4Rows k otherwise pick (not (eqb (T.destinationOf k) (e .own))) (only 6) seventh)
+    unfolding headerOf configOf seenTells good-header
+    header-told =
+        by-header (ipv4Of k) refl
+        ∙ wire-table .ipv4 0 good-header k
+        ∙ ap (λ (x : Finding). T.ipv4Rows k otherwise x) (ours-told (eqb (T.destinationOf k) (e .own)))
       where
-        by-header : (x : Ipv4Read) → seenNumber e m (byIpv4 (configOf e) k x) ≡ T.ipv4Number good-header x
-        by-header (I.Packet h) = refl
-        by-header (I.Refused r) = refl
+        by-header : (x : Ipv4Read) → ipv4Of k ≡ x → seenTells e m (byIpv4 (configOf e) k x) ≡ T.ipv4Tells 0 good-header x
+        by-header (I.Packet h) q = refl
+        by-header (I.Refused r) q = sym (ipv4-plain k r 0 q)
 
   -- behind 5: 6, 7, and the rest
   abbrev ours : T.Rows
   ours = (not (eqb (T.destinationOf k) (e .own)) ⇒ 6) ∷ (not (someBelow (P.peers e) sends) ⇒ 7) ∷ (carriage andThen next)
 
-  behind-header : (T.ipv4Rows k otherwise pick (not (eqb (T.destinationOf k) (e .own))) 6 seventh) ≡ T.numbered (T.ipv4Rows k andThen ours)
-  behind-header = sym (simp choices at (behind (T.ipv4Rows k) ours 0))
+  behind-header : (T.ipv4Rows k otherwise pick (not (eqb (T.destinationOf k) (e .own))) (only 6) seventh) ≡ T.told (T.ipv4Rows k andThen ours)
+  behind-header = sym (simp choices at (behind (T.ipv4Rows k) ours (only 0)))
 
-  pub receive-number : Bytes k → valuesOf (stepOf e m k .answer) .number ≡ T.numbered (P.receiveRows e m k)
-  unfolding stepOf seenNumber P.receiveRows
-  receive-number bytes =
+  pub receive-told : Bytes k → toldBy (valuesOf (stepOf e m k .answer)) ≡ T.told (P.receiveRows e m k)
+  unfolding stepOf seenTells P.receiveRows
+  receive-told bytes =
       caseB (ltb (length m) 55296)
       (λ q. simp (choices, q))
-      (λ q. simp (choices, q, payload-is k) (header-number bytes (ltb-false (length m) 55296 q) ∙ behind-header))
+      (λ q. simp (choices, q, payload-is k) (header-told bytes (ltb-false (length m) 55296 q) ∙ behind-header))
 
 -- a refusal and answer 1 carry no tenant, no binding and the empty place
 pub receive-empties : (a : Received) → valuesOf a .number ≢ 0
-    → valuesOf a ≡ record { number = valuesOf a .number; tenant = none; binding = none; place = nowhere }
+    → valuesOf a ≡ record { number = valuesOf a .number; offset = valuesOf a .offset; tenant = none; binding = none; place = nowhere }
 receive-empties (R.Delivered t p) d = absurd (d refl)
 receive-empties R.Pending d = refl
 receive-empties (R.Dropped r) d = refl
@@ -406,9 +414,9 @@ receive-empties (R.Dropped r) d = refl
 
 -- a frame is refused exactly where it is bad
 frame-bad : (frame : List ℕ) → isBad (frameOf frame) ≡ T.badFrame frame
-frame-bad frame = by (frameOf frame) (T.badFrame frame) (λ n. frame-row n frame)
+frame-bad frame = by (frameOf frame) (T.badFrame frame) (λ n. ap (λ (x : Finding). x .number) (frame-row (only n) frame))
   where
-    by : (r : FrameRead) (b : Bool) → ((n : ℕ) → T.frameNumber n r ≡ pick b 13 n) → isBad r ≡ b
+    by : (r : FrameRead) (b : Bool) → ((n : ℕ) → T.frameTells 0 (only n) r .number ≡ pick b (only 13) (only n) .number) → isBad r ≡ b
     by F.Good true h = absurd (omega (arith, h 0))
     by F.Good false h = refl
     by (F.Refused r) true h = refl
@@ -487,7 +495,7 @@ document-table = record {
   start = start-number;
   add-peer = add-peer-number;
   add-binding = add-binding-number;
-  receive = receive-number;
+  receive = receive-told;
   wrap = λ e reached b frame k identifier output. wrap-number e b frame k identifier output reached;
   empty = receive-empties;
   wrap-empty = wrap-empties;

@@ -13,6 +13,7 @@ use Rattle.wire.specs.Segment.{segmentChecks, segmentAt, segmentOf}
 use Rattle.wire.specs.Stt.{sttChecks, sttOf}
 use Rattle.wire.specs.Frame.{frameChecks, frameOf}
 use Rattle.wire.specs.Carriage.{carriageOf}
+use Rattle.wire.specs.Refusal.{findingOf}
 use Rattle.wire.specs.declared.refusal.Refusal.the-variants as F
 use Rattle.reassembly.specs.Base.{allBelow, table}
 use Rattle.reassembly.specs.Slots.{Note, noMark}
@@ -96,9 +97,9 @@ unfolding first headerOf ipv4Checks ipv4At ipv4Of be beAt part total ones udpSum
     hasAddress findPeer binds innerFrom tunnelFrom frameChecks frameOf
 read-own = refl
 
-pub read-broken : headerOf listed broken-packet ≡ direct 0 (R.Dropped (D.Format F.TcpChecksum))
+pub read-broken : headerOf listed broken-packet ≡ direct 0 (R.Dropped (D.Format F.TcpChecksum 0))
 unfolding first states headerOf ipv4Checks ipv4At ipv4Of be beAt part total ones pseudo segmentChecks segmentAt segmentOf carriageOf from lowest hasAddress
-    findPeer
+    findPeer findingOf
 read-broken = refl
 
 -- ---- other senders' packets

@@ -1,7 +1,7 @@
 -- `endpoint::receive::open` meets its contract, exit by exit.
 use Prim.Native.Nat.{min}
 use mathlib.Core.Path.{_≡_, _∙_, sym}
-use Rattle.wire.specs.Laws.Ipv4.{ipv4-bounds}
+use Rattle.wire.specs.Laws.Ipv4.{ipv4-bounds, ipv4-start}
 use Rattle.endpoint.specs.Config.{hasAddress}
 use Rattle.endpoint.specs.declared.answer.Drop.the-variants as D
 use Rattle.endpoint.specs.Search.{lowest, foundOf}
@@ -74,8 +74,11 @@ returns-4 c =
     (found-none _ _ _ (sym (found (c .before .before .before)) ∙ c .before .enum-told2 .given .1))
 
 unpack-requires : tie.Need-unpack-requires
-unpack-requires c κs = ipv4-bounds _ _ (sym (c .before .before .before .before .before .before .before .before .before .before .read .ensures)
-    ∙ c .before .before .before .before .before .before .before .before .ip .given .1)
+unpack-requires c κs =
+    let read = sym (c .before .before .before .before .before .before .before .before .before .before .read .ensures)
+    ∙ c .before .before .before .before .before .before .before .before .ip .given .1 in
+    let bounds = ipv4-bounds _ _ read in
+    (bounds .0, (bounds .1, ipv4-start _ _ read))
 
 returns-5 : tie.Need-returns-5
 returns-5 c =

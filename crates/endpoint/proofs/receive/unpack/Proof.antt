@@ -1,11 +1,12 @@
 -- `endpoint::receive::unpack` meets its contract.
 use Prim.Native.Nat.{_+_, _-_, _≤_}
-use mathlib.Core.Path.{_∙_, sym}
+use mathlib.Core.Path.{_∙_, sym, ap}
 use native.Mathlib.Omega.{arith}
 use lib.ListN.{drop, length-drop, length-take}
 use Rattle.wire.specs.Laws.Bytes.{part-is}
 use Rattle.wire.specs.Laws.Carriage.{tunnel-within, segment-within}
 use Rattle.endpoint.specs.Laws.Receive.{content-refused, content-tunnel, content-segment}
+use Rattle.endpoint.specs.declared.receive.Content.the-variants as A
 use borrow.Author.Needs.{needs}
 use Rattle.endpoint.proofs.receive.unpack.Statement.{statement}
 use Rattle.endpoint.proofs.receive.unpack.Tie as tie
@@ -25,8 +26,13 @@ read-requires c κs = search needs
 enum-known-read : tie.Need-enum-known-read
 enum-known-read c = search needs
 
+broken-requires : tie.Need-broken-requires
+broken-requires c κs = search needs
+
 returns : tie.Need-returns
-returns c = content-refused _ _ _ _ (sym (part-is _ _ _)) _ (sym (c .before .before .before .read .ensures) ∙ c .before .read2 .given .1)
+returns c =
+    ap A.Refused (c .broken .ensures)
+    ∙ content-refused _ _ _ _ (sym (part-is _ _ _)) _ (sym (c .before .before .before .before .read .ensures) ∙ c .before .before .read2 .given .1)
 
 enum-known-read-2 : tie.Need-enum-known-read-2
 enum-known-read-2 c = search needs
@@ -44,7 +50,7 @@ within c =
       length-take (a .h .end - a .h .start) (drop (a .h .start) (a .packet .now)),
       length-drop (a .h .start) (a .packet .now),
       c .before .before .before .before .before .before .pre .0,
-      c .before .before .before .before .before .before .pre .1,
+      c .before .before .before .before .before .before .pre .1 .0,
     )
 
 add-at : tie.Need-add-at
@@ -76,7 +82,7 @@ within-2 c =
       length-take (a .h .end - a .h .start) (drop (a .h .start) (a .packet .now)),
       length-drop (a .h .start) (a .packet .now),
       c .before .before .before .before .before .before .pre .0,
-      c .before .before .before .before .before .before .pre .1,
+      c .before .before .before .before .before .before .pre .1 .0,
     )
 
 add-at-2 : tie.Need-add-at-2
@@ -97,6 +103,7 @@ unpack-spec =
     part-payload-end
     read-requires
     enum-known-read
+    broken-requires
     returns
     enum-known-read-2
     add-at
