@@ -5,8 +5,7 @@ use mathlib.Core.Bool.{Bool, _&&_, _||_}
 use mathlib.Core.List.{List, [], _∷_}
 use lib.ListN.{length}
 use Rattle.wire.specs.Bytes.{beAt}
-use Rattle.wire.specs.Checks.{_⇒_}
-use Rattle.wire.specs.Table.{Rows, _is_, _isnt_, _below_, _above_, _atLeast_}
+use Rattle.wire.specs.Table.{Rows, _⇒_, _is_, _isnt_, _below_, _above_, _atLeast_}
 use Rattle.reassembly.specs.Base.{someBelow}
 use Rattle.endpoint.specs.Table.{peers, bindings, badAddress, badId}
 use Rattle.endpoint.specs.declared.config.Endpoint.{Endpoint}

@@ -12,9 +12,10 @@ use borrow.Author.Tests.{eqb-true, eqb-false, ltb-false, leb-false, eq-eqb, ne-e
 use Rattle.wire.specs.Bytes.{Bytes, beAt}
 use Rattle.wire.specs.Checks.{_⇒_, Passed}
 use Rattle.wire.specs.Field.{field}
+use Rattle.wire.specs.Refusal.{Finding}
 use Rattle.wire.specs.Table.{Rows, numbered}
 use Rattle.wire.specs.Laws.Bytes.{caseB}
-use Rattle.wire.specs.Laws.Checks.{Each, first-more, by-each, pass, is-not, is-so}
+use Rattle.wire.specs.Laws.Checks.{Each, first-more, by-each, pass, neither, is-not, is-so}
 use Rattle.wire.specs.Laws.Field.{field-in, field-lt}
 use Rattle.reassembly.specs.Base.{someBelow}
 use Rattle.reassembly.specs.Laws.Base.{clash, either, and-l, and-r, or-false-l, or-false-r, someBelow-none, someBelow-some}
@@ -41,16 +42,16 @@ use Rattle.image.specs.declared.answer.Loaded.the-variants as L
 -- ---- rows
 
 -- where no row's number is 0, 0 is given only if none applies
-all-passed : (rows : Rows) → Each (λ r. r ≢ 0) rows → numbered rows ≡ 0 → Passed rows
+all-passed : (rows : Rows) → Each (λ r. r .number ≢ 0) rows → numbered rows ≡ 0 → Passed rows
 all-passed [] e h = tt
-all-passed ((true ⇒ r) ∷ rows) e h = absurd (e .0 (sym (first-more (λ (m : ℕ). m) true r rows 0) ∙ h))
-all-passed ((false ⇒ r) ∷ rows) e h = (refl, all-passed rows (e .1) (sym (first-more (λ (m : ℕ). m) false r rows 0) ∙ h))
+all-passed ((true ⇒ r) ∷ rows) e h = absurd (e .0 (sym (first-more (λ (x : Finding). x .number) true r rows 0) ∙ h))
+all-passed ((false ⇒ r) ∷ rows) e h = (refl, all-passed rows (e .1) (sym (first-more (λ (x : Finding). x .number) false r rows 0) ∙ h))
 
 -- rows that all give 24 give 0 or 24
-zero-or-24 : (rows : Rows) → Each (λ r. r ≡ 24) rows → (numbered rows ≡ 0) ⊎ (numbered rows ≡ 24)
-zero-or-24 rows e = by-each (λ (n : ℕ). (n ≡ 0) ⊎ (n ≡ 24)) (λ (m : ℕ). m) rows 0 (all-right rows e) (inl refl)
+zero-or-24 : (rows : Rows) → Each (λ r. r .number ≡ 24) rows → (numbered rows ≡ 0) ⊎ (numbered rows ≡ 24)
+zero-or-24 rows e = by-each (λ (n : ℕ). (n ≡ 0) ⊎ (n ≡ 24)) (λ (x : Finding). x .number) rows 0 (all-right rows e) (inl refl)
   where
-    all-right : (rows : Rows) → Each (λ r. r ≡ 24) rows → Each (λ r. (r ≡ 0) ⊎ (r ≡ 24)) rows
+    all-right : (rows : Rows) → Each (λ r. r .number ≡ 24) rows → Each (λ r. (r .number ≡ 0) ⊎ (r .number ≡ 24)) rows
     all-right [] e = tt
     all-right ((t ⇒ r) ∷ rows) e = (inr (e .0), all-right rows (e .1))
 
@@ -63,9 +64,6 @@ id-good : (kind id : ℕ) → IsId kind id → T.badId kind id ≡ false
 id-good kind id (inl p) = rw (p .0) (rw (le-ltb 16777215 id (p .1)) refl)
 id-good kind id (inr (inl p)) = rw (p .0) (rw (le-ltb id 4096 (p .1 .0), le-ltb 16777214 id (p .1 .1)) refl)
 id-good kind id (inr (inr p)) = rw p refl
-
-neither : (a b : Bool) → a ≡ false → b ≡ false → (a || b) ≡ false
-neither a b p q = rw (p, q) refl
 
 -- ---- the fields, at their places
 
@@ -472,11 +470,11 @@ unfolding loadCode
 two-numbers L.Done = inl refl
 two-numbers L.BadImage = inr refl
 
-each-24 : (s : List ℕ) → Each (λ r. r ≡ 24) (loadRows s)
+each-24 : (s : List ℕ) → Each (λ r. r .number ≡ 24) (loadRows s)
 unfolding loadRows
 each-24 s = (refl, (refl, (refl, (refl, (refl, (refl, (refl, (refl, (refl, (refl, tt))))))))))
 
-not-0 : (rows : Rows) → Each (λ r. r ≡ 24) rows → Each (λ r. r ≢ 0) rows
+not-0 : (rows : Rows) → Each (λ r. r .number ≡ 24) rows → Each (λ r. r .number ≢ 0) rows
 not-0 [] e = tt
 not-0 ((t ⇒ r) ∷ rows) e = (λ z. absurd (omega (arith, e .0, z)), not-0 rows (e .1))
 
@@ -485,7 +483,7 @@ load-number s b =
     either (two-numbers (loadOf s .answer))
     (λ z.
     let a = accepted s z in
-    z ∙ sym (pass (λ (m : ℕ). m) (loadRows s) 0 (no-row s b (a .e) (a .read))))
+    z ∙ sym (pass (λ (x : Finding). x .number) (loadRows s) 0 (no-row s b (a .e) (a .read))))
     (λ z. either (zero-or-24 (loadRows s) (each-24 s))
     (λ q. let l : loadCode (loadOf s .answer) ≡ 0 = no-row-loads s b (all-passed (loadRows s) (not-0 (loadRows s) (each-24 s)) q) in absurd (omega arith))
     (λ q. z ∙ sym q))
