@@ -29,11 +29,12 @@ flatOf v = record {
   binding = orNone (v .binding);
   code = v .number;
   «in_memory» = v .place .inMemory;
+  offset = v .offset;
 }
 
--- what answer 1 and a refusal carry: no tenant, no binding, the empty place
-abbrev pub emptyOf : ℕ → Receipt
-emptyOf code = record { start = 0; length = 0; tenant = 65535; binding = 65535; code = code; «in_memory» = false }
+-- what answer 1 and a refusal carry: no tenant, no binding, the empty place; and the byte that a refusal names (answer 1: 0)
+abbrev pub emptyOf : (code offset : ℕ) → Receipt
+emptyOf code offset = record { start = 0; length = 0; tenant = 65535; binding = 65535; code = code; «in_memory» = false; offset = offset }
 
 abbrev pub numberOf : Added → Option ℕ
 numberOf (A.Number n) = some n

@@ -32,15 +32,15 @@ use Rattle.niulassenc.specs.declared.answer.Addition.{Addition}
 use Rattle.niulassenc.specs.declared.answer.Writing.{Writing}
 use Rattle.niulassenc.specs.declared.answer.Saving.{Saving}
 
--- a refusal: its number, no tenant and no binding, the empty place in the packet
-abbrev refusal : ℕ → Receipt
-refusal n = record { code = n; tenant = 0xFFFF; binding = 0xFFFF; start = 0; length = 0; «in_memory» = false }
+-- a refusal: its number and the byte that it names, no tenant and no binding, the empty place in the packet
+abbrev refusal : (offset number : ℕ) → Receipt
+refusal offset number = record { code = number; tenant = 0xFFFF; binding = 0xFFFF; start = 0; length = 0; «in_memory» = false; offset = offset }
 
 abbrev dropped : Drop → Receipt
 dropped d = flatOf (valuesOf (R.Dropped d))
 
-abbrev broken : Refusal → Receipt
-broken r = dropped (D.Format r)
+abbrev broken : (offset : ℕ) → Refusal → Receipt
+broken offset r = dropped (D.Format r offset)
 
 abbrev rejected : Rejection → Receipt
 rejected r = dropped (D.Segment r)
@@ -56,21 +56,22 @@ notSaved r = savingOf (saveValuesOf (W.Refused r))
 
 -- THE STATEMENT, proved in Laws/WorkedAnswers (`worked-answers`)
 pub record WorkedAnswers : Type 0 where
-  -- a receive: 0 with its values; 1; 2 to 17
+  -- a receive: 0 with its values; 1; 2 to 10 and 12 to 17, which name no byte; 25 to 29 with the byte that they name
   pub delivered : (tenant binding start length : ℕ) (inMemory : Bool)
       → flatOf (valuesOf (R.Delivered (record { tenant = tenant; binding = binding }) (record { start = start; length = length; «in_memory» = inMemory })))
-      ≡ record { code = 0; tenant = tenant; binding = binding; start = start; length = length; «in_memory» = inMemory }
-  pub pending : flatOf (valuesOf R.Pending) ≡ refusal 1
-  pub drops : map dropped (D.MemoryTooSmall ∷ D.NotForUs ∷ D.UnknownPeer ∷ D.NoBinding ∷ []) ≡ map refusal (2 ∷ 6 ∷ 7 ∷ 12 ∷ [])
-  pub outer-headers : map broken (F.Truncated ∷ F.Version ∷ F.HeaderLength ∷ F.TotalLength ∷ F.HeaderChecksum ∷ F.Fragment ∷ [])
-      ≡ map refusal (3 ∷ 3 ∷ 3 ∷ 3 ∷ 4 ∷ 5 ∷ [])
-  pub carriages : map broken (F.Protocol ∷ F.Port ∷ F.Short ∷ F.UdpLength ∷ F.TcpLength ∷ F.DataOffset ∷ F.UdpChecksum ∷ F.TcpChecksum ∷ [])
-      ≡ map refusal (8 ∷ 8 ∷ 9 ∷ 9 ∷ 9 ∷ 9 ∷ 10 ∷ 10 ∷ [])
-  pub tunnels : map broken (F.VxlanFlag ∷ F.GreFlags ∷ F.GreVersion ∷ F.GreTypeHigh ∷ F.GreTypeLow ∷ F.SttVersion ∷ F.SttFlags ∷ [])
-      ≡ map refusal (11 ∷ 11 ∷ 11 ∷ 11 ∷ 11 ∷ 11 ∷ 11 ∷ [])
-  pub frames : map broken (F.FrameLength ∷ F.FrameTag ∷ []) ≡ map refusal (13 ∷ 13 ∷ [])
+      ≡ record { code = 0; tenant = tenant; binding = binding; start = start; length = length; «in_memory» = inMemory; offset = 0 }
+  pub pending : flatOf (valuesOf R.Pending) ≡ refusal 0 1
+  pub drops : map dropped (D.MemoryTooSmall ∷ D.NotForUs ∷ D.UnknownPeer ∷ D.NoBinding ∷ []) ≡ map (refusal 0) (2 ∷ 6 ∷ 7 ∷ 12 ∷ [])
+  pub outer-headers : map (broken 0) (F.Truncated ∷ F.Version ∷ F.HeaderLength ∷ F.TotalLength ∷ F.HeaderChecksum ∷ F.Fragment ∷ [])
+      ≡ map (refusal 0) (3 ∷ 3 ∷ 3 ∷ 3 ∷ 4 ∷ 5 ∷ [])
+  pub carriages : map (broken 0) (F.Protocol ∷ F.Port ∷ F.Short ∷ F.UdpLength ∷ F.TcpLength ∷ F.DataOffset ∷ F.UdpChecksum ∷ F.TcpChecksum ∷ [])
+      ≡ map (refusal 0) (8 ∷ 8 ∷ 9 ∷ 9 ∷ 9 ∷ 9 ∷ 10 ∷ 10 ∷ [])
+  pub tunnels : (offset : ℕ)
+      → map (broken offset) (F.VxlanFlag ∷ F.GreFlags ∷ F.GreVersion ∷ F.GreTypeHigh ∷ F.GreTypeLow ∷ F.SttVersion ∷ F.SttFlags ∷ [])
+      ≡ map (refusal offset) (25 ∷ 26 ∷ 26 ∷ 27 ∷ 27 ∷ 28 ∷ 29 ∷ [])
+  pub frames : map (broken 0) (F.FrameLength ∷ F.FrameTag ∷ []) ≡ map (refusal 0) (13 ∷ 13 ∷ [])
   pub segments : map rejected (J.Empty ∷ J.FrameLength ∷ J.PastEnd ∷ J.LengthDiffers ∷ J.AlreadyReceived ∷ J.NoSlot ∷ [])
-      ≡ map refusal (14 ∷ 14 ∷ 14 ∷ 15 ∷ 16 ∷ 17 ∷ [])
+      ≡ map (refusal 0) (14 ∷ 14 ∷ 14 ∷ 15 ∷ 16 ∷ 17 ∷ [])
   -- start and adding: 0 with the number of the new entry; 18 to 20
   pub started : (e : Endpoint) → startedOf (record { endpoint = e; answer = S.Done }) ≡ record { endpoint = e; code = 0 }
   pub not-started : (e : Endpoint) → startedOf (record { endpoint = e; answer = S.Refused C.OutOfRange }) ≡ record { endpoint = e; code = 18 }

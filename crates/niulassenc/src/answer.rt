@@ -14,7 +14,8 @@ use image::code::save_code;
 // No tenant, no binding, no entry.
 pub const NONE: u16 = 0xFFFF;
 
-// A receive's answer. `code` is document 01's number. Where it is not 0 there is no tenant and no binding (both are 0xFFFF), and the place is empty.
+// A receive's answer. `code` is the documents' number. Where it is not 0 there is no tenant and no binding (both are 0xFFFF), and the place is empty. `offset`
+// is that of the first offending byte (25 to 29): in the packet, or for STT in the frame. 0 where the answer names no byte.
 #[repr(C)]
 pub struct Receipt {
     pub start: usize,
@@ -23,6 +24,7 @@ pub struct Receipt {
     pub binding: u16,
     pub code: u8,
     pub in_memory: bool,
+    pub offset: u8,
 }
 
 // An adding call's answer: the new peer's or binding's number, 0xFFFF where `code` is not 0.
@@ -48,8 +50,8 @@ pub struct Saving {
 }
 
 // A refusal and answer 1 carry the same empties.
-fn empty(code: u8) -> Receipt
-    ensures { λ r. ⌜ r ≡ emptyOf code ⌝ }
+fn empty(code: u8, offset: u8) -> Receipt
+    ensures { λ r. ⌜ r ≡ emptyOf code offset ⌝ }
 {
     Receipt {
         start: 0,
@@ -58,10 +60,11 @@ fn empty(code: u8) -> Receipt
         binding: NONE,
         code: code,
         in_memory: false,
+        offset: offset,
     }
 }
 
-// Document 01's number and values of a receive's answer.
+// The documents' number and values of a receive's answer.
 pub(crate) fn flat_received(answer: Received) -> Receipt
     ensures { λ r. ⌜ r ≡ flatOf (valuesOf answer) ⌝ }
 {
@@ -73,9 +76,10 @@ pub(crate) fn flat_received(answer: Received) -> Receipt
             binding: t.binding,
             code: 0,
             in_memory: p.in_memory,
+            offset: 0,
         },
-        Received::Pending => empty(1),
-        Received::Dropped(d) => empty(code::drop_code(d)),
+        Received::Pending => empty(1, 0),
+        Received::Dropped(d) => empty(code::drop_code(d), code::drop_offset(d)),
     }
 }
 

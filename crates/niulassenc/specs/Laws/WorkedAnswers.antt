@@ -3,7 +3,7 @@ use Prim.Native.Nat.{ℕ, _+_, _<_, _≤_}
 use mathlib.Core.Path.{_≡_, refl}
 use mathlib.Core.Bool.{Bool, true, false, cond}
 use borrow.Author.Tests.{lt-leb, le-leb}
-use Rattle.wire.specs.Refusal.{codeOf}
+use Rattle.wire.specs.Refusal.{findingOf}
 use Rattle.reassembly.specs.Take.{rejectionCode}
 use Rattle.endpoint.specs.Answer.{addedCode, startCode, wrapValuesOf}
 use Rattle.endpoint.specs.View.{cutWithin, cutOf}
@@ -24,14 +24,14 @@ past p m start length true h = rw (lt-leb (start + length) m h)
 past p m start length false h = rw (lt-leb (start + length) p h)
 
 pub worked-answers : WorkedAnswers
-unfolding codeOf rejectionCode startCode addedCode wrapValuesOf saveRefusalCode saveValuesOf loadCode
+unfolding findingOf rejectionCode startCode addedCode wrapValuesOf saveRefusalCode saveValuesOf loadCode
 worked-answers = record {
   delivered = λ tenant binding start length inMemory. refl;
   pending = refl;
   drops = refl;
   outer-headers = refl;
   carriages = refl;
-  tunnels = refl;
+  tunnels = λ offset. refl;
   frames = refl;
   segments = refl;
   started = λ e. refl;
