@@ -2,6 +2,7 @@
 use program::print::address;
 use program::print::answer;
 use program::print::decimal;
+use program::print::offending_byte;
 use program::print::text;
 use wire::carriage::Carried;
 use wire::carriage::Tunnel;
@@ -11,19 +12,21 @@ use wire::number::KIND_NVGRE;
 use wire::number::KIND_VXLAN;
 use wire::refusal::Refusal;
 use wire::segment::Segment;
-ghost use Prim.Native.Nat.{_+_, _<_};
+ghost use Prim.Native.Nat.{_+_, _<_, _≤_};
 ghost use lib.ListN.{length};
 
 // The port on which STT is expected.
 const STT_PORT: u16 = 7471;
 
-// A refusal's number and its text.
-fn refused(r: Refusal) {
+// A refusal's number, its text and the byte that it names, if any. The IP payload begins at `start` of the packet.
+fn refused(start: u8, r: Refusal) {
     let code = wire::refusal::code(r);
+    let offset = wire::refusal::offset(start, r);
     text(b"refused with ");
     decimal(code as u64);
     text(b", ");
     answer(code);
+    offending_byte(code, offset as u64);
     text(b"\n");
 }
 
@@ -71,18 +74,18 @@ fn inner(at: usize, frame: &[u8]) {
         FrameRead::Good => text(b"\n"),
         FrameRead::Refused(r) => {
             text(b": ");
-            refused(r);
+            refused(0, r);
         }
     }
 }
 
-// What an IPv4 payload carries. `s` begins at `at` of the packet, so both together are no longer than the packet, and below 2^64.
+// What an IPv4 payload carries. `s` begins at `at` of the packet, behind at most fifteen words; both together are no longer than the packet, and below 2^64.
 fn payload(protocol: u8, source: u32, destination: u32, at: usize, s: &[u8])
-    requires { ⌜ at + length (now s) < 18446744073709551616 ⌝ }
+    requires { ⌜ (at ≤ 60) × (at + length (now s) < 18446744073709551616) ⌝ }
 {
     let carried = wire::carriage::read(protocol, source, destination, STT_PORT, s);
     match carried {
-        Carried::Refused(r) => refused(r),
+        Carried::Refused(r) => refused(at as u8, r),
         Carried::Segment(g) => segment(g),
         Carried::Tunnel(t) => {
             network(t);
@@ -98,7 +101,7 @@ fn show(name: &[u8], packet: &[u8]) {
     text(b": ");
     let read = wire::ipv4::read(packet);
     match read {
-        Ipv4Read::Refused(r) => refused(r),
+        Ipv4Read::Refused(r) => refused(0, r),
         Ipv4Read::Packet(h) => {
             endpoints(h.source, h.destination);
             let start = h.start;

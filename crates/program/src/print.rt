@@ -25,9 +25,25 @@ pub fn answer(code: u8) {
         return packet_answer(code);
     }
     if code < 18 {
-        return tunnel_answer(code);
+        return carried_answer(code);
     }
-    call_answer(code);
+    if code < 25 {
+        return call_answer(code);
+    }
+    header_answer(code);
+}
+
+// The byte that an answer names: 25 to 27 in the packet, 28 and 29 in the STT frame. The others name none.
+pub fn offending_byte(code: u8, offset: u64) {
+    if code < 25 {
+        return;
+    }
+    text(b", at byte ");
+    decimal(offset);
+    if code < 28 {
+        return text(b" of the packet");
+    }
+    text(b" of the STT frame");
 }
 
 // Delivered or pending, and what is wrong with the outer packet or its sender.
@@ -49,9 +65,8 @@ fn packet_answer(code: u8) {
 }
 
 // What is wrong with what a packet carries.
-fn tunnel_answer(code: u8) {
+fn carried_answer(code: u8) {
     match code {
-        11 => text(b"tunnel header wrong"),
         12 => text(b"no binding for this network of the peer"),
         13 => text(b"inner frame too short, too long or tagged"),
         14 => text(b"segment empty or outside its frame"),
@@ -72,6 +87,18 @@ fn call_answer(code: u8) {
         22 => text(b"packet would exceed the MTU"),
         23 => text(b"no such binding or segment"),
         24 => text(b"not a good settings image"),
+        _ => text(b"unknown code"),
+    }
+}
+
+// What is wrong with a tunnel header.
+fn header_answer(code: u8) {
+    match code {
+        25 => text(b"VXLAN flag missing"),
+        26 => text(b"GRE flags or version wrong"),
+        27 => text(b"GRE protocol type wrong"),
+        28 => text(b"STT version wrong"),
+        29 => text(b"STT flags both set"),
         _ => text(b"unknown code"),
     }
 }

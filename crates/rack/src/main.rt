@@ -1,4 +1,4 @@
-// A demonstration: one endpoint with two peers, a network of each kind, and what becomes of eight packets. The boards are clones: all frames have the same
+// A demonstration: one endpoint with two peers, a network of each kind, and what becomes of thirteen packets. The boards are clones: all frames have the same
 // addresses. Three go to a tenant each, and none of these sees the others; when a second peer shows the address to one of the tenants, the detector says so.
 mod report;
 
@@ -198,6 +198,57 @@ fn dropped(rack: Rack, memory: &mut [u8]) -> Rack {
     )
 }
 
+// A wrong VXLAN or GRE header: the refusal names the first offending byte of the packet.
+fn wrong_headers(rack: Rack, memory: &mut [u8]) -> Rack {
+    let first = show(
+        rack,
+        b"VXLAN from 10.0.0.2, network 22, flags 0x00",
+        b"\x45\x00\x00\x32\x00\x00\x40\x00\x40\x11\x26\xb9\x0a\x00\x00\x02\x0a\x00\x00\x01\
+          \xcc\xb8\x12\xb5\x00\x1e\x00\x00\
+          \x00\x00\x00\x00\x00\x00\x16\x00\
+          \x02\x00\x00\x00\x00\x02\x02\x00\x00\x00\x00\x01\x88\xb5",
+        memory,
+    );
+    let second = show(
+        first,
+        b"NVGRE from 10.0.0.3, network 4096, version 1",
+        b"\x45\x00\x00\x2a\x00\x00\x40\x00\x40\x2f\x26\xa2\x0a\x00\x00\x03\x0a\x00\x00\x01\
+          \x20\x01\x65\x58\x00\x10\x00\x00\
+          \x02\x00\x00\x00\x00\x02\x02\x00\x00\x00\x00\x01\x88\xb5",
+        memory,
+    );
+    show(
+        second,
+        b"NVGRE from 10.0.0.3, network 4096, type 0x0800",
+        b"\x45\x00\x00\x2a\x00\x00\x40\x00\x40\x2f\x26\xa2\x0a\x00\x00\x03\x0a\x00\x00\x01\
+          \x20\x00\x08\x00\x00\x10\x00\x00\
+          \x02\x00\x00\x00\x00\x02\x02\x00\x00\x00\x00\x01\x88\xb5",
+        memory,
+    )
+}
+
+// A wrong STT header, in a frame that is complete: the refusal names the first offending byte of the frame.
+fn wrong_frames(rack: Rack, memory: &mut [u8]) -> Rack {
+    let first = show(
+        rack,
+        b"STT from 10.0.0.2, network 7, version 1",
+        b"\x45\x00\x00\x48\x00\x00\x40\x00\x40\x06\x26\xae\x0a\x00\x00\x02\x0a\x00\x00\x01\
+          \xcc\xb8\x1d\x2f\x00\x20\x00\x00\x00\x00\x00\x03\x50\x18\x00\x00\x23\xe0\x00\x00\
+          \x01\x00\x00\x00\x00\x00\x00\x00\x00\x00\x00\x00\x00\x00\x00\x07\x00\x00\
+          \x02\x00\x00\x00\x00\x02\x02\x00\x00\x00\x00\x01\x88\xb5",
+        memory,
+    );
+    show(
+        first,
+        b"STT from 10.0.0.2, network 7, flags 0x03",
+        b"\x45\x00\x00\x48\x00\x00\x40\x00\x40\x06\x26\xae\x0a\x00\x00\x02\x0a\x00\x00\x01\
+          \xcc\xb8\x1d\x2f\x00\x20\x00\x00\x00\x00\x00\x04\x50\x18\x00\x00\x24\xdc\x00\x00\
+          \x00\x03\x00\x00\x00\x00\x00\x00\x00\x00\x00\x00\x00\x00\x00\x07\x00\x00\
+          \x02\x00\x00\x00\x00\x02\x02\x00\x00\x00\x00\x01\x88\xb5",
+        memory,
+    )
+}
+
 // The first tenant's address again, from the other peer.
 fn shown_twice(rack: Rack, memory: &mut [u8]) -> Rack {
     show(
@@ -225,5 +276,7 @@ fn main() {
     let first = whole_frames(ready, &mut memory);
     let second = in_segments(first, &mut memory);
     let third = dropped(second, &mut memory);
-    shown_twice(third, &mut memory);
+    let fourth = wrong_headers(third, &mut memory);
+    let fifth = wrong_frames(fourth, &mut memory);
+    shown_twice(fifth, &mut memory);
 }

@@ -67,9 +67,11 @@ fn pending(code: u8) {
     text(b"\n");
 }
 
-fn dropped(code: u8) {
+// A refusal, and the byte that it names, if any.
+fn dropped(code: u8, offset: u8) {
     text(b"dropped with ");
     refusal(code);
+    print::offending_byte(code, offset as u64);
     text(b"\n");
 }
 
@@ -83,7 +85,7 @@ where
             frame(target.tenant, endpoint::view::view(packet, memory, place))
         }
         Received::Pending => pending(code::received_code(answer)),
-        Received::Dropped(d) => dropped(code::drop_code(d)),
+        Received::Dropped(d) => dropped(code::drop_code(d), code::drop_offset(d)),
     }
 }
 

@@ -12,6 +12,9 @@ read-requires c κs = search needs
 enum-known-carried : tie.Need-enum-known-carried
 enum-known-carried c = search needs
 
+cast-refused : tie.Need-cast-refused
+cast-refused c = search needs
+
 refused-requires : tie.Need-refused-requires
 refused-requires c κs = search needs
 
@@ -63,6 +66,7 @@ payload-spec =
     (tie.spec
     read-requires
     enum-known-carried
+    cast-refused
     refused-requires
     enum-known-carried-2
     segment-requires

@@ -2,7 +2,7 @@
 use mathlib.Core.Path.{_∙_, sym}
 use native.Mathlib.Omega.{arith}
 use lib.ListN.{length-take, length-drop}
-use Rattle.wire.specs.Laws.Ipv4.{ipv4-bounds}
+use Rattle.wire.specs.Laws.Ipv4.{ipv4-bounds, ipv4-start}
 use borrow.Author.Needs.{needs}
 use Rattle.dissect.proofs.show.Statement.{statement}
 use Rattle.dissect.proofs.show.Tie as tie
@@ -48,8 +48,9 @@ part-payload-end c =
 
 payload-requires : tie.Need-payload-requires
 payload-requires c κs =
-    let bounds = ipv4-bounds _ _ (sym (c .before .before .before .before .before .read .ensures) ∙ c .before .before .before .read3 .given .1) in
-    simp (length-take, length-drop) (omega arith)
+    let read = sym (c .before .before .before .before .before .read .ensures) ∙ c .before .before .before .read3 .given .1 in
+    let bounds = ipv4-bounds _ _ read in
+    (ipv4-start _ _ read, simp (length-take, length-drop) (omega arith))
 
 returns : tie.Need-returns
 returns c = search needs
