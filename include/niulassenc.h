@@ -39,7 +39,7 @@ extern "C" {
 
 /* The version of this header. niulassenc_version() gives the archive's in the same form. */
 #define NIULASSENC_VERSION_MAJOR 0
-#define NIULASSENC_VERSION_MINOR 4
+#define NIULASSENC_VERSION_MINOR 5
 #define NIULASSENC_VERSION_PATCH 0
 #define NIULASSENC_VERSION \
     (NIULASSENC_VERSION_MAJOR * 0x10000u + NIULASSENC_VERSION_MINOR * 0x100u + NIULASSENC_VERSION_PATCH)
@@ -64,8 +64,9 @@ extern "C" {
 #define NIULASSENC_NONE 0xFFFF
 
 /* The answers. From 2 on they are refusals: a refused call leaves the endpoint, the memory and the output as they came. The one
- * exception is 11, 12 or 13 on an STT frame that has become complete: its last segment is stored, and its slot is freed. Later
- * versions may have more: treat a number that you do not know as a refusal. */
+ * exception is 12, 13, 28 or 29 on an STT frame that has become complete: its last segment is stored, and its slot is freed.
+ * 11 is no longer given: since version 0.5.0 a receive gives one of 25 to 29 instead, checked where 11 was, right before 12, and
+ * with the offset of a byte. Later versions may have more numbers: treat one that you do not know as a refusal. */
 enum niulassenc_code {
     NIULASSENC_DONE = 0,                    /* delivered, written or done */
     NIULASSENC_PENDING = 1,                 /* segment received, its frame not yet complete */
@@ -80,7 +81,6 @@ enum niulassenc_code {
                                                (6) */
     NIULASSENC_BAD_TRANSPORT_HEADER = 9,    /* UDP, GRE or TCP-shaped header broken */
     NIULASSENC_BAD_TRANSPORT_CHECKSUM = 10, /* UDP checksum non-zero and wrong, or TCP checksum wrong */
-    NIULASSENC_BAD_TUNNEL_HEADER = 11,      /* VXLAN, NVGRE or STT frame header wrong */
     NIULASSENC_NO_BINDING = 12,             /* no binding for this peer, kind and network id */
     NIULASSENC_BAD_FRAME = 13,              /* inner frame not 14 to 1,514 bytes, or tagged (0x8100, 0x88A8) */
     NIULASSENC_BAD_SEGMENT = 14,            /* segment empty; frame length outside 32 to 1,532; offset plus segment above it */
@@ -94,7 +94,13 @@ enum niulassenc_code {
     NIULASSENC_OUTPUT_TOO_SHORT = 21,       /* output shorter than the packet or the settings image */
     NIULASSENC_EXCEEDS_MTU = 22,            /* VXLAN or NVGRE packet would exceed the MTU */
     NIULASSENC_NO_SUCH = 23,                /* no such binding, or no such segment number */
-    NIULASSENC_BAD_IMAGE = 24               /* not what saving some endpoint gives, byte by byte with nothing after it */
+    NIULASSENC_BAD_IMAGE = 24,              /* not what saving some endpoint gives, byte by byte with nothing after it */
+    NIULASSENC_BAD_VXLAN_FLAG = 25,         /* VXLAN flag I (0x08 of the VXLAN header's first byte) not set */
+    NIULASSENC_BAD_GRE_FLAGS = 26,          /* first byte of the GRE header not 0x20 to 0x23, or low three bits of the second
+                                               not 0 */
+    NIULASSENC_BAD_GRE_TYPE = 27,           /* GRE protocol type not 0x6558 */
+    NIULASSENC_BAD_STT_VERSION = 28,        /* STT frame's version not 0 */
+    NIULASSENC_BAD_STT_FLAGS = 29           /* STT frame's flags 0x01 and 0x02 both set */
 };
 
 enum niulassenc_kind {
@@ -153,7 +159,10 @@ struct niulassenc_addition {
 };
 
 /* What a receive gives. Code 0: the frame is `length` bytes from `start` on, of the memory or else of the packet, and goes to
- * the tenant. Any other code: tenant and binding are NIULASSENC_NONE, and the place is empty (0, 0, in the packet). */
+ * the tenant. Any other code: tenant and binding are NIULASSENC_NONE, and the place is empty (0, 0, in the packet).
+ * Codes 25 to 29: `offset` is that of the first offending byte. For 25 to 27 it counts from the packet's first byte, the IPv4
+ * header and its options included; for 28 and 29 from the first byte of the STT frame, whose segments may have come in several
+ * packets, so that the byte need not be in the last one. Any other code, 0 and 1 too: `offset` is 0. */
 struct niulassenc_receipt {
     size_t start;
     size_t length;
@@ -161,6 +170,7 @@ struct niulassenc_receipt {
     uint16_t binding;
     uint8_t code;
     bool in_memory;
+    uint8_t offset;
 };
 
 /* What a wrap gives: the length of the packet that was written, and how many segments its frame has. Both are 0 where the
@@ -250,6 +260,7 @@ NIULASSENC_AT(niulassenc_receipt, tenant, 16);
 NIULASSENC_AT(niulassenc_receipt, binding, 18);
 NIULASSENC_AT(niulassenc_receipt, code, 20);
 NIULASSENC_AT(niulassenc_receipt, in_memory, 21);
+NIULASSENC_AT(niulassenc_receipt, offset, 22);
 
 NIULASSENC_SIZE(niulassenc_writing, 16);
 NIULASSENC_AT(niulassenc_writing, length, 0);
@@ -306,8 +317,9 @@ struct niulassenc_addition niulassenc_add_peer(struct niulassenc_endpoint *endpo
 struct niulassenc_addition niulassenc_add_binding(struct niulassenc_endpoint *endpoint, uint32_t peer, uint32_t kind,
                                                   uint64_t network, uint32_t tenant);
 
-/* Receives an outer packet, from the first byte of its IPv4 header on; bytes past its total length are ignored: 1 to 17. A frame
- * in the packet is good as long as the packet is left as it is; one in the memory, until the next receive with that memory. */
+/* Receives an outer packet, from the first byte of its IPv4 header on; bytes past its total length are ignored: 1 to 10, 12 to
+ * 17, 25 to 29. A frame in the packet is good as long as the packet is left as it is; one in the memory, until the next receive
+ * with that memory. */
 struct niulassenc_receipt niulassenc_receive(struct niulassenc_endpoint *endpoint, const uint8_t *packet,
                                              size_t packet_length, uint8_t *memory, size_t memory_length);
 
@@ -386,7 +398,7 @@ static inline const char *niulassenc_text(uint32_t code)
         "not VXLAN, NVGRE or STT",
         "UDP, GRE or TCP header broken",
         "UDP or TCP checksum wrong",
-        "tunnel header wrong",
+        "unknown code", /* 11 is no longer given */
         "no binding for this network of the peer",
         "inner frame too short, too long or tagged",
         "segment empty or outside its frame",
@@ -400,6 +412,11 @@ static inline const char *niulassenc_text(uint32_t code)
         "packet would exceed the MTU",
         "no such binding or segment",
         "not a good settings image",
+        "VXLAN flag missing",
+        "GRE flags or version wrong",
+        "GRE protocol type wrong",
+        "STT version wrong",
+        "STT flags both set",
     };
 
     return code < sizeof texts / sizeof *texts ? texts[code] : "unknown code";
