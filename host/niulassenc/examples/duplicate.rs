@@ -49,7 +49,7 @@ fn main() -> Result<(), Refusal> {
         match endpoint.receive(packet, &mut memory) {
             Ok(Received::Delivered(frame)) => watch(&endpoint, &mut detector, &frame),
             Ok(Received::Pending) => {} // its frame is not yet complete
-            Err(refusal) => println!("dropped: {refusal}"),
+            Err(dropped) => println!("dropped: {dropped}"),
         }
     }
     Ok(())

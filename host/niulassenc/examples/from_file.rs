@@ -56,7 +56,7 @@ fn receive(endpoint: &mut Endpoint, memory: &mut [u8]) {
             println!("tenant {}, frame of {bytes} bytes", frame.tenant);
         }
         Ok(Received::Pending) => println!("no frame: it is not yet complete"),
-        Err(refusal) => println!("no frame: {refusal}"),
+        Err(dropped) => println!("no frame: {dropped}"),
     }
 }
 

@@ -1,7 +1,8 @@
-//! Packets in, frames out: a VXLAN packet, an STT frame in two segments, a
-//! packet that is dropped, and ticks that give up a frame that lost a segment.
+//! Packets in, frames out: a VXLAN packet, an STT frame in two segments, packets
+//! that are dropped, with the byte that is to blame where there is one, and ticks
+//! that give up a frame that lost a segment.
 
-use niulassenc::{Endpoint, Kind, Received, Refusal, MEMORY_NEEDED};
+use niulassenc::{Dropped, Endpoint, Kind, Received, Refusal, MEMORY_NEEDED};
 
 /// From 10.0.0.1 on VXLAN network 22.
 const VXLAN: [u8; 50] = [
@@ -29,14 +30,21 @@ const LAST: [u8; 56] = [
     0, 0, 2, 0, 0, 0, 0, 2, 2, 0, 0, 0, 0, 1, 0x88, 0xb5, // padding, the inner frame
 ];
 
-fn show(name: &str, received: Result<Received, Refusal>) {
+/// The VXLAN packet without the flag that says that it has a network.
+const NO_FLAG: [u8; 50] = {
+    let mut packet = VXLAN;
+    packet[28] = 0;
+    packet
+};
+
+fn show(name: &str, received: Result<Received, Dropped>) {
     match received {
         Ok(Received::Delivered(frame)) => {
             let bytes = frame.bytes.len();
             println!("{name}: tenant {}, frame of {bytes} bytes", frame.tenant);
         }
         Ok(Received::Pending) => println!("{name}: received, its frame is not yet complete"),
-        Err(refusal) => println!("{name}: dropped: {refusal}"),
+        Err(dropped) => println!("{name}: dropped: {dropped}"),
     }
 }
 
@@ -51,6 +59,7 @@ fn main() -> Result<(), Refusal> {
     show("STT, last segment", endpoint.receive(&LAST, &mut memory));
     show("STT, first segment", endpoint.receive(&FIRST, &mut memory));
     show("an empty packet", endpoint.receive(&[], &mut memory));
+    show("VXLAN, no flag", endpoint.receive(&NO_FLAG, &mut memory));
 
     show("STT, last segment", endpoint.receive(&LAST, &mut memory));
     for tick in 1..=4 {

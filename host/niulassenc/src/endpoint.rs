@@ -1,6 +1,7 @@
 //! The endpoint in the crate's own types.
 
 use crate::detector::address_of;
+use crate::dropped::Dropped;
 use crate::ffi;
 use crate::kind::Kind;
 use crate::limits::SLOTS;
@@ -112,8 +113,23 @@ impl Endpoint {
         Ok(added.number)
     }
 
-    /// Takes one outer packet, first byte of the IP header. Refused with 2 to 17;
-    /// a refused packet is dropped and needs no more handling.
+    /// Takes one outer packet, first byte of the IP header. Refused with 2 to 10,
+    /// 12 to 17 or 25 to 29; a refused packet is dropped and needs no more
+    /// handling. 25 to 29, a tunnel header that its format forbids, name the first
+    /// offending byte:
+    ///
+    /// ```
+    /// # use niulassenc::Offset;
+    /// # fn f(mut endpoint: niulassenc::Endpoint, packet: &[u8], memory: &mut [u8]) {
+    /// if let Err(dropped) = endpoint.receive(packet, memory) {
+    ///     // "VXLAN flag missing (25), at byte 28 of the packet"
+    ///     eprintln!("dropped: {dropped}");
+    ///     if let Some(Offset::Packet(byte)) = dropped.offset {
+    ///         eprintln!("which is {:#04x}", packet[usize::from(byte)]);
+    ///     }
+    /// }
+    /// # }
+    /// ```
     ///
     /// Every receive of an endpoint is lent the same memory, of at least
     /// [`MEMORY_NEEDED`](crate::MEMORY_NEEDED) bytes and of any contents at
@@ -131,7 +147,7 @@ impl Endpoint {
         &mut self,
         packet: &'a [u8],
         memory: &'a mut [u8],
-    ) -> Result<Received<'a>, Refusal> {
+    ) -> Result<Received<'a>, Dropped> {
         self.numbers.receive(packet, memory).read(packet, memory)
     }
 
@@ -302,11 +318,11 @@ impl From<numbers::Endpoint> for Endpoint {
 impl numbers::Receipt {
     /// The answer in the crate's own types, the frame cut out of the packet or
     /// the memory that the receive had.
-    pub fn read<'a>(self, packet: &'a [u8], memory: &'a [u8]) -> Result<Received<'a>, Refusal> {
+    pub fn read<'a>(self, packet: &'a [u8], memory: &'a [u8]) -> Result<Received<'a>, Dropped> {
         if self.code == 1 {
             return Ok(Received::Pending);
         }
-        Refusal::check(self.code)?;
+        Refusal::check(self.code).map_err(|refusal| Dropped::of(refusal, self.offset))?;
         Ok(Received::Delivered(Frame {
             tenant: self.tenant,
             binding: self.binding,

@@ -77,6 +77,7 @@ pub struct Receipt {
     pub binding: u16,
     pub code: u8,
     pub in_memory: bool,
+    pub offset: u8,
 }
 
 #[repr(C)]
@@ -207,7 +208,7 @@ layout!(Endpoint: 1072, 8; networks 0, peers 512, addresses 768, own 800, tenant
     mtu 934, peer_count 936, binding_count 938, kinds 940, owners 1004);
 layout!(Started: 1080, 8; endpoint 0, code 1072);
 layout!(Addition: 4, 2; number 0, code 2);
-layout!(Receipt: 24, 8; start 0, length 8, tenant 16, binding 18, code 20, in_memory 21);
+layout!(Receipt: 24, 8; start 0, length 8, tenant 16, binding 18, code 20, in_memory 21, offset 22);
 layout!(Writing: 16, 8; length 0, segments 8, code 12);
 layout!(Saving: 16, 8; length 0, code 8);
 layout!(PartAt: 24, 8; start 0, length 8, in_memory 16);

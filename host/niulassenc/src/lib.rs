@@ -30,16 +30,22 @@
 //!         assert_eq!(frame.bytes, &packet[36..]);
 //!     }
 //!     Ok(Received::Pending) => unreachable!("a VXLAN packet has a complete frame"),
-//!     Err(refusal) => panic!("dropped: {refusal}"),
+//!     Err(dropped) => panic!("dropped: {dropped}"),
 //! }
 //!
 //! // The same packet for somebody else is dropped, and the reason is told.
 //! let mut stray = packet;
 //! stray[19] = 9;
 //! stray[11] = 0xb1;
-//! let refused = endpoint.receive(&stray, &mut memory);
-//! assert_eq!(refused, Err(Refusal::NotForUs));
+//! let dropped = endpoint.receive(&stray, &mut memory).unwrap_err();
+//! assert_eq!(dropped.refusal, Refusal::NotForUs);
 //! assert_eq!(Refusal::NotForUs.number(), 6);
+//!
+//! // Where a tunnel header is wrong, the byte is told too.
+//! let mut broken = packet;
+//! broken[28] = 0;
+//! let dropped = endpoint.receive(&broken, &mut memory).unwrap_err();
+//! assert_eq!(dropped.to_string(), "VXLAN flag missing (25), at byte 28 of the packet");
 //!
 //! // Once in a while: frames that stay incomplete for four ticks are given up.
 //! endpoint.tick();
@@ -52,6 +58,7 @@
 #![deny(clippy::undocumented_unsafe_blocks)]
 
 mod detector;
+mod dropped;
 mod endpoint;
 mod ffi;
 mod kind;
@@ -62,6 +69,7 @@ mod refusal;
 mod version;
 
 pub use detector::{observed_text, Detector, Entry, Observed};
+pub use dropped::{Dropped, Offset};
 pub use endpoint::{Binding, Endpoint, Frame, Pending, Received, Wrapped};
 pub use kind::Kind;
 pub use limits::{IMAGE_BYTES, MEMORY_NEEDED};

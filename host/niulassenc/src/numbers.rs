@@ -36,8 +36,11 @@ pub struct Receipt {
     pub tenant: u16,
     /// The number of the binding; [`NONE`] unless the code is 0.
     pub binding: u16,
-    /// 0, 1, or 2 to 17.
+    /// 0, 1, or 2 to 10, 12 to 17, 25 to 29.
     pub code: u8,
+    /// The first offending byte: of the packet where the code is 25 to 27, of the
+    /// STT frame where it is 28 or 29; 0 in every other answer.
+    pub offset: u8,
 }
 
 /// The answer of a wrap.
@@ -166,6 +169,7 @@ impl Endpoint {
             tenant: receipt.tenant,
             binding: receipt.binding,
             code: receipt.code,
+            offset: receipt.offset,
         }
     }
 

@@ -7,7 +7,8 @@ const UNKNOWN: &str = "unknown code";
 
 macro_rules! refusals {
     ($($number:literal $name:ident $text:literal $meaning:literal;)*) => {
-        /// Why a call was refused.
+        /// Why a call was refused. 11 is no longer given: since version 0.5.0 a
+        /// receive gives one of 25 to 29 instead.
         #[derive(Clone, Copy, Debug, PartialEq, Eq, Hash)]
         #[non_exhaustive]
         pub enum Refusal {
@@ -69,8 +70,6 @@ refusals! {
         "UDP, GRE or TCP-shaped header broken";
     10 BadTransportChecksum "UDP or TCP checksum wrong"
         "UDP checksum non-zero and wrong, or TCP checksum wrong";
-    11 BadTunnelHeader "tunnel header wrong"
-        "VXLAN, NVGRE or STT frame header wrong";
     12 NoBinding "no binding for this network of the peer"
         "no binding for this peer, kind and network id";
     13 BadFrame "inner frame too short, too long or tagged"
@@ -97,6 +96,16 @@ refusals! {
         "no such binding, or no such segment number";
     24 BadImage "not a good settings image"
         "not what saving some endpoint gives, byte by byte with nothing after it";
+    25 BadVxlanFlag "VXLAN flag missing"
+        "VXLAN flag I (0x08 of the VXLAN header's first byte) not set";
+    26 BadGreFlags "GRE flags or version wrong"
+        "first byte of the GRE header not 0x20 to 0x23, or low three bits of the second not 0";
+    27 BadGreType "GRE protocol type wrong"
+        "GRE protocol type not 0x6558";
+    28 BadSttVersion "STT version wrong"
+        "STT frame's version not 0";
+    29 BadSttFlags "STT flags both set"
+        "STT frame's flags 0x01 and 0x02 both set";
 }
 
 impl Refusal {

@@ -2,7 +2,7 @@
 //! refusals by their numbers. What the library answers is for `difference`.
 
 use niulassenc::{numbers, Binding, Endpoint, Kind, Pending, Place, Received, Refusal};
-use niulassenc::{Frame, MEMORY_NEEDED};
+use niulassenc::{Dropped, Frame, MEMORY_NEEDED};
 use std::net::Ipv4Addr;
 
 const OWN: Ipv4Addr = Ipv4Addr::new(10, 0, 0, 1);
@@ -130,12 +130,16 @@ fn refusals_leave_everything() {
         packet[10] ^= 1;
         packet
     };
+    let dropped = |refusal| {
+        let offset = None;
+        Err(Dropped { refusal, offset })
+    };
     let refused = endpoint.receive(&[], &mut memory[1..]);
-    assert_eq!(refused, Err(Refusal::MemoryTooSmall));
+    assert_eq!(refused, dropped(Refusal::MemoryTooSmall));
     let refused = endpoint.receive(&[], &mut memory);
-    assert_eq!(refused, Err(Refusal::NotIpv4));
+    assert_eq!(refused, dropped(Refusal::NotIpv4));
     let refused = endpoint.receive(&wrong_sum, &mut memory);
-    assert_eq!(refused, Err(Refusal::BadIpv4Checksum));
+    assert_eq!(refused, dropped(Refusal::BadIpv4Checksum));
     assert_eq!(endpoint, before);
     assert!(memory.iter().all(|&byte| byte == 7));
 }
@@ -194,7 +198,7 @@ fn numbers_of_refusals_and_kinds() {
         .iter()
         .map(|refusal| refusal.number())
         .collect();
-    assert_eq!(numbers, (2..=24).collect::<Vec<u8>>());
+    assert_eq!(numbers, (2..=10).chain(12..=29).collect::<Vec<u8>>());
     for &refusal in Refusal::ALL {
         assert_eq!(Refusal::from_number(refusal.number()), Some(refusal));
     }
@@ -213,10 +217,11 @@ fn numbers_of_refusals_and_kinds() {
     }
 }
 
-/// A later version of the library may answer more than this one knows.
+/// A later version of the library may answer more than this one knows. 11 is given
+/// no more.
 #[test]
 fn an_unknown_code_is_a_refusal() {
-    for number in 25..=255 {
+    for number in (30..=255).chain([11]) {
         let refusal = Refusal::Unknown(number);
         assert_eq!(Refusal::from_number(number), Some(refusal));
         assert_eq!(refusal.number(), number);
@@ -226,8 +231,11 @@ fn an_unknown_code_is_a_refusal() {
             tenant: numbers::NONE,
             binding: numbers::NONE,
             code: number,
+            offset: 28,
         };
-        assert_eq!(receipt.read(&[], &[]), Err(refusal));
+        // What it is counted in, if anything, this version cannot know.
+        let offset = None;
+        assert_eq!(receipt.read(&[], &[]), Err(Dropped { refusal, offset }));
     }
 }
 

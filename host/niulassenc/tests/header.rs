@@ -204,6 +204,7 @@ fn the_same_functions_and_structs() {
     assert_eq!(declared, bound);
     let layouts = layouts_of_the_header(&header);
     assert!(layouts.contains(&"saving code 8".to_owned()));
+    assert!(layouts.contains(&"receipt offset 22".to_owned()));
     assert_eq!(layouts, layouts_of_the_crate(&ffi));
 }
 
@@ -220,10 +221,12 @@ fn programs_and_crate_say_the_same() {
             continue;
         };
         let said = rest.strip_suffix("\"),").expect("a text in one line");
-        codes.extend(code.parse::<usize>());
+        codes.extend(code.parse::<u8>());
         assert_eq!(said, text(code.parse().unwrap_or(u8::MAX)), "{code}");
     }
-    let all: Vec<usize> = (0..Refusal::ALL.len() + 2).collect();
+    codes.sort_unstable(); // the programs have them by what they are about
+    let refusals = Refusal::ALL.iter().map(|refusal| refusal.number());
+    let all: Vec<u8> = [0, 1].into_iter().chain(refusals).collect();
     assert_eq!(codes, all);
 }
 
