@@ -1,6 +1,7 @@
 /*
- * The library from C: an endpoint that delivers a VXLAN frame and an STT frame in two segments, what refusals leave, frames that
- * its peer wraps and it unwraps, what ticks free, and its configuration saved and loaded. It is C++ as well.
+ * The library from C: an endpoint that delivers a VXLAN frame and an STT frame in two segments, what refusals leave, the byte that
+ * a bad tunnel header is refused for, frames that its peer wraps and it unwraps, what ticks free, and its configuration saved and
+ * loaded. It is C++ as well.
  * Each step prints a line; host/ctest/run compares them with demo.expected. Whatever a line cannot show is asserted.
  */
 #undef NDEBUG
@@ -16,6 +17,16 @@ enum { ENDPOINT_BYTES = 1068 };
 
 static uint8_t memory[NIULASSENC_MEMORY_BYTES];
 
+/* What a receipt's offset counts in, or NULL where it has none. The code decides: 0 is a byte of an STT frame too. */
+static const char *offset_in(uint8_t code)
+{
+    if (code >= NIULASSENC_BAD_VXLAN_FLAG && code <= NIULASSENC_BAD_GRE_TYPE)
+        return "packet";
+    if (code == NIULASSENC_BAD_STT_VERSION || code == NIULASSENC_BAD_STT_FLAGS)
+        return "STT frame";
+    return NULL;
+}
+
 /* Receives, prints the answer, and shows that what is delivered is T. */
 static struct niulassenc_receipt receive(struct niulassenc_endpoint *endpoint, const char *what, const uint8_t *packet,
                                          size_t length)
@@ -28,10 +39,14 @@ static struct niulassenc_receipt receive(struct niulassenc_endpoint *endpoint, c
                got.start, got.in_memory ? "memory" : "packet");
         assert(part.length == sizeof frame && memcmp(part.bytes, frame, sizeof frame) == 0);
     } else {
-        printf("%s: %d, %s\n", what, got.code, niulassenc_text(got.code));
+        printf("%s: %d, %s", what, got.code, niulassenc_text(got.code));
+        if (offset_in(got.code) != NULL)
+            printf(", at byte %d of the %s", got.offset, offset_in(got.code));
+        printf("\n");
         assert(got.tenant == NIULASSENC_NONE && got.binding == NIULASSENC_NONE);
         assert(got.start == 0 && got.length == 0 && !got.in_memory);
     }
+    assert(offset_in(got.code) != NULL || got.offset == 0);
     return got;
 }
 
@@ -62,6 +77,9 @@ static void refusals(struct niulassenc_endpoint *endpoint)
     packet[10] ^= 1;
     receive(endpoint, "damaged", packet, sizeof packet);
     receive(endpoint, "empty", packet, 0);
+    memcpy(packet, vxlan, sizeof packet);
+    packet[28] = 0;
+    receive(endpoint, "VXLAN without its flag", packet, sizeof packet);
     struct niulassenc_receipt got = niulassenc_receive(endpoint, packet, 0, memory, sizeof memory - 1);
     printf("memory of 55,295 bytes: %d, %s\n", got.code, niulassenc_text(got.code));
     add("the peer again", niulassenc_add_peer(endpoint, PEER));
@@ -70,6 +88,27 @@ static void refusals(struct niulassenc_endpoint *endpoint)
     add("kind 257", niulassenc_add_binding(endpoint, 0, 257, 23, 7));
     add("tenant 65,543", niulassenc_add_binding(endpoint, 0, NIULASSENC_VXLAN, 23, 65543));
     assert(memcmp(&before, endpoint, ENDPOINT_BYTES) == 0 && memcmp(memory_before, memory, sizeof memory) == 0);
+}
+
+/* The offset in a packet is counted from its first byte, here over a word of options; in an STT frame, from the frame's first
+ * byte, whichever segment has the offending one. Of a complete frame that is bad, the last segment is stored and the slot is
+ * free. */
+static void bad_headers(struct niulassenc_endpoint *endpoint)
+{
+    static const uint8_t gre[24 + 8] = {0x46, 0, 0, 46, 0, 0, 0x40, 0, 64, 47, 0, 0, 10, 0, 0, 1, 10, 0, 0, 2, 1, 1, 1, 1,
+                                        0x20, 0, 0x65, 0x59, 0, 0x10, 0, 0};
+    uint8_t nvgre[sizeof gre + sizeof frame], stt[STT_HEADER + sizeof frame], packet[64];
+
+    memcpy(nvgre, gre, sizeof gre);
+    memcpy(nvgre + sizeof gre, frame, sizeof frame);
+    put16(nvgre + 10, checksum(0, nvgre, 24));
+    receive(endpoint, "NVGRE with type 0x6559", nvgre, sizeof nvgre);
+
+    stt_frame(stt, 0x0102030405060708, frame, sizeof frame);
+    stt[1] = 3;
+    receive(endpoint, "STT with both flags, first segment", packet, segment(packet, stt, sizeof stt, 0, 20, 78));
+    receive(endpoint, "STT with both flags, last segment", packet, segment(packet, stt, sizeof stt, 20, 12, 78));
+    assert(memcmp(memory, stt, sizeof stt) == 0 && !endpoint->peers[0].slots[0].pending);
 }
 
 /* Wraps, and prints the answer. What is behind the packet stays as it came: all of the output, where the call is refused. */
@@ -188,7 +227,7 @@ static void misfits(void)
     at = niulassenc_cut(50, NIULASSENC_MEMORY_BYTES, 37, 14, false);
     assert(at.start == 0 && at.length == 0 && !at.in_memory);
 
-    struct niulassenc_receipt place = {SIZE_MAX, 2, 0, 0, 0, true};
+    struct niulassenc_receipt place = {SIZE_MAX, 2, 0, 0, 0, true, 0};
     struct niulassenc_part part = niulassenc_view(vxlan, sizeof vxlan, memory, sizeof memory, place);
     assert(part.bytes == vxlan && part.length == 0);
     place.start = sizeof memory - 1;
@@ -233,6 +272,7 @@ int main(void)
     assert(!endpoint.peers[0].slots[0].pending && memory[NIULASSENC_SLOT_BYTES] == 0xa5);
 
     refusals(&endpoint);
+    bad_headers(&endpoint);
     wraps(&endpoint);
     ticks(&endpoint, second, second_length);
     images(&endpoint);

@@ -272,9 +272,26 @@ static void tunnel_refusals(struct subject *subject)
     damaged(subject, 9, 0x80, true, NIULASSENC_UNKNOWN_PROTOCOL);
     damaged(subject, 25, 1, true, NIULASSENC_BAD_TRANSPORT_HEADER);
     damaged(subject, 27, 1, true, NIULASSENC_BAD_TRANSPORT_CHECKSUM);
-    damaged(subject, 28, 0x08, true, NIULASSENC_BAD_TUNNEL_HEADER);
+    damaged(subject, 28, 0x08, true, NIULASSENC_BAD_VXLAN_FLAG);
     damaged(subject, 34, 1, true, NIULASSENC_NO_BINDING);
     damaged(subject, 49, TO_TAG, true, NIULASSENC_BAD_FRAME);
+}
+
+/* Receives the largest frame on NVGRE with one byte of the GRE header changed. */
+static void damaged_gre(struct subject *subject, size_t at, uint8_t change, uint8_t expected)
+{
+    endpoint = full;
+    wrapped(NIULASSENC_NVGRE, VSID);
+    given.packet[20 + at] ^= change;
+    measure(subject, expected);
+}
+
+static void gre_refusals(struct subject *subject)
+{
+    damaged_gre(subject, 0, 0x80, NIULASSENC_BAD_GRE_FLAGS);
+    damaged_gre(subject, 1, 1, NIULASSENC_BAD_GRE_FLAGS);
+    damaged_gre(subject, 2, 1, NIULASSENC_BAD_GRE_TYPE);
+    damaged_gre(subject, 3, 1, NIULASSENC_BAD_GRE_TYPE);
 }
 
 /* Receives the complete STT frame in one segment with one byte changed. */
@@ -289,7 +306,8 @@ static void complete(struct subject *subject, size_t at, uint8_t change, uint8_t
 
 static void stt_refusals(struct subject *subject)
 {
-    complete(subject, 0, 1, NIULASSENC_BAD_TUNNEL_HEADER);
+    complete(subject, 0, 1, NIULASSENC_BAD_STT_VERSION);
+    complete(subject, 1, 3, NIULASSENC_BAD_STT_FLAGS);
     complete(subject, 8, 1, NIULASSENC_NO_BINDING);
     complete(subject, STT_HEADER + 13, TO_TAG, NIULASSENC_BAD_FRAME);
     piece(sizeof stt, 0, 500, IDENTIFIER);
@@ -313,6 +331,7 @@ static void receives(struct subject *subject)
 {
     deliveries(subject);
     tunnel_refusals(subject);
+    gre_refusals(subject);
     stt_refusals(subject);
 }
 

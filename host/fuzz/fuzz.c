@@ -8,6 +8,8 @@
  * - a refusal changed neither endpoint nor memory nor output, a good call only what it may change, and no call its input;
  * - what is delivered lies where the answer says, is a good frame, goes to the tenant of its binding, and came from the
  *   binding's owner;
+ * - a refusal for a tunnel header names the first byte that breaks its rule, a good header has none, and every other answer has
+ *   offset 0;
  * - a detector answers what a search through its entries says, and only a new address changes it, by one entry;
  * - a saved image is the endpoint's numbers in their order, and loads again as the same configuration with no frame pending; a
  *   load accepts what a start and additions accept, and nothing else.
@@ -160,6 +162,15 @@ static void put32(uint8_t *at, uint32_t value)
     put16(at + 2, value);
 }
 
+static uint64_t get(const uint8_t *at, size_t bytes)
+{
+    uint64_t value = 0;
+
+    for (; bytes > 0; bytes--)
+        value = value << 8 | *at++;
+    return value;
+}
+
 static uint32_t sum(uint32_t from, const uint8_t *data, size_t length)
 {
     for (size_t i = 0; i < length; i++)
@@ -245,6 +256,71 @@ static void delivered(struct niulassenc_receipt got, const uint8_t *packet, size
     observe(got.tenant, peer, niulassenc_source(frame.bytes, frame.length));
 }
 
+/* Where in the memory the STT frame is that a packet belongs to: at the slot that its identifier had before the call, or else at
+ * the first that was free. */
+static const uint8_t *stt_frame_of(const uint8_t *packet)
+{
+    const uint8_t *tcp = packet + (packet[0] & 15) * 4;
+    unsigned peer = 0, slot = 0;
+
+    while (endpoint_before.addresses[peer] != get(packet + 12, 4))
+        CHECK(++peer < endpoint_before.peer_count);
+    const struct niulassenc_slot *slots = endpoint_before.peers[peer].slots;
+    while (slot < NIULASSENC_SLOTS && !(slots[slot].pending && slots[slot].identifier == get(tcp + 8, 4)))
+        slot++;
+    if (slot == NIULASSENC_SLOTS)
+        for (slot = 0; slots[slot].pending; slot++)
+            CHECK(slot + 1 < NIULASSENC_SLOTS);
+    return memory + (peer * NIULASSENC_SLOTS + slot) * NIULASSENC_SLOT_BYTES;
+}
+
+/* The code and offset that the tunnel header of a packet is refused with, which has passed all checks up to there, for STT the
+ * reassembly too; 0 and 0 for a good header. */
+static void judge(const uint8_t *packet, uint8_t *code, size_t *offset)
+{
+    size_t at = (packet[0] & 15u) * 4;
+    const uint8_t *header = packet + at;
+
+    *code = *offset = 0;
+    if (packet[9] == 17 && !(header[8] & 0x08)) {
+        *code = NIULASSENC_BAD_VXLAN_FLAG;
+        *offset = at + 8;
+    } else if (packet[9] == 47 && ((header[0] & 0xfc) != 0x20 || (header[1] & 7) != 0)) {
+        *code = NIULASSENC_BAD_GRE_FLAGS;
+        *offset = (header[0] & 0xfc) != 0x20 ? at : at + 1;
+    } else if (packet[9] == 47 && !(header[2] == 0x65 && header[3] == 0x58)) {
+        *code = NIULASSENC_BAD_GRE_TYPE;
+        *offset = header[2] != 0x65 ? at + 2 : at + 3;
+    } else if (packet[9] == 6) {
+        const uint8_t *frame = stt_frame_of(packet);
+        *code = frame[0] != 0 ? NIULASSENC_BAD_STT_VERSION : (frame[1] & 3) == 3 ? NIULASSENC_BAD_STT_FLAGS : 0;
+        *offset = *code == NIULASSENC_BAD_STT_FLAGS;
+    }
+}
+
+/* Whether a code refuses a tunnel header, and whether it says that one was looked at. */
+static bool of_a_header(uint8_t code)
+{
+    return code >= NIULASSENC_BAD_VXLAN_FLAG && code <= NIULASSENC_BAD_STT_FLAGS;
+}
+
+static bool judged(uint8_t code)
+{
+    return of_a_header(code) || code == NIULASSENC_DONE || code == NIULASSENC_NO_BINDING || code == NIULASSENC_BAD_FRAME;
+}
+
+/* A header that was looked at tells whether it must be refused, and for which byte. Where none was, the offset is 0. */
+static void offending(struct niulassenc_receipt got, const uint8_t *packet)
+{
+    uint8_t code = 0;
+    size_t offset = 0;
+
+    if (judged(got.code))
+        judge(packet, &code, &offset);
+    CHECK(code == (of_a_header(got.code) ? got.code : 0));
+    CHECK(got.offset == offset);
+}
+
 static void receive(enum call call, const uint8_t *built, size_t length, size_t memory_length)
 {
     uint8_t *packet = part(packet_pages, length, at_end);
@@ -256,9 +332,10 @@ static void receive(enum call call, const uint8_t *built, size_t length, size_t 
     struct niulassenc_receipt got = niulassenc_receive(endpoint, packet, length, lent, memory_length);
     count(call, got.code);
     CHECK(memcmp(lent_before, packet, length) == 0);
-    CHECK(got.code <= NIULASSENC_NO_SLOT);
+    CHECK((got.code <= NIULASSENC_NO_SLOT && got.code != 11) || of_a_header(got.code));
     CHECK((got.code == NIULASSENC_MEMORY_TOO_SMALL) == (memory_length < MEMORY));
     CHECK(one_slot_changed());
+    offending(got, packet);
     if (got.code == NIULASSENC_DONE) {
         delivered(got, packet, length);
         return;
@@ -267,7 +344,7 @@ static void receive(enum call call, const uint8_t *built, size_t length, size_t 
     CHECK(got.start == 0 && got.length == 0 && !got.in_memory);
     if (got.code == NIULASSENC_PENDING)
         return;
-    bool of_a_frame = got.code >= NIULASSENC_BAD_TUNNEL_HEADER && got.code <= NIULASSENC_BAD_FRAME && packet[9] == 6;
+    bool of_a_frame = judged(got.code) && packet[9] == 6;
     CHECK(of_a_frame || (endpoint_same() && memory_same()));
 }
 
@@ -283,7 +360,17 @@ static void raw(void)
     receive(RAW, packet, length, memory_length);
 }
 
-/* A packet of one of the three kinds from one of the peers, with a short frame, and now and then with a fault. */
+/* Puts words of options behind the first 20 bytes of the IPv4 header. */
+static size_t add_options(uint8_t *packet, size_t length, size_t words)
+{
+    memmove(packet + 20 + 4 * words, packet + 20, length - 20);
+    memset(packet + 20, 1, 4 * words);
+    packet[0] = (uint8_t)(0x45 + words);
+    put16(packet + 2, (uint32_t)(length + 4 * words));
+    return length + 4 * words;
+}
+
+/* A packet of one of the three kinds from one of the peers, with a short frame, now and then with options or a fault. */
 static void built(void)
 {
     uint8_t packet[LONGEST] = {0x45, 0, 0, 0, 0, 0, 0x40, 0, 64};
@@ -313,11 +400,13 @@ static void built(void)
         length += 20 + bytes(packet + 40, number(1) % (protocol == 2 ? 41 : 256));
     }
     mend(packet, length, 1 | 2 | which << 5);
+    size_t words = which & 32 ? number(1) % 11 : 0, faults = 64 + 4 * words;
+    length = add_options(packet, length, words);
     if (which & 8) /* a field is wrong, the checksums are right */
-        packet[number(1) % 64] ^= (uint8_t)number(1);
+        packet[number(1) % faults] ^= (uint8_t)number(1);
     mend(packet, length, packet[9] == 6 || which & 4 ? 4 | 8 : 8);
     if (which & 16) /* anything is wrong */
-        packet[number(1) % 64] ^= (uint8_t)number(1);
+        packet[number(1) % faults] ^= (uint8_t)number(1);
     receive(BUILT, packet, length, MEMORY);
 }
 
@@ -473,15 +562,6 @@ static size_t image_of(uint8_t *image)
         put16(at + 10, endpoint->tenants[i]);
     }
     return (size_t)(at - image);
-}
-
-static uint64_t get(const uint8_t *at, size_t bytes)
-{
-    uint64_t value = 0;
-
-    for (; bytes > 0; bytes--)
-        value = value << 8 | *at++;
-    return value;
 }
 
 /* Whether an image is good: it has the bytes that its counts ask for, and a start and additions take all that it lists. Then they
