@@ -256,9 +256,9 @@ static void delivered(struct niulassenc_receipt got, const uint8_t *packet, size
     observe(got.tenant, peer, niulassenc_source(frame.bytes, frame.length));
 }
 
-/* Where in the memory the STT frame is that a packet belongs to: at the slot that its identifier had before the call, or else at
- * the first that was free. */
-static const uint8_t *stt_frame_of(const uint8_t *packet)
+/* The slot, counted over all peers, of the STT frame that a packet belongs to: the one that its identifier had before the call, or
+ * else the first that was free. */
+static unsigned slot_of(const uint8_t *packet)
 {
     const uint8_t *tcp = packet + (packet[0] & 15) * 4;
     unsigned peer = 0, slot = 0;
@@ -271,7 +271,17 @@ static const uint8_t *stt_frame_of(const uint8_t *packet)
     if (slot == NIULASSENC_SLOTS)
         for (slot = 0; slots[slot].pending; slot++)
             CHECK(slot + 1 < NIULASSENC_SLOTS);
-    return memory + (peer * NIULASSENC_SLOTS + slot) * NIULASSENC_SLOT_BYTES;
+    return peer * NIULASSENC_SLOTS + slot;
+}
+
+/* Of a complete STT frame the slot is free, every number 0, and nothing else of the endpoint is changed. */
+static void freed(const uint8_t *packet)
+{
+    struct niulassenc_endpoint expected = endpoint_before;
+    unsigned slot = slot_of(packet);
+
+    memset(&expected.peers[slot / NIULASSENC_SLOTS].slots[slot % NIULASSENC_SLOTS], 0, sizeof(struct niulassenc_slot));
+    CHECK(memcmp(&expected, endpoint, ENDPOINT_BYTES) == 0);
 }
 
 /* The code and offset that the tunnel header of a packet is refused with, which has passed all checks up to there, for STT the
@@ -292,7 +302,7 @@ static void judge(const uint8_t *packet, uint8_t *code, size_t *offset)
         *code = NIULASSENC_BAD_GRE_TYPE;
         *offset = header[2] != 0x65 ? at + 2 : at + 3;
     } else if (packet[9] == 6) {
-        const uint8_t *frame = stt_frame_of(packet);
+        const uint8_t *frame = memory + slot_of(packet) * NIULASSENC_SLOT_BYTES;
         *code = frame[0] != 0 ? NIULASSENC_BAD_STT_VERSION : (frame[1] & 3) == 3 ? NIULASSENC_BAD_STT_FLAGS : 0;
         *offset = *code == NIULASSENC_BAD_STT_FLAGS;
     }
@@ -336,16 +346,16 @@ static void receive(enum call call, const uint8_t *built, size_t length, size_t 
     CHECK((got.code == NIULASSENC_MEMORY_TOO_SMALL) == (memory_length < MEMORY));
     CHECK(one_slot_changed());
     offending(got, packet);
+    if (judged(got.code) && packet[9] == 6)
+        freed(packet);
+    else if (got.code != NIULASSENC_PENDING)
+        CHECK(endpoint_same() && memory_same());
     if (got.code == NIULASSENC_DONE) {
         delivered(got, packet, length);
         return;
     }
     CHECK(got.tenant == NIULASSENC_NONE && got.binding == NIULASSENC_NONE);
     CHECK(got.start == 0 && got.length == 0 && !got.in_memory);
-    if (got.code == NIULASSENC_PENDING)
-        return;
-    bool of_a_frame = judged(got.code) && packet[9] == 6;
-    CHECK(of_a_frame || (endpoint_same() && memory_same()));
 }
 
 /* Any bytes, some of whose fields are made right. */
@@ -370,11 +380,9 @@ static size_t add_options(uint8_t *packet, size_t length, size_t words)
     return length + 4 * words;
 }
 
-/* A packet of one of the three kinds from one of the peers, with a short frame, now and then with options or a fault. */
-static void built(void)
+/* Writes what a packet of one of the three kinds carries, a short frame or a segment, and gives the packet's length. */
+static size_t carried(uint8_t *packet, uint32_t protocol, bool both_flags)
 {
-    uint8_t packet[LONGEST] = {0x45, 0, 0, 0, 0, 0, 0x40, 0, 64};
-    uint32_t which = number(1), protocol = number(1) % 4;
     size_t length = 20;
 
     if (protocol == 0) {
@@ -398,15 +406,29 @@ static void built(void)
         put32(packet + 28, number(1) % 6);
         packet[32] = 0x50;
         length += 20 + bytes(packet + 40, number(1) % (protocol == 2 ? 41 : 256));
+        if (both_flags) /* where the segment is the frame's first */
+            put16(packet + 40, 3);
     }
+    return length;
+}
+
+/* A packet from one of the peers, now and then with options or a fault. */
+static void built(void)
+{
+    uint8_t packet[LONGEST] = {0x45, 0, 0, 0, 0, 0, 0x40, 0, 64};
+    uint32_t which = number(1);
+    size_t length = carried(packet, number(1) % 4, which & 64), words = which & 32 ? number(1) % 11 : 0;
+
     mend(packet, length, 1 | 2 | which << 5);
-    size_t words = which & 32 ? number(1) % 11 : 0, faults = 64 + 4 * words;
     length = add_options(packet, length, words);
-    if (which & 8) /* a field is wrong, the checksums are right */
-        packet[number(1) % faults] ^= (uint8_t)number(1);
+    if (which & 8) { /* a field is wrong, or two in a row, the checksums are right */
+        size_t at = number(1) % (64 + 4 * words);
+        packet[at] ^= (uint8_t)number(1);
+        packet[at + 1] ^= (uint8_t)(which & 128 ? number(1) : 0);
+    }
     mend(packet, length, packet[9] == 6 || which & 4 ? 4 | 8 : 8);
     if (which & 16) /* anything is wrong */
-        packet[number(1) % faults] ^= (uint8_t)number(1);
+        packet[number(1) % (64 + 4 * words)] ^= (uint8_t)number(1);
     receive(BUILT, packet, length, MEMORY);
 }
 
