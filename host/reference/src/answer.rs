@@ -1,6 +1,6 @@
 //! The numbered answers of documents 01 and 02 and what they carry.
 
-/// The number of an answer, 0 to 24.
+/// The number of an answer, 0 to 29; 11 is no longer given.
 pub type Code = u8;
 
 /// Delivered, written or done.
@@ -31,8 +31,6 @@ pub enum Refusal {
     BadTransportHeader = 9,
     /// UDP checksum non-zero and wrong, or TCP checksum wrong.
     BadTransportChecksum = 10,
-    /// VXLAN, NVGRE or STT frame header wrong.
-    BadTunnelHeader = 11,
     /// No binding for this peer, kind and network id.
     NoBinding = 12,
     /// Inner frame breaks its rule.
@@ -59,12 +57,47 @@ pub enum Refusal {
     NoSuch = 23,
     /// No settings image: not what a save gives, or not that alone.
     BadImage = 24,
+    /// VXLAN flag I not set.
+    BadVxlanFlag = 25,
+    /// First two bytes of the GRE header wrong: its flags or its version.
+    BadGreFlags = 26,
+    /// GRE protocol type wrong.
+    BadGreType = 27,
+    /// Version of the STT frame wrong.
+    BadSttVersion = 28,
+    /// Flags 0x01 and 0x02 of the STT frame both set.
+    BadSttFlags = 29,
 }
 
 impl Refusal {
     /// The papers' number of this refusal.
     pub const fn code(self) -> Code {
         self as Code
+    }
+}
+
+/// A refused packet: why, and at which byte. The offset is that of the first byte
+/// that breaks the rule of a tunnel header (25 to 29), and 0 in every other refusal.
+#[derive(Clone, Copy)]
+pub(crate) struct Fault {
+    pub refusal: Refusal,
+    pub offset: usize,
+}
+
+impl Fault {
+    pub const fn new(refusal: Refusal, offset: usize) -> Fault {
+        Fault { refusal, offset }
+    }
+
+    /// The same fault, counted from `bytes` bytes further to the front.
+    pub const fn behind(self, bytes: usize) -> Fault {
+        Fault::new(self.refusal, bytes + self.offset)
+    }
+}
+
+impl From<Refusal> for Fault {
+    fn from(refusal: Refusal) -> Fault {
+        Fault::new(refusal, 0)
     }
 }
 
@@ -101,6 +134,9 @@ impl Place {
 pub struct Answer {
     /// The number of the answer.
     pub code: Code,
+    /// With codes 25 to 29, the first byte that breaks its rule: its offset in the
+    /// packet (VXLAN, NVGRE) or in the STT frame. 0 with every other code.
+    pub offset: usize,
     /// The tenant (bench) the frame goes to, with code 0 only.
     pub tenant: Option<u16>,
     /// The number of the matching binding, with code 0 only.
@@ -113,9 +149,19 @@ impl Answer {
     pub(crate) const fn without_frame(code: Code) -> Answer {
         Answer {
             code,
+            offset: 0,
             tenant: None,
             binding: None,
             place: Place::EMPTY,
+        }
+    }
+}
+
+impl From<Fault> for Answer {
+    fn from(fault: Fault) -> Answer {
+        Answer {
+            offset: fault.offset,
+            ..Answer::without_frame(fault.refusal.code())
         }
     }
 }

@@ -1,6 +1,6 @@
 //! The endpoint: listing, pending frames, and the order of the checks.
 
-use crate::answer::{Added, Answer, Code, Place, Refusal, Wrapped, DONE, PENDING};
+use crate::answer::{Added, Answer, Code, Fault, Place, Refusal, Wrapped, DONE, PENDING};
 use crate::headers::{self, Carriage, Ipv4, Segment};
 use crate::headers::{GRE_HEADER, STT_HEADER, UDP_HEADER, VXLAN_HEADER};
 use crate::image;
@@ -94,7 +94,7 @@ impl Endpoint {
     /// Takes one outer packet, first byte of the IP header.
     pub fn receive(&mut self, packet: &[u8], memory: &mut [u8]) -> Answer {
         self.try_receive(packet, memory)
-            .unwrap_or_else(|refusal| Answer::without_frame(refusal.code()))
+            .unwrap_or_else(Answer::from)
     }
 
     /// One tick of the clock; always 0.
@@ -127,13 +127,13 @@ impl Endpoint {
     }
 
     /// Checks 2 to 7, then those of the carriage, then those of the kind.
-    fn try_receive(&mut self, packet: &[u8], memory: &mut [u8]) -> Result<Answer, Refusal> {
+    fn try_receive(&mut self, packet: &[u8], memory: &mut [u8]) -> Result<Answer, Fault> {
         if memory.len() < MEMORY_NEEDED {
-            return Err(Refusal::MemoryTooSmall);
+            return Err(Refusal::MemoryTooSmall.into());
         }
         let ip = Ipv4::parse(packet)?;
         if ip.destination != self.config.own {
-            return Err(Refusal::NotForUs);
+            return Err(Refusal::NotForUs.into());
         }
         let peer = self
             .listing
@@ -141,20 +141,20 @@ impl Endpoint {
             .ok_or(Refusal::UnknownPeer)?;
         match Carriage::parse(&ip, self.config.stt_port)? {
             Carriage::Vxlan(header, inner) => {
-                let id = headers::vxlan_network_id(header)?;
-                let start = ip.header_length + UDP_HEADER + VXLAN_HEADER;
-                self.deliver(peer, Kind::Vxlan, id, inner, start)
+                let start = ip.header_length + UDP_HEADER;
+                let id = headers::vxlan_network_id(header).map_err(|fault| fault.behind(start))?;
+                self.deliver(peer, Kind::Vxlan, id, inner, start + VXLAN_HEADER)
             }
             Carriage::Nvgre(header, inner) => {
-                let id = headers::nvgre_network_id(header)?;
-                let start = ip.header_length + GRE_HEADER;
-                self.deliver(peer, Kind::Nvgre, id, inner, start)
+                let start = ip.header_length;
+                let id = headers::nvgre_network_id(header).map_err(|fault| fault.behind(start))?;
+                self.deliver(peer, Kind::Nvgre, id, inner, start + GRE_HEADER)
             }
             Carriage::Stt(segment) => self.receive_segment(peer, &segment, memory),
         }
     }
 
-    /// Checks 14 to 17, and 11 to 13 once the frame is complete: the Context ID
+    /// Checks 14 to 17, and 28, 29, 12 and 13 once the frame is complete: its header
     /// need not be in the segment that arrives first. By then the segment is
     /// stored and the slot is free, whatever these last checks say.
     fn receive_segment(
@@ -162,7 +162,7 @@ impl Endpoint {
         peer: u16,
         segment: &Segment,
         memory: &mut [u8],
-    ) -> Result<Answer, Refusal> {
+    ) -> Result<Answer, Fault> {
         let (start, length) = match self.reassembly.take(peer, segment, memory)? {
             Taken::Pending => return Ok(Answer::without_frame(PENDING)),
             Taken::Complete { start, length } => (start, length),
@@ -182,11 +182,12 @@ impl Endpoint {
         network_id: u64,
         inner: &[u8],
         start: usize,
-    ) -> Result<Answer, Refusal> {
+    ) -> Result<Answer, Fault> {
         let (binding, tenant) = self.listing.find(peer, kind, network_id)?;
         headers::check_inner(inner)?;
         Ok(Answer {
             code: DONE,
+            offset: 0,
             tenant: Some(tenant),
             binding: Some(binding),
             place: Place {

@@ -1,7 +1,7 @@
 //! Reading of the outer headers: IPv4, then UDP, GRE or the TCP-shaped header
 //! of STT, then the tunnel headers. Every reader knows only its own bytes.
 
-use crate::answer::Refusal;
+use crate::answer::{Fault, Refusal};
 use crate::checksum;
 
 /// IP protocol numbers of the three carriers.
@@ -176,32 +176,55 @@ fn parse_segment<'a>(ip: &Ipv4<'a>, stt_port: u16) -> Result<Segment<'a>, Refusa
     })
 }
 
-/// The VNI of a VXLAN header (RFC 7348, section 5). Only the I flag counts.
-pub fn vxlan_network_id(header: &[u8; VXLAN_HEADER]) -> Result<u64, Refusal> {
+/// The VNI of a VXLAN header (RFC 7348, section 5). Only the I flag counts. A fault's
+/// offset is within the header, here and in the next two.
+pub fn vxlan_network_id(header: &[u8; VXLAN_HEADER]) -> Result<u64, Fault> {
     if header[0] & 0x08 == 0 {
-        return Err(Refusal::BadTunnelHeader);
+        return Err(Fault::new(Refusal::BadVxlanFlag, 0));
     }
     // 24 bits of network id above 8 bits that do not count on receipt.
     Ok(u64::from(be32(header, 4) >> 8))
 }
+
+/// The bits that count in the first four bytes of a GRE header, and what they must
+/// be: 0x20 to 0x23, three low bits 0, the protocol type.
+const GRE_COUNTED: u32 = 0xFC07_FFFF;
+const GRE_RIGHT: u32 = 0x2000_0000 | TRANSPARENT_ETHERNET as u32;
 
 /// The VSID of an NVGRE header (RFC 7637, section 3.2): key present, no
 /// checksum, no sequence number, version 0. Document 01 leaves free the two low
 /// bits of the first byte and the five high bits of the second.
-pub fn nvgre_network_id(header: &[u8; GRE_HEADER]) -> Result<u64, Refusal> {
-    let flags_are_right = (0x20..=0x23).contains(&header[0]) && header[1] & 0x07 == 0;
-    if !flags_are_right || be16(header, 2) != TRANSPARENT_ETHERNET {
-        return Err(Refusal::BadTunnelHeader);
+pub fn nvgre_network_id(header: &[u8; GRE_HEADER]) -> Result<u64, Fault> {
+    if be32(header, 0) & GRE_COUNTED != GRE_RIGHT {
+        return Err(gre_fault(header));
     }
     // 24 bits of network id above 8 bits that do not count on receipt.
     Ok(u64::from(be32(header, 4) >> 8))
 }
 
+/// What is wrong with a GRE header that is not right, byte by byte.
+#[cold]
+fn gre_fault(header: &[u8; GRE_HEADER]) -> Fault {
+    if !(0x20..=0x23).contains(&header[0]) {
+        return Fault::new(Refusal::BadGreFlags, 0);
+    }
+    if header[1] & 0x07 != 0 {
+        return Fault::new(Refusal::BadGreFlags, 1);
+    }
+    if header[2] != TRANSPARENT_ETHERNET.to_be_bytes()[0] {
+        return Fault::new(Refusal::BadGreType, 2);
+    }
+    Fault::new(Refusal::BadGreType, 3)
+}
+
 /// The Context ID of an STT frame (draft-davie-stt-06, section 3.1). Flags 0
 /// (checksum verified) and 1 (checksum partial) exclude each other.
-pub fn stt_network_id(frame: &[u8]) -> Result<u64, Refusal> {
-    if frame[0] != 0 || frame[1] & 0x03 == 0x03 {
-        return Err(Refusal::BadTunnelHeader);
+pub fn stt_network_id(frame: &[u8]) -> Result<u64, Fault> {
+    if frame[0] != 0 {
+        return Err(Fault::new(Refusal::BadSttVersion, 0));
+    }
+    if frame[1] & 0x03 == 0x03 {
+        return Err(Fault::new(Refusal::BadSttFlags, 1));
     }
     Ok(be64(frame, 8))
 }

@@ -65,6 +65,16 @@ pub fn changed(packet: &[u8], change: impl FnOnce(&mut Vec<u8>)) -> Vec<u8> {
     copy
 }
 
+/// Puts `words` words of options into the outer header.
+pub fn with_options(packet: &[u8], words: u8) -> Vec<u8> {
+    changed(packet, |p| {
+        p.splice(20..20, (0..words * 4).map(|i| 0x91 ^ i));
+        p[0] += words;
+        let total = word(p, 2) + 4 * u16::from(words);
+        set_word(p, 2, total);
+    })
+}
+
 pub fn outer(from: u32, protocol: u8, payload: &[u8]) -> Vec<u8> {
     let mut packet = vec![0x45, 0, 0, 0, 0, 0, 0x40, 0, 64, protocol, 0, 0];
     packet.extend(from.to_be_bytes());
@@ -138,6 +148,7 @@ pub fn good(length: usize) -> Vec<u8> {
 
 pub const EMPTY: Answer = Answer {
     code: 0,
+    offset: 0,
     tenant: None,
     binding: None,
     place: Place {
@@ -176,18 +187,33 @@ impl Bed {
         self.endpoint.receive(packet, &mut self.memory)
     }
 
-    /// Refused with `code`: the empties, and nothing has changed.
+    /// Refused with `code` and offset 0: the empties, and nothing has changed.
     pub fn refuses(&mut self, code: u8, packet: &[u8]) {
+        self.refuses_at(code, 0, packet);
+    }
+
+    /// The same with an offset.
+    pub fn refuses_at(&mut self, code: u8, offset: usize, packet: &[u8]) {
         let endpoint = self.endpoint.clone();
         let memory = self.memory.clone();
-        assert_eq!(self.receive(packet), Answer { code, ..EMPTY });
+        self.refuses_frame_at(code, offset, packet);
         assert!(self.endpoint == endpoint, "the endpoint has changed");
         assert!(self.memory == memory, "the memory has changed");
     }
 
-    /// Refused with `code` on the last segment: the empties only.
+    /// Refused with `code` and offset 0 on the last segment: the empties only.
     pub fn refuses_frame(&mut self, code: u8, packet: &[u8]) {
-        assert_eq!(self.receive(packet), Answer { code, ..EMPTY });
+        self.refuses_frame_at(code, 0, packet);
+    }
+
+    /// The same with an offset.
+    pub fn refuses_frame_at(&mut self, code: u8, offset: usize, packet: &[u8]) {
+        let expected = Answer {
+            code,
+            offset,
+            ..EMPTY
+        };
+        assert_eq!(self.receive(packet), expected);
     }
 
     pub fn holds(&mut self, packet: &[u8]) {
@@ -197,7 +223,7 @@ impl Bed {
     /// Delivered to the tenant by the binding, with these bytes.
     pub fn delivers(&mut self, tenant: u16, binding: u16, frame: &[u8], packet: &[u8]) -> Place {
         let answer = self.receive(packet);
-        assert_eq!(answer.code, 0);
+        assert_eq!((answer.code, answer.offset), (0, 0));
         assert_eq!(answer.tenant, Some(tenant));
         assert_eq!(answer.binding, Some(binding));
         assert_eq!(view(packet, &self.memory, answer.place), frame);

@@ -9,6 +9,7 @@ mod faults;
 mod image;
 mod listing;
 mod memory;
+mod offsets;
 mod order;
 mod outer;
 mod segments;

@@ -54,15 +54,17 @@ fn nine_then_eight_then_nine_then_ten() {
 }
 
 #[test]
-fn eleven_twelve_thirteen() {
+fn tunnel_headers_then_twelve_then_thirteen() {
     let mut bed = Bed::new();
     for inner in [&T[..13], &[]] {
         bed.refuses(13, &vxlan(PEER, 22, inner));
         bed.refuses(12, &vxlan(PEER, 23, inner));
-        bed.refuses(11, &changed(&vxlan(PEER, 23, inner), |p| p[28] = 0));
+        bed.refuses_at(25, 28, &changed(&vxlan(PEER, 23, inner), |p| p[28] = 0));
         bed.refuses(13, &nvgre(PEER, 4096, inner));
         bed.refuses(12, &nvgre(PEER, 4097, inner));
-        bed.refuses(11, &changed(&nvgre(PEER, 4097, inner), |p| p[23] = 0x59));
+        let mistyped = changed(&nvgre(PEER, 4097, inner), |p| p[23] = 0x59);
+        bed.refuses_at(27, 23, &mistyped);
+        bed.refuses_at(26, 20, &changed(&mistyped, |p| p[20] = 0x24));
     }
     let mut tagged = T;
     tagged[12..14].copy_from_slice(&[0x81, 0x00]);
@@ -71,7 +73,9 @@ fn eleven_twelve_thirteen() {
     frame[9] ^= 1;
     bed.refuses_frame(12, &part(1, &frame, 0, 32));
     frame[1] = 3;
-    bed.refuses_frame(11, &part(1, &frame, 0, 32));
+    bed.refuses_frame_at(29, 1, &part(1, &frame, 0, 32));
+    frame[0] = 1;
+    bed.refuses_frame_at(28, 0, &part(1, &frame, 0, 32));
 }
 
 #[test]

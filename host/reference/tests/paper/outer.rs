@@ -2,16 +2,6 @@
 
 use crate::build::*;
 
-/// Puts `words` words of options into the outer header.
-fn with_options(packet: &[u8], words: u8) -> Vec<u8> {
-    changed(packet, |p| {
-        p.splice(20..20, (0..words * 4).map(|i| 0x91 ^ i));
-        p[0] += words;
-        let total = word(p, 2) + 4 * u16::from(words);
-        set_word(p, 2, total);
-    })
-}
-
 fn with_total(packet: &[u8], total: u16) -> Vec<u8> {
     let mut copy = packet.to_vec();
     set_word(&mut copy, 2, total);
@@ -154,7 +144,7 @@ fn answer_9_too_short_for_ports() {
     bed.refuses(8, &outer(PEER, 6, &[0; 20]));
     bed.refuses(9, &outer(PEER, 47, &[]));
     bed.refuses(9, &outer(PEER, 47, &[0x20; 7]));
-    bed.refuses(11, &outer(PEER, 47, &[0; 8]));
+    bed.refuses_at(26, 20, &outer(PEER, 47, &[0; 8]));
 }
 
 #[test]

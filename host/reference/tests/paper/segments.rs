@@ -88,9 +88,9 @@ fn answer_17_is_per_peer() {
 fn bad_frames_give_their_slot_back() {
     let mut bed = Bed::new();
     let wrongs: [(u8, usize, u8); 6] = [
-        (11, 0, 1),
-        (11, 1, 3),
-        (11, 1, 0xFF),
+        (28, 0, 1),
+        (29, 1, 3),
+        (29, 1, 0xFF),
         (12, 8, 2),
         (12, 15, 0),
         (13, 30, 0x81),
@@ -99,9 +99,10 @@ fn bad_frames_give_their_slot_back() {
         let mut frame = good(50);
         set_word(&mut frame, 30, 0x0000);
         frame[at] = value;
+        let offset = if code == 29 { 1 } else { 0 };
         for _ in 0..5 {
             bed.holds(&part(1, &frame, 25, 50));
-            bed.refuses_frame(code, &part(1, &frame, 0, 25));
+            bed.refuses_frame_at(code, offset, &part(1, &frame, 0, 25));
             assert_eq!(bed.memory[..50], frame);
             assert_eq!(bed.memory[1536..1543], [255, 255, 255, 255, 255, 255, 3]);
         }

@@ -1,4 +1,4 @@
-//! Checks 11, 12 and 13 of VXLAN and NVGRE, and what answer 0 carries.
+//! Checks 25 to 27, 12 and 13 of VXLAN and NVGRE, and what answer 0 carries.
 
 use crate::build::*;
 use niulassenc_reference::{Answer, Place};
@@ -8,6 +8,7 @@ fn answer_0_names_tenant_binding_and_place() {
     let mut bed = Bed::new();
     let expected = Answer {
         code: 0,
+        offset: 0,
         tenant: Some(201),
         binding: Some(3),
         place: Place {
@@ -32,11 +33,11 @@ fn answer_0_names_tenant_binding_and_place() {
 }
 
 #[test]
-fn answer_11_vxlan() {
+fn answer_25_vxlan() {
     let mut bed = Bed::new();
     let packet = vxlan(PEER, 22, &T);
     for flags in [0x00, 0xF7, 0x04, 0x10, 0x80] {
-        bed.refuses(11, &changed(&packet, |p| p[28] = flags));
+        bed.refuses_at(25, 28, &changed(&packet, |p| p[28] = flags));
     }
     for flags in [0x08, 0xFF, 0x0C, 0x88] {
         bed.delivers(101, 0, &T, &changed(&packet, |p| p[28] = flags));
@@ -47,21 +48,21 @@ fn answer_11_vxlan() {
 }
 
 #[test]
-fn answer_11_nvgre() {
+fn answers_26_and_27_nvgre() {
     let mut bed = Bed::new();
     let packet = nvgre(PEER, 4096, &T);
     for first in [0x00, 0x1F, 0x24, 0x30, 0x60, 0xA0, 0xFF] {
-        bed.refuses(11, &changed(&packet, |p| p[20] = first));
+        bed.refuses_at(26, 20, &changed(&packet, |p| p[20] = first));
     }
     for first in 0x20..=0x23 {
         bed.delivers(102, 1, &T, &changed(&packet, |p| p[20] = first));
     }
     for second in [1, 2, 4, 0xFF] {
-        bed.refuses(11, &changed(&packet, |p| p[21] = second));
+        bed.refuses_at(26, 21, &changed(&packet, |p| p[21] = second));
     }
     bed.delivers(102, 1, &T, &changed(&packet, |p| p[21] = 0xF8));
-    for kind in [0x6559, 0x6557, 0x6458, 0x0800] {
-        bed.refuses(11, &changed(&packet, |p| set_word(p, 22, kind)));
+    for (kind, at) in [(0x6559, 23), (0x6557, 23), (0x6458, 22), (0x0800, 22)] {
+        bed.refuses_at(27, at, &changed(&packet, |p| set_word(p, 22, kind)));
     }
     bed.delivers(102, 1, &T, &changed(&packet, |p| p[27] = 0xFF));
 }

@@ -1,5 +1,5 @@
-//! Cases 3 to 7 and 9 to 11 of the worked cases (document 01: bench sheet); 1, 2 and 8 stand beside the
-//! functions they speak of.
+//! Cases 3 to 7 and 9 to 11 of the worked cases (document 01: bench sheet; 7 as
+//! document 02 has it); 1, 2 and 8 stand beside the functions they speak of.
 
 use crate::build::*;
 use niulassenc_reference::{Endpoint, Wrapped};
@@ -70,7 +70,7 @@ fn case_7_nvgre_first_byte() {
     let mut bed = Bed::new();
     let packet = nvgre(PEER, 4096, &T);
     bed.delivers(102, 1, &T, &changed(&packet, |p| p[20] = 0x23));
-    bed.refuses(11, &changed(&packet, |p| p[20] = 0x24));
+    bed.refuses_at(26, 20, &changed(&packet, |p| p[20] = 0x24));
 }
 
 #[test]
