@@ -178,8 +178,9 @@ impl Driver {
         self.last_answer = Some(answer);
         self.line(Some(answer.code), || {
             format!(
-                "receive {} {} {} {} {} {} {} {}",
+                "receive {} {} {} {} {} {} {} {} {}",
                 answer.code,
+                answer.offset,
                 or_dash(answer.tenant),
                 or_dash(answer.binding),
                 if place.in_memory { "memory" } else { "packet" },
@@ -287,6 +288,11 @@ impl Driver {
     /// What the last wrap or save wrote; empty after a refusal.
     pub fn written(&self) -> &[u8] {
         &self.output[..self.written]
+    }
+
+    /// The offset that the last receive named.
+    pub fn offset(&self) -> usize {
+        self.last_answer.map_or(0, |answer| answer.offset)
     }
 
     /// The bytes that the last receive delivered; none after another answer.

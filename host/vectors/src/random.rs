@@ -318,6 +318,11 @@ impl Scene {
             let at = prng.below(16);
             frame[at] = prng.byte();
         }
+        // Flags that exclude each other, often behind a wrong version.
+        if prng.percent(4) {
+            frame[0] = prng.pick(&[0, 0, 1, 0x80]);
+            frame[1] |= 0x03;
+        }
         frame
     }
 }
@@ -375,14 +380,37 @@ fn view(recorder: &mut Recorder, prng: &mut Prng) {
 /// The packet with one fault, or with one freedom that it may take.
 fn damaged(prng: &mut Prng, packet: &[u8]) -> Vec<u8> {
     let mut copy = packet.to_vec();
-    if prng.percent(25) {
-        return differently_shaped(prng, packet);
+    match prng.below(100) {
+        0..=24 => return differently_shaped(prng, packet),
+        25..=49 if packet[9] != packet::TCP => return wrong_tunnel_header(prng, packet),
+        _ => change_field(prng, &mut copy),
     }
-    change_field(prng, &mut copy);
     if prng.percent(85) {
         packet::repair(&mut copy);
     }
     copy
+}
+
+/// A VXLAN or NVGRE packet, with options now and then, that lacks its flag, or has
+/// any of the four bytes wrong that a GRE header begins with. What an STT frame has
+/// wrong comes with the frame.
+fn wrong_tunnel_header(prng: &mut Prng, packet: &[u8]) -> Vec<u8> {
+    let room = LONGEST_PACKET.saturating_sub(packet.len());
+    let words = if room < 40 { 0 } else { prng.below(11) as u8 };
+    let optioned = packet::with_ip_options(packet, words);
+    let header = packet::header_length(&optioned);
+    packet::edited(&optioned, |copy| {
+        if packet[9] == packet::UDP {
+            copy[header + 8] = prng.byte() & 0xF7;
+            return;
+        }
+        // From any of them on, so that each is wrong alone now and then.
+        for at in prng.below(4)..4 {
+            if prng.percent(60) {
+                copy[header + at] = prng.byte();
+            }
+        }
+    })
 }
 
 /// Options, trailing bytes, truncations, another total length.

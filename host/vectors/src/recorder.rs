@@ -6,8 +6,8 @@ use crate::driver::{flat, Driver, Line, MAX_MEMORY, MAX_OUTPUT};
 use crate::record::Record;
 use niulassenc_reference::Observed;
 
-/// How often each code 0..=24 was answered.
-pub type Histogram = [u64; 25];
+/// How often each code 0..=29 was answered.
+pub type Histogram = [u64; 30];
 
 pub struct Recorder {
     pub driver: Driver,
@@ -38,7 +38,7 @@ impl Recorder {
             driver: Driver::new(),
             runs: Vec::new(),
             answers: String::new(),
-            histogram: [0; 25],
+            histogram: [0; 30],
             observed: [0; 4],
             records: 0,
             kept: None,
@@ -150,9 +150,17 @@ impl Recorder {
         code
     }
 
+    /// A receive whose answer names no offset: 0 stands there.
     pub fn receive(&mut self, expected: u8, packet: &[u8]) {
+        self.receive_at(expected, 0, packet);
+    }
+
+    /// A receive whose answer names the first offending byte.
+    pub fn receive_at(&mut self, expected: u8, offset: usize, packet: &[u8]) {
         let got = self.try_receive(packet);
         self.expect(expected, got);
+        let (at, named) = (self.records, self.driver.offset());
+        assert_eq!(named, offset, "offset: case {}, record {at}", self.case);
     }
 
     pub fn tick(&mut self) {

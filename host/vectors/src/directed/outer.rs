@@ -213,7 +213,7 @@ fn short_payloads(r: &mut Recorder, prng: &mut Prng) {
     }
     r.receive(8, &ipv4(FROM_A, UDP, &[0; 8]));
     r.receive(9, &ipv4(FROM_A, UDP, &udp(4789, &[])));
-    r.receive(11, &ipv4(FROM_A, GRE, &[0; 8]));
+    r.receive_at(26, 20, &ipv4(FROM_A, GRE, &[0; 8]));
     r.receive(13, &nvgre(FROM_A, 4096, &[]));
     for length in [0, 8, 19] {
         r.receive(9, &ipv4(FROM_A, TCP, &vec![0; length]));
@@ -337,10 +337,10 @@ fn order(r: &mut Recorder, prng: &mut Prng) {
     let past = with_byte(&segment, 32, 0xF0);
     r.receive(9, &raw_byte(&past, 60, 0xFF));
     let no_flag = with_byte(&datagram, 28, 0);
-    r.receive(11, &no_flag);
+    r.receive_at(25, 28, &no_flag);
     r.receive(10, &raw_byte(&no_flag, 49, 0));
     r.receive(12, &with_byte(&datagram, 34, 23));
-    r.receive(11, &with_byte(&no_flag, 34, 23));
+    r.receive_at(25, 28, &with_byte(&no_flag, 34, 23));
     let too_long = with_word(&segment, 24, 1533);
     r.receive(14, &too_long);
     r.receive(10, &raw_byte(&too_long, 60, 0xFF));

@@ -1,4 +1,4 @@
-//! STT: 14 to 17, slots, ageing, and 11 to 13 on a complete frame.
+//! STT: 14 to 17, slots, ageing, and 28, 29, 12 and 13 on a complete frame.
 
 use super::*;
 use crate::packet::*;
@@ -20,6 +20,7 @@ pub const CASES: &[(&str, Case)] = &[
     ("three ticks and four", ageing),
     ("ages differ", ages_differ),
     ("bad header on the last segment", bad_frames),
+    ("the wrong byte in any segment", wrong_byte_anywhere),
     ("Context ID in the last segment", context_last),
     ("a memory changed by another", changed_memory),
 ];
@@ -387,10 +388,10 @@ fn ages_differ(r: &mut Recorder, prng: &mut Prng) {
 
 /// Answer to a frame with this header byte set to this value.
 const HEADER_CHANGES: [(u8, usize, u8); 14] = [
-    (11, 0, 1),
-    (11, 0, 0x80),
-    (11, 1, 0x03),
-    (11, 1, 0xFF),
+    (28, 0, 1),
+    (28, 0, 0x80),
+    (29, 1, 0x03),
+    (29, 1, 0xFF),
     (0, 1, 0x01),
     (0, 1, 0x02),
     (0, 1, 0xFD),
@@ -410,9 +411,10 @@ fn bad_frames(r: &mut Recorder, prng: &mut Prng) {
     for (code, at, value) in HEADER_CHANGES {
         let mut frame = good.clone();
         frame[at] = value;
+        let offset = if code > 24 { at } else { 0 };
         r.receive(1, &part(1, &frame, 24, 48));
-        r.receive(code, &part(1, &frame, 0, 24));
-        r.receive(code, &part(1, &frame, 0, 48));
+        r.receive_at(code, offset, &part(1, &frame, 0, 24));
+        r.receive_at(code, offset, &part(1, &frame, 0, 48));
     }
     let mut tagged = good.clone();
     put16(&mut tagged, 30, 0x8100);
@@ -429,17 +431,52 @@ fn bad_frames(r: &mut Recorder, prng: &mut Prng) {
     r.receive(17, &part(4, &good, 0, 24));
 }
 
-/// 11 before 12 before 13, and 16 before all of them.
+/// 28 before 29 before 12 before 13, and 16 before all of them.
 fn order_of_bad_frames(r: &mut Recorder, tagged: &[u8]) {
-    let mut unbound = tagged.to_vec();
-    unbound[8] ^= 1;
-    let mut wrong = unbound.clone();
-    wrong[1] = 3;
-    for (code, frame) in [(13, tagged), (12, unbound.as_slice()), (11, &wrong)] {
-        r.receive(1, &part(3, frame, 0, 47));
-        r.receive(16, &part(3, frame, 46, 48));
-        r.receive(code, &part(3, frame, 47, 48));
+    let mut frame = tagged.to_vec();
+    for (code, offset, at, value) in [
+        (13, 0, 8, tagged[8]),
+        (12, 0, 8, tagged[8] ^ 1),
+        (29, 1, 1, 3),
+        (28, 0, 0, 1),
+    ] {
+        frame[at] = value;
+        r.receive(1, &part(3, &frame, 0, 47));
+        r.receive(16, &part(3, &frame, 46, 48));
+        r.receive_at(code, offset, &part(3, &frame, 47, 48));
     }
+}
+
+/// Version and flags come in segments of their own, in any order: the last one gets
+/// the answer, and its offset is that in the frame. No header of a packet counts, nor
+/// the slot: there is a frame more pending before each.
+fn wrong_byte_anywhere(r: &mut Recorder, prng: &mut Prng) {
+    set_up(r, prng.draw() as u32);
+    let orders = [
+        [0, 1, 2],
+        [0, 2, 1],
+        [1, 0, 2],
+        [1, 2, 0],
+        [2, 0, 1],
+        [2, 1, 0],
+    ];
+    let faults = [(28, 0, 1, 1), (29, 1, 0, 3), (28, 0, 2, 0xFF)];
+    for (pending, (code, offset, version, flags)) in (0..).zip(faults) {
+        let mut frame = good_frame(prng, 50);
+        frame[..2].copy_from_slice(&[version, flags]);
+        let parts = cut(FROM_A, PORT, 1, &frame, &[1, 2]);
+        r.receive(1, &loose(100 + pending, 60, 9, &[1; 9]));
+        for [first, second, last] in orders {
+            r.receive(1, &parts[first]);
+            r.receive(1, &parts[second]);
+            r.receive_at(code, offset, &parts[last]);
+        }
+        let whole = with_ip_options(&part(2, &frame, 0, 50), 3);
+        r.receive_at(code, offset, &whole);
+        r.receive_at(code, offset, &with_tcp_options(&whole, 2));
+    }
+    let good = good_frame(prng, 50);
+    r.receive(0, &part(2, &good, 0, 50));
 }
 
 fn context_last(r: &mut Recorder, prng: &mut Prng) {

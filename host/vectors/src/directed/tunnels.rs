@@ -1,4 +1,4 @@
-//! Tunnel headers, bindings and inner frames of VXLAN and NVGRE: 11, 12, 13;
+//! Tunnel headers, bindings and inner frames of VXLAN and NVGRE: 25, 26, 27, 12, 13;
 //! and the handing back of places.
 
 use super::*;
@@ -7,9 +7,11 @@ use crate::packet::*;
 pub const CASES: &[(&str, Case)] = &[
     ("VXLAN header", vxlan_header),
     ("NVGRE header", nvgre_header),
+    ("tunnel headers behind IPv4 options", behind_options),
+    ("several wrong bytes of a GRE header", wrong_together),
     ("lookups", lookups),
     ("inner frames", inner_frames),
-    ("order of 11, 12, 13", order),
+    ("order of tunnel header, 12, 13", order),
     ("views", views),
 ];
 
@@ -20,7 +22,7 @@ fn vxlan_header(r: &mut Recorder, prng: &mut Prng) {
         r.receive(0, &with_byte(&good, 28, flags));
     }
     for flags in [0x00, 0xF7, 0x07, 0x80, 0x10] {
-        r.receive(11, &with_byte(&good, 28, flags));
+        r.receive_at(25, 28, &with_byte(&good, 28, flags));
     }
     for at in [29, 30, 31, 35] {
         r.receive(0, &with_byte(&good, at, 0xFF));
@@ -37,20 +39,62 @@ fn nvgre_header(r: &mut Recorder, prng: &mut Prng) {
         r.receive(0, &with_byte(&good, 20, first));
     }
     for first in [0x00, 0x1F, 0x24, 0x28, 0x30, 0x60, 0xA0, 0xB0, 0xFF, 0x02] {
-        r.receive(11, &with_byte(&good, 20, first));
+        r.receive_at(26, 20, &with_byte(&good, 20, first));
     }
     for second in [0x08, 0x10, 0x80, 0xF8] {
         r.receive(0, &with_byte(&good, 21, second));
     }
     for second in [1, 2, 3, 4, 7, 0xF9, 0xFF] {
-        r.receive(11, &with_byte(&good, 21, second));
+        r.receive_at(26, 21, &with_byte(&good, 21, second));
     }
-    for kind in [0x6557, 0x6559, 0x6458, 0x0800, 0x5865, 0] {
-        r.receive(11, &with_word(&good, 22, kind));
+    for kind in [0x6458, 0x0800, 0x5865, 0] {
+        r.receive_at(27, 22, &with_word(&good, 22, kind));
+    }
+    for kind in [0x6557, 0x6559, 0x6565, 0x6500] {
+        r.receive_at(27, 23, &with_word(&good, 22, kind));
     }
     r.receive(0, &with_byte(&good, 27, 0xFF));
     for vsid in [0, 1, 4095, 4097, 0x0010_0000, 16_777_214, 16_777_215] {
         r.receive(12, &nvgre(FROM_A, vsid, &T));
+    }
+}
+
+/// The offset is that in the packet: the IPv4 header counts with its options. What
+/// stands behind the total length does not.
+fn behind_options(r: &mut Recorder, prng: &mut Prng) {
+    set_up(r, prng.draw() as u32);
+    for words in 0..=10 {
+        let header = 20 + 4 * usize::from(words);
+        let datagram = with_ip_options(&vxlan_summed(FROM_A, 22, &T), words);
+        r.receive_at(25, header + 8, &with_byte(&datagram, header + 8, 0xF7));
+        let good = with_ip_options(&nvgre(FROM_A, 4096, &T), words);
+        for (code, at, value) in [(26, 0, 0x24), (26, 1, 0x01), (27, 2, 0x64), (27, 3, 0x59)] {
+            r.receive_at(code, header + at, &with_byte(&good, header + at, value));
+        }
+        // A right header in front of what is refused later.
+        r.receive(12, &with_ip_options(&nvgre(FROM_A, 4097, &T), words));
+        r.receive(13, &with_ip_options(&vxlan(FROM_A, 22, &T[..13]), words));
+    }
+    let wrong = with_word(&nvgre(FROM_A, 4096, &T), 22, 0);
+    r.receive_at(27, 22, &trailed(&wrong, &[0; 9]));
+}
+
+/// Every set of wrong bytes that has two or more: the first counts, so that 26
+/// comes before 27.
+fn wrong_together(r: &mut Recorder, prng: &mut Prng) {
+    set_up(r, prng.draw() as u32);
+    let good = with_ip_options(&nvgre(FROM_A, 4096, &T), 1);
+    for which in (1..16usize).filter(|which| !which.is_power_of_two()) {
+        let packet = edited(&good, |copy| {
+            for (at, value) in [0x60, 0x87, 0x58, 0x65].into_iter().enumerate() {
+                if which >> at & 1 == 1 {
+                    copy[24 + at] = value;
+                }
+            }
+        });
+        let first = which.trailing_zeros() as usize;
+        let code = if first < 2 { 26 } else { 27 };
+        r.receive_at(code, 24 + first, &packet);
     }
 }
 
@@ -117,12 +161,12 @@ fn order(r: &mut Recorder, prng: &mut Prng) {
     for bytes in [&T[..13], &T[..0]] {
         r.receive(13, &vxlan(FROM_A, 22, bytes));
         r.receive(12, &vxlan(FROM_A, 21, bytes));
-        r.receive(11, &with_byte(&vxlan(FROM_A, 21, bytes), 28, 0xF7));
-        r.receive(11, &with_byte(&vxlan(FROM_A, 22, bytes), 28, 0));
+        r.receive_at(25, 28, &with_byte(&vxlan(FROM_A, 21, bytes), 28, 0xF7));
+        r.receive_at(25, 28, &with_byte(&vxlan(FROM_A, 22, bytes), 28, 0));
         r.receive(13, &nvgre(FROM_A, 4096, bytes));
         r.receive(12, &nvgre(FROM_A, 4097, bytes));
-        r.receive(11, &with_byte(&nvgre(FROM_A, 4097, bytes), 20, 0x24));
-        r.receive(11, &with_byte(&nvgre(FROM_A, 4096, bytes), 22, 0x64));
+        r.receive_at(26, 20, &with_byte(&nvgre(FROM_A, 4097, bytes), 20, 0x24));
+        r.receive_at(27, 22, &with_byte(&nvgre(FROM_A, 4096, bytes), 22, 0x64));
     }
 }
 
