@@ -18,8 +18,8 @@ use pair::Pair;
 use std::panic::{catch_unwind, AssertUnwindSafe};
 use vectors::record::Record;
 
-/// How often each code 0 to 23 was answered to a receive.
-pub type Histogram = [u64; 24];
+/// How often each code 0 to 29 was answered to a receive.
+pub type Histogram = [u64; 30];
 
 /// What was compared.
 #[derive(Clone, Copy, Debug, Default, PartialEq, Eq)]

@@ -174,6 +174,7 @@ impl Pair {
         let receipt = self.library.as_numbers().receive(packet, memory);
         let expected = self.reference.receive(packet, &mut self.reference_memory);
         same("code", receipt.code, expected.code)?;
+        same("offset", usize::from(receipt.offset), expected.offset)?;
         same("tenant", receipt.tenant, or_none(expected.tenant))?;
         same("binding", receipt.binding, or_none(expected.binding))?;
         same(
@@ -201,7 +202,7 @@ impl Pair {
                 (0, frame.bytes)
             }
             Ok(library::Received::Pending) => (1, &packet[..0]),
-            Err(refusal) => (refusal.number(), &packet[..0]),
+            Err(dropped) => (library::Refusal::from(dropped).number(), &packet[..0]),
         };
         same("delivered bytes", answer, (expected.code, bytes))
     }

@@ -41,7 +41,7 @@ pub struct Receiver {
     sides: [Sides; SET_UPS.len()],
     lent: Aligned,
     turn: usize,
-    pub codes: [usize; 18],
+    pub codes: [usize; 30],
 }
 
 /// So many bytes are given behind the total length.
@@ -53,7 +53,7 @@ impl Receiver {
             sides: SET_UPS.map(|set_up| Sides::new(&set_up, 1500).with_memory()),
             lent: Aligned::new(LONGEST + BORDER),
             turn: 0,
-            codes: [0; 18],
+            codes: [0; 30],
         }
     }
 

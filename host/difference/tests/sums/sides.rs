@@ -58,6 +58,7 @@ pub const SET_UPS: [SetUp; 3] = [
 #[derive(Clone, Copy, Debug, PartialEq, Eq)]
 struct Answer {
     code: u8,
+    offset: usize,
     tenant: u16,
     binding: u16,
     place: Place,
@@ -175,6 +176,7 @@ impl Part {
 fn of_library(receipt: &numbers::Receipt) -> Answer {
     Answer {
         code: receipt.code,
+        offset: receipt.offset.into(),
         tenant: receipt.tenant,
         binding: receipt.binding,
         place: receipt.place,
@@ -184,6 +186,7 @@ fn of_library(receipt: &numbers::Receipt) -> Answer {
 fn of_reference(answer: &reference::Answer) -> Answer {
     Answer {
         code: answer.code,
+        offset: answer.offset,
         tenant: answer.tenant.unwrap_or(numbers::NONE),
         binding: answer.binding.unwrap_or(numbers::NONE),
         place: Place {

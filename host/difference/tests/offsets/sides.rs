@@ -1,0 +1,112 @@
+//! An endpoint of each side that get the same packets.
+
+use crate::rules::Verdict;
+use difference::raw::{of_reference, same_numbers};
+use niulassenc::{numbers, Place};
+use niulassenc_reference as reference;
+use vectors::directed::{ENOUGH, FROM_A, NVGRE, OWN, PORT, STT, VXLAN};
+use vectors::driver::memory_contents;
+
+/// The network that the peer has of every kind.
+pub const ID: u32 = 0x00C0_FFEE;
+
+/// Words of options that an IPv4 header may have.
+pub const OPTIONS: std::ops::RangeInclusive<u8> = 0..=10;
+
+/// What a receive gave, in numbers that both sides have.
+#[derive(Clone, Copy, Debug, PartialEq, Eq)]
+struct Answer {
+    verdict: Verdict,
+    tenant: u16,
+    binding: u16,
+    place: Place,
+}
+
+pub struct Sides {
+    library: numbers::Endpoint,
+    reference: reference::Endpoint,
+    library_memory: Vec<u8>,
+    reference_memory: Vec<u8>,
+    /// How often each code came.
+    pub codes: [usize; 30],
+}
+
+impl Sides {
+    pub fn new() -> Sides {
+        let mut library = numbers::Endpoint::start(OWN, PORT.into(), 1500).0;
+        let mut reference = reference::Endpoint::start(OWN, PORT.into(), 1500).0;
+        library.add_peer(FROM_A.from);
+        reference.add_peer(FROM_A.from);
+        for kind in [VXLAN, NVGRE, STT].map(u32::from) {
+            library.add_binding(0, kind, ID.into(), 100 + kind);
+            reference.add_binding(0, kind, ID.into(), 100 + kind);
+        }
+        let memory = memory_contents(ENOUGH, 1);
+        Sides {
+            library,
+            reference,
+            library_memory: memory.clone(),
+            reference_memory: memory,
+            codes: [0; 30],
+        }
+    }
+
+    /// Both must answer the same, and what the rules say.
+    pub fn receive(&mut self, packet: &[u8], expected: Verdict) {
+        self.receive_in(ENOUGH, packet, expected);
+    }
+
+    /// The same with so many bytes of the memory.
+    pub fn receive_in(&mut self, length: usize, packet: &[u8], expected: Verdict) {
+        let memory = &mut self.library_memory[..length];
+        let ours = of_library(&self.library.receive(packet, memory));
+        let memory = &mut self.reference_memory[..length];
+        let theirs = of_answer(&self.reference.receive(packet, memory));
+        assert!(
+            ours == theirs && ours.verdict == expected,
+            "library {ours:?}\nreference {theirs:?}\nby the rules {expected:?}\n{packet:02x?}"
+        );
+        self.codes[usize::from(expected.code)] += 1;
+    }
+
+    /// What the library has stored from this place on.
+    pub fn stored(&self, start: usize, length: usize) -> &[u8] {
+        &self.library_memory[start..start + length]
+    }
+
+    /// The endpoints and the memories are still the same.
+    pub fn check(&self) {
+        let expected = of_reference(&self.reference);
+        same_numbers(self.library.raw(), &expected).unwrap_or_else(|why| panic!("{why}"));
+        let same = self.library_memory == self.reference_memory;
+        assert!(same, "the memories differ");
+    }
+}
+
+fn of_library(receipt: &numbers::Receipt) -> Answer {
+    Answer {
+        verdict: Verdict {
+            code: receipt.code,
+            offset: receipt.offset.into(),
+        },
+        tenant: receipt.tenant,
+        binding: receipt.binding,
+        place: receipt.place,
+    }
+}
+
+fn of_answer(answer: &reference::Answer) -> Answer {
+    Answer {
+        verdict: Verdict {
+            code: answer.code,
+            offset: answer.offset,
+        },
+        tenant: answer.tenant.unwrap_or(numbers::NONE),
+        binding: answer.binding.unwrap_or(numbers::NONE),
+        place: Place {
+            in_memory: answer.place.in_memory,
+            start: answer.place.start,
+            length: answer.place.length,
+        },
+    }
+}
