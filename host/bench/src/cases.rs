@@ -233,6 +233,8 @@ fn segments(cases: &mut Vec<Case>) {
     });
 }
 
+/// VXLAN packets in the order of the checks, then a wrong tunnel header of each other
+/// kind.
 fn refusals(cases: &mut Vec<Case>) {
     let good = vxlan(64);
     let refused: [(u8, &str, Vec<u8>); 10] = [
@@ -248,13 +250,22 @@ fn refusals(cases: &mut Vec<Case>) {
             "UDP checksum",
             packet::raw_byte(&vxlan_summed(64), 26, 1),
         ),
-        (11, "VXLAN flag", packet::with_byte(&good, 28, 0)),
+        (25, "VXLAN flag", packet::with_byte(&good, 28, 0)),
         (12, "no binding", packet::with_byte(&good, 34, 0)),
     ];
-    for (code, why, packet) in refused {
+    let mut push = |code, why: &str, kind, packet| {
         let name = format!("refusal {code}: {why}, 64 bindings");
-        cases.push(Case::receive(name, VXLAN, Listing::Full, code, packet));
+        cases.push(Case::receive(name, kind, Listing::Full, code, packet));
+    };
+    for (code, why, packet) in refused {
+        push(code, why, VXLAN, packet);
     }
+    let nvgre = packet::nvgre(FROM_PEER, NETWORK as u32, &inner(64));
+    let mistyped = packet::with_byte(&nvgre, 23, 0x59);
+    push(27, "GRE protocol type", NVGRE, mistyped);
+    // The STT frame begins behind the 40 bytes of both headers.
+    let flagged = packet::with_byte(&segment(64, 0, 82), 41, 0x03);
+    push(29, "STT flags, in one segment", STT, flagged);
 }
 
 fn ticks(cases: &mut Vec<Case>) {
