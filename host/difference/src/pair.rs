@@ -59,6 +59,16 @@ fn place_of_reference(place: reference::Place) -> (bool, usize, usize) {
     (place.in_memory, place.start, place.length)
 }
 
+/// The offset of an answer as the cover has it, with what it is counted in.
+fn offset_of_reference(answer: &reference::Answer) -> Option<library::Offset> {
+    let byte = answer.offset as u8;
+    match answer.code {
+        25..=27 => Some(library::Offset::Packet(byte)),
+        28 | 29 => Some(library::Offset::SttFrame(byte)),
+        _ => None,
+    }
+}
+
 impl Default for Pair {
     fn default() -> Pair {
         Pair::new()
@@ -202,7 +212,11 @@ impl Pair {
                 (0, frame.bytes)
             }
             Ok(library::Received::Pending) => (1, &packet[..0]),
-            Err(dropped) => (library::Refusal::from(dropped).number(), &packet[..0]),
+            Err(dropped) => {
+                let named = offset_of_reference(expected);
+                same("offset in the cover", dropped.offset, named)?;
+                (dropped.refusal.number(), &packet[..0])
+            }
         };
         same("delivered bytes", answer, (expected.code, bytes))
     }
