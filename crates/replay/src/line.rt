@@ -79,13 +79,15 @@ where
     decimal(hash(0, frame));
 }
 
-// Answer 1 and a refusal carry no tenant, no binding and the empty place.
+// Number and offset, then what was delivered: answer 1 and a refusal carry no tenant, no binding and the empty place.
 pub(crate) fn received<'p, 'm>(answer: Received, packet: &'p [u8], memory: &'m [u8])
 where
     'p: 'm,
 {
     text(b"receive ");
     decimal(code::received_code(answer) as u64);
+    text(b" ");
+    decimal(code::received_offset(answer) as u64);
     match answer {
         Received::Delivered(t, p) => delivered(t, p, packet, memory),
         Received::Pending => text(b" - - packet 0 0 0"),
