@@ -5,6 +5,7 @@
 
 #![forbid(unsafe_code)]
 
+pub mod answer;
 pub mod lent;
 pub mod pair;
 pub mod raw;

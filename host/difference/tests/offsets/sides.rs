@@ -1,8 +1,9 @@
 //! An endpoint of each side that get the same packets.
 
 use crate::rules::Verdict;
+use difference::answer::Answer;
 use difference::raw::{of_reference, same_numbers};
-use niulassenc::{numbers, Place};
+use niulassenc::numbers;
 use niulassenc_reference as reference;
 use vectors::directed::{ENOUGH, FROM_A, NVGRE, OWN, PORT, STT, VXLAN};
 use vectors::driver::memory_contents;
@@ -12,15 +13,6 @@ pub const ID: u32 = 0x00C0_FFEE;
 
 /// Words of options that an IPv4 header may have.
 pub const OPTIONS: std::ops::RangeInclusive<u8> = 0..=10;
-
-/// What a receive gave, in numbers that both sides have.
-#[derive(Clone, Copy, Debug, PartialEq, Eq)]
-struct Answer {
-    verdict: Verdict,
-    tenant: u16,
-    binding: u16,
-    place: Place,
-}
 
 pub struct Sides {
     library: numbers::Endpoint,
@@ -59,11 +51,12 @@ impl Sides {
     /// The same with so many bytes of the memory.
     pub fn receive_in(&mut self, length: usize, packet: &[u8], expected: Verdict) {
         let memory = &mut self.library_memory[..length];
-        let ours = of_library(&self.library.receive(packet, memory));
+        let ours = Answer::from(&self.library.receive(packet, memory));
         let memory = &mut self.reference_memory[..length];
-        let theirs = of_answer(&self.reference.receive(packet, memory));
+        let theirs = Answer::from(&self.reference.receive(packet, memory));
+        let Answer { code, offset, .. } = ours;
         assert!(
-            ours == theirs && ours.verdict == expected,
+            ours == theirs && Verdict { code, offset } == expected,
             "library {ours:?}\nreference {theirs:?}\nby the rules {expected:?}\n{packet:02x?}"
         );
         self.codes[usize::from(expected.code)] += 1;
@@ -80,33 +73,5 @@ impl Sides {
         same_numbers(self.library.raw(), &expected).unwrap_or_else(|why| panic!("{why}"));
         let same = self.library_memory == self.reference_memory;
         assert!(same, "the memories differ");
-    }
-}
-
-fn of_library(receipt: &numbers::Receipt) -> Answer {
-    Answer {
-        verdict: Verdict {
-            code: receipt.code,
-            offset: receipt.offset.into(),
-        },
-        tenant: receipt.tenant,
-        binding: receipt.binding,
-        place: receipt.place,
-    }
-}
-
-fn of_answer(answer: &reference::Answer) -> Answer {
-    Answer {
-        verdict: Verdict {
-            code: answer.code,
-            offset: answer.offset,
-        },
-        tenant: answer.tenant.unwrap_or(numbers::NONE),
-        binding: answer.binding.unwrap_or(numbers::NONE),
-        place: Place {
-            in_memory: answer.place.in_memory,
-            start: answer.place.start,
-            length: answer.place.length,
-        },
     }
 }

@@ -1,6 +1,7 @@
 //! The library and the reference, set up alike.
 
-use niulassenc::{numbers, Place};
+use difference::answer::Answer;
+use niulassenc::numbers;
 use niulassenc_reference as reference;
 use std::fmt;
 use vectors::directed::{ENOUGH, NVGRE, STT, VXLAN};
@@ -54,16 +55,6 @@ pub const SET_UPS: [SetUp; 3] = [
     },
 ];
 
-/// What a receive gave, in numbers that both sides have.
-#[derive(Clone, Copy, Debug, PartialEq, Eq)]
-struct Answer {
-    code: u8,
-    offset: usize,
-    tenant: u16,
-    binding: u16,
-    place: Place,
-}
-
 /// An endpoint of each side, and the memory lent to it; none at first.
 pub struct Sides {
     library: numbers::Endpoint,
@@ -108,7 +99,7 @@ impl Sides {
         let (mut library, mut reference) = (self.library.clone(), self.reference.clone());
         let ours = library.receive(packet, &mut self.library_memory);
         let theirs = reference.receive(packet, &mut self.reference_memory);
-        let (ours, theirs) = (of_library(&ours), of_reference(&theirs));
+        let (ours, theirs) = (Answer::from(&ours), Answer::from(&theirs));
         if ours != theirs {
             return Err(format!("library {ours:?}, reference {theirs:?}"));
         }
@@ -170,29 +161,5 @@ impl Part {
             segment,
             identifier,
         }
-    }
-}
-
-fn of_library(receipt: &numbers::Receipt) -> Answer {
-    Answer {
-        code: receipt.code,
-        offset: receipt.offset.into(),
-        tenant: receipt.tenant,
-        binding: receipt.binding,
-        place: receipt.place,
-    }
-}
-
-fn of_reference(answer: &reference::Answer) -> Answer {
-    Answer {
-        code: answer.code,
-        offset: answer.offset,
-        tenant: answer.tenant.unwrap_or(numbers::NONE),
-        binding: answer.binding.unwrap_or(numbers::NONE),
-        place: Place {
-            in_memory: answer.place.in_memory,
-            start: answer.place.start,
-            length: answer.place.length,
-        },
     }
 }
