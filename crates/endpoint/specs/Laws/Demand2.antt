@@ -4,20 +4,13 @@ use mathlib.Core.Path.{_≡_, refl, sym, ap, subst, _∙_}
 use mathlib.Core.Logic.{_⊎_, inl, inr}
 use mathlib.Core.Bool.{Bool, true, false}
 use mathlib.Core.List.{List, [], _∷_}
-use mathlib.Core.Option.{Option, none, some}
+use mathlib.Core.Option.{none}
 use native.Mathlib.Omega.{arith}
 use borrow.Author.Tests.{le-ltb}
 use lib.ListN.{length, take, drop}
-use lib.Dec.{ltb, eqb}
+use lib.Dec.{ltb}
 use Rattle.wire.specs.Bytes.{Bytes, part}
 use Rattle.wire.specs.Laws.Bytes.{part-is, bytes-part}
-use Rattle.wire.specs.Ipv4.{ipv4Of}
-use Rattle.wire.specs.declared.ipv4.Ipv4.{Ipv4}
-use Rattle.wire.specs.declared.ipv4.Ipv4Read.{Ipv4Read}
-use Rattle.wire.specs.declared.ipv4.Ipv4Read.the-variants as I
-use Rattle.wire.specs.Carriage.{carriageOf}
-use Rattle.wire.specs.declared.carriage.Carried.{Carried}
-use Rattle.wire.specs.declared.carriage.Carried.the-variants as C
 use Rattle.reassembly.specs.Laws.Base.{caseB}
 use Rattle.reassembly.specs.Take.{Seg, slotNo, frameIn}
 use Rattle.reassembly.specs.Store.{bytesOf, takeIn, slotStart}
@@ -29,9 +22,9 @@ use Rattle.reassembly.specs.declared.take.Outcome.{Outcome}
 use Rattle.reassembly.specs.declared.take.Outcome.the-variants as O
 use Rattle.reassembly.specs.EveryRun.{IfAndOnlyIf}
 use Rattle.endpoint.specs.Answer.{placeOf}
-use Rattle.endpoint.specs.Config.{Config, configOf, findPeer, Adding, setUp}
-use Rattle.endpoint.specs.Laws.Receive.{Conclusive, header-conclusive, slot-view}
-use Rattle.endpoint.specs.Receive.{answers, isDelivered, byPayload, byPeer, byDestination, byIpv4, headerOf, judgeOf, rowAt, stepped, stepOf, layers}
+use Rattle.endpoint.specs.Config.{Config, configOf, Adding, setUp}
+use Rattle.endpoint.specs.Laws.Receive.{header-all, Conclusive, header-conclusive, slot-view}
+use Rattle.endpoint.specs.Receive.{answers, isDelivered, headerOf, judgeOf, rowAt, stepped, stepOf, layers}
 use Rattle.endpoint.specs.Receive.{worldOf}
 use Rattle.endpoint.specs.Formats.{CarriesFrame, CarriesSegment, GoodFrame}
 use Rattle.endpoint.specs.Laws.Formats.{Lies, judge-sound, judge-complete, segment-sound, segment-complete, frame-sound, frame-complete}
@@ -95,25 +88,12 @@ SegBytes (direct p a) = Unit {0}
 SegBytes (segment p g) = Bytes (g .bytes)
 
 pub header-bytes : (c : Config) (k : List ℕ) → Bytes k → SegBytes (headerOf c k)
-unfolding headerOf
-header-bytes c k b = by-ip (ipv4Of k)
-  where
-    by-carriage : (p start end : ℕ) (x : Carried) → SegBytes (byPayload c p start end k x)
-    by-carriage p start end (C.Refused r) = tt
-    by-carriage p start end (C.Tunnel t) = tt
-    by-carriage p start end (C.Segment g) = bytes-part k b (start + g .start) end
-
-    by-peer : (h : Ipv4) (o : Option ℕ) → SegBytes (byPeer c h k o)
-    by-peer h none = tt
-    by-peer h (some p) = by-carriage p (h .start) (h .end) (carriageOf (h .protocol) (h .source) (h .destination) (c .port) (part k (h .start) (h .end)))
-
-    by-ours : (h : Ipv4) (o : Bool) → SegBytes (byDestination c h k o)
-    by-ours h true = by-peer h (findPeer c (h .source))
-    by-ours h false = tt
-
-    by-ip : (x : Ipv4Read) → SegBytes (byIpv4 c k x)
-    by-ip (I.Refused r) = tt
-    by-ip (I.Packet h) = by-ours h (eqb (h .destination) (c .own))
+header-bytes c k b =
+    header-all c k SegBytes
+    (λ d none. tt)
+    (λ a p q start r. tt)
+    (λ a p q kind network at frame. tt)
+    (λ a p q g start end. bytes-part k b start end)
 
 pub step-bytes : (e : Endpoint) (m k : List ℕ) → Bytes m → Bytes k → Bytes (stepOf e m k .mem)
 unfolding stepOf

@@ -44,13 +44,14 @@ use Rattle.reassembly.specs.declared.slot.Peer.{Peer}
 use Rattle.reassembly.specs.declared.take.Rejection.{Rejection}
 use Rattle.reassembly.specs.declared.take.Outcome.{Outcome}
 use Rattle.reassembly.specs.declared.take.Outcome.the-variants as O
-use Rattle.endpoint.specs.Answer.{placeOf, valuesOf}
+use Rattle.endpoint.specs.Answer.{dropOf, placeOf, valuesOf}
 use Rattle.endpoint.specs.Search.{lowest, foundOf}
 use Rattle.endpoint.specs.Laws.Search.{lowest-some}
 use Rattle.endpoint.specs.declared.search.Lookup.{Lookup}
 use Rattle.endpoint.specs.declared.search.Lookup.the-variants as L
 use Rattle.endpoint.specs.Config.{Config, configOf, hasAddress, findPeer, binds, mostBindings}
-use Rattle.endpoint.specs.Receive.{brokenAt, answers, isDelivered, innerFrom, answerAt, tunnelFrom, byPayload, byPeer, headerOf, byDestination, byIpv4}
+use Rattle.endpoint.specs.Receive.{brokenAt, answers, isDelivered, innerFrom, answerAt, tunnelFrom, tunnelOf, byPayload, byPeer, headerOf, byDestination}
+use Rattle.endpoint.specs.Receive.{byIpv4}
 use Rattle.endpoint.specs.Receive.{bySender}
 use Rattle.endpoint.specs.Receive.{sourceOf, byStt, sttFrom, judgeOf, Step, rowAt, unchanged, stepped, stepOf, withRow}
 use Rattle.endpoint.specs.declared.answer.Drop.{Drop}
@@ -404,32 +405,50 @@ place-in-packet networks kinds owners tenants n peer kind network at frame = by-
     by-worth (bad d) = refl
     by-worth (good t) = refl
 
+-- WHAT HOLDS of everything that the header layer makes of a packet: another sender's is refused, and no byte named; a listed peer's breaks a format, or brings
+-- a tunnel's frame or a segment, a part of the packet
+module _ (c : Config) (k : List ℕ) (P : Made answers → Type 0)
+    (other : (d : Drop) → dropOf d .offset ≡ 0 → P (otherSender (R.Dropped d)))
+    (refused : (a p : ℕ) → findPeer c a ≡ some p → (start : ℕ) (r : Refusal) → P (direct p (R.Dropped (brokenAt start r))))
+    (tunnel : (a p : ℕ) → findPeer c a ≡ some p → (kind network at : ℕ) (frame : List ℕ) → P (direct p (tunnelOf c p kind network at frame)))
+    (brings : (a p : ℕ) → findPeer c a ≡ some p → (g : Segment) (start end : ℕ) → P (segment p (segOf g (part k start end)))) where
+  all-carried : (a p : ℕ) → findPeer c a ≡ some p → (start end : ℕ) (x : Carried) → P (byPayload c p start end k x)
+  all-carried a p q start end (C.Refused r) = refused a p q start r
+  all-carried a p q start end (C.Tunnel t) = tunnel a p q (t .kind) (t .network) (start + t .start) (part k (start + t .start) end)
+  all-carried a p q start end (C.Segment g) = brings a p q g (start + g .start) end
+
+  all-peer : (h : Ipv4) (o : Option ℕ) → findPeer c (h .source) ≡ o → P (byPeer c h k o)
+  all-peer h none q = other D.UnknownPeer refl
+  all-peer h (some p) q = all-carried (h .source) p q (h .start) (h .end)
+      (carriageOf (h .protocol) (h .source) (h .destination) (c .port) (part k (h .start) (h .end)))
+
+  all-ours : (h : Ipv4) (b : Bool) → P (byDestination c h k b)
+  all-ours h true = all-peer h (findPeer c (h .source)) refl
+  all-ours h false = other D.NotForUs refl
+
+  all-ip : (x : Ipv4Read) → P (byIpv4 c k x)
+  all-ip (I.Refused r) = other (D.Format r 0) refl
+  all-ip (I.Packet h) = all-ours h (eqb (h .destination) (c .own))
+
+  pub header-all : P (headerOf c k)
+  unfolding headerOf
+  header-all = all-ip (ipv4Of k)
+
 module _ (c : Config) (few : c .peers ≤ mostPeers) (k : List ℕ) where
   found-few : (a p : ℕ) → findPeer c a ≡ some p → p < mostPeers
   unfolding findPeer
   found-few a p q = omega (arith, lowest-some (hasAddress (c .addresses) a) (c .peers) p q .below)
 
-  carried-kept : (p start end : ℕ) → p < mostPeers → (x : Carried) → Kept answers (byPayload c p start end k x)
-  carried-kept p start end l (C.Refused r) = (l, refl)
-  carried-kept p start end l (C.Tunnel t) = (l, place-in-packet (c .networks) (c .kinds) (c .owners) (c .tenants) (c .bindings) p (t .kind) (t .network) (start + t .start) (part k (start + t .start) end))
-  carried-kept p start end l (C.Segment g) = l
-
-  peer-kept : (h : Ipv4) (o : Option ℕ) → findPeer c (h .source) ≡ o → Kept answers (byPeer c h k o)
-  peer-kept h none q = refl
-  peer-kept h (some p) q = carried-kept p (h .start) (h .end) (found-few (h .source) p q)
-      (carriageOf (h .protocol) (h .source) (h .destination) (c .port) (part k (h .start) (h .end)))
-
-  ours-kept : (h : Ipv4) (b : Bool) → Kept answers (byDestination c h k b)
-  ours-kept h true = peer-kept h (findPeer c (h .source)) refl
-  ours-kept h false = refl
-
-  ip-kept : (x : Ipv4Read) → Kept answers (byIpv4 c k x)
-  ip-kept (I.Refused r) = refl
-  ip-kept (I.Packet h) = ours-kept h (eqb (h .destination) (c .own))
-
   pub header-kept : Kept answers (headerOf c k)
-  unfolding headerOf
-  header-kept = ip-kept (ipv4Of k)
+  header-kept =
+      header-all c k (Kept answers)
+      (λ d none. refl)
+      (λ a p q start r. (found-few a p q, refl))
+      (λ a p q kind network at frame. (
+        found-few a p q,
+        place-in-packet (c .networks) (c .kinds) (c .owners) (c .tenants) (c .bindings) p kind network at frame,
+      ))
+      (λ a p q g start end. found-few a p q)
 
   carried-whose : (p start end : ℕ) (x : Carried) → peerOf answers (byPayload c p start end k x) ≡ some p
   carried-whose p start end (C.Refused r) = peer-direct answers p _
@@ -473,30 +492,13 @@ tunnel-conclusive networks kinds owners tenants n peer kind network at frame = b
     by-worth (bad d) = refl
     by-worth (good t) = refl
 
-module _ (c : Config) (k : List ℕ) where
-  carried-conclusive : (p start end : ℕ) (x : Carried) → Conclusive (byPayload c p start end k x)
-  carried-conclusive p start end (C.Refused r) = refl
-  carried-conclusive p start end (C.Tunnel t) =
-      tunnel-conclusive (c .networks) (c .kinds) (c .owners) (c .tenants) (c .bindings) p (t .kind) (t .network) (start + t .start)
-      (part k (start + t .start) end)
-  carried-conclusive p start end (C.Segment g) = tt
-
-  peer-conclusive : (h : Ipv4) (o : Option ℕ) → Conclusive (byPeer c h k o)
-  peer-conclusive h none = (refl, refl)
-  peer-conclusive h (some p) = carried-conclusive p (h .start) (h .end)
-      (carriageOf (h .protocol) (h .source) (h .destination) (c .port) (part k (h .start) (h .end)))
-
-  destination-conclusive : (h : Ipv4) (b : Bool) → Conclusive (byDestination c h k b)
-  destination-conclusive h true = peer-conclusive h (findPeer c (h .source))
-  destination-conclusive h false = (refl, refl)
-
-  ipv4-conclusive : (x : Ipv4Read) → Conclusive (byIpv4 c k x)
-  ipv4-conclusive (I.Refused r) = (refl, refl)
-  ipv4-conclusive (I.Packet h) = destination-conclusive h (eqb (h .destination) (c .own))
-
-  pub header-conclusive : Conclusive (headerOf c k)
-  unfolding headerOf
-  header-conclusive = ipv4-conclusive (ipv4Of k)
+pub header-conclusive : (c : Config) (k : List ℕ) → Conclusive (headerOf c k)
+header-conclusive c k =
+    header-all c k Conclusive
+    (λ d none. (refl, refl))
+    (λ a p q start r. refl)
+    (λ a p q kind network at frame. tunnel-conclusive (c .networks) (c .kinds) (c .owners) (c .tenants) (c .bindings) p kind network at frame)
+    (λ a p q g start end. tt)
 
 pub config-few : (e : Endpoint) → configOf e .peers ≤ mostPeers
 unfolding configOf

@@ -1,27 +1,19 @@
 -- An answer other than 25 to 29 names no byte (document 02, §4).
-use Prim.Native.Nat.{ℕ, _+_, _≤_}
+use Prim.Native.Nat.{ℕ, _≤_}
 use mathlib.Core.Path.{_≡_, refl}
 use mathlib.Core.Logic.{inl, inr}
-use mathlib.Core.Bool.{Bool, true, false}
+use mathlib.Core.Bool.{true, false}
 use mathlib.Core.List.{List, [], _∷_}
 use mathlib.Core.Option.{Option, none, some}
 use native.Mathlib.Omega.{arith}
 use lib.ListN.{length, drop}
 use lib.Dec.{ltb, eqb}
 use borrow.Author.Tests.{eqb-false}
-use Rattle.wire.specs.Bytes.{part}
 use Rattle.wire.specs.Refusal.{codeOf, findingOf}
 use Rattle.wire.specs.Laws.Refusal.{Told, refusal-number, refusal-told}
-use Rattle.wire.specs.Ipv4.{ipv4Of}
-use Rattle.wire.specs.Carriage.{carriageOf}
 use Rattle.wire.specs.Stt.{sttOf}
 use Rattle.wire.specs.Frame.{frameOf}
 use Rattle.wire.specs.declared.refusal.Refusal.{Refusal}
-use Rattle.wire.specs.declared.ipv4.Ipv4.{Ipv4}
-use Rattle.wire.specs.declared.ipv4.Ipv4Read.{Ipv4Read}
-use Rattle.wire.specs.declared.ipv4.Ipv4Read.the-variants as I
-use Rattle.wire.specs.declared.carriage.Carried.{Carried}
-use Rattle.wire.specs.declared.carriage.Carried.the-variants as C
 use Rattle.wire.specs.declared.stt.SttRead.{SttRead}
 use Rattle.wire.specs.declared.stt.SttRead.the-variants as T
 use Rattle.wire.specs.declared.frame.FrameRead.{FrameRead}
@@ -36,9 +28,10 @@ use Rattle.reassembly.specs.declared.take.Outcome.the-variants as O
 use Rattle.reassembly.specs.Receive.{Reading, otherSender, direct, segment, frameAnswer, takeAnswer, Verdict, bad, good}
 use Rattle.endpoint.specs.Answer.{dropOf, valuesOf}
 use Rattle.endpoint.specs.Search.{lowest}
-use Rattle.endpoint.specs.Config.{Config, configOf, findPeer, binds}
-use Rattle.endpoint.specs.Receive.{brokenAt, answers, byBinding, innerFrom, answerAt, tunnelFrom, byPayload, byPeer, byDestination, byIpv4, headerOf}
+use Rattle.endpoint.specs.Config.{Config, configOf, binds}
+use Rattle.endpoint.specs.Receive.{brokenAt, answers, byBinding, innerFrom, answerAt, tunnelFrom, headerOf}
 use Rattle.endpoint.specs.Receive.{byStt, sttFrom, judgeOf, rowAt, stepped, stepOf}
+use Rattle.endpoint.specs.Laws.Receive.{header-all}
 use Rattle.endpoint.specs.Demand1.{_among_}
 use Rattle.endpoint.specs.declared.answer.Place.{Place}
 use Rattle.endpoint.specs.declared.answer.Drop.{Drop}
@@ -112,33 +105,17 @@ at-silent : (x : Verdict answers) (place : Place) → SilentVerdict x → Silent
 at-silent (bad d) place s = s
 at-silent (good t) place s = λ silent. refl
 
-module _ (c : Config) (k : List ℕ) where
-  carried-silent : (p start end : ℕ) (x : Carried) → SilentReading (byPayload c p start end k x)
-  unfolding tunnelFrom
-  carried-silent p start end (C.Refused r) = broken-silent start r
-  carried-silent p start end (C.Tunnel t) =
-      at-silent
-      (innerFrom (c .networks) (c .kinds) (c .owners) (c .tenants) (c .bindings) p (t .kind) (t .network) (part k (start + t .start) end))
-      (record { start = start + t .start; length = length (part k (start + t .start) end); «in_memory» = false })
-      (inner-silent (c .networks) (c .kinds) (c .owners) (c .tenants) (c .bindings) p (t .kind) (t .network) (part k (start + t .start) end))
-  carried-silent p start end (C.Segment g) = tt
-
-  peer-silent : (h : Ipv4) (o : Option ℕ) → SilentReading (byPeer c h k o)
-  peer-silent h none = λ silent. refl
-  peer-silent h (some p) = carried-silent p (h .start) (h .end)
-      (carriageOf (h .protocol) (h .source) (h .destination) (c .port) (part k (h .start) (h .end)))
-
-  destination-silent : (h : Ipv4) (b : Bool) → SilentReading (byDestination c h k b)
-  destination-silent h true = peer-silent h (findPeer c (h .source))
-  destination-silent h false = λ silent. refl
-
-  ipv4-silent : (x : Ipv4Read) → SilentReading (byIpv4 c k x)
-  ipv4-silent (I.Refused r) = λ silent. refl
-  ipv4-silent (I.Packet h) = destination-silent h (eqb (h .destination) (c .own))
-
-  header-silent : SilentReading (headerOf c k)
-  unfolding headerOf
-  header-silent = ipv4-silent (ipv4Of k)
+header-silent : (c : Config) (k : List ℕ) → SilentReading (headerOf c k)
+unfolding tunnelFrom
+header-silent c k =
+    header-all c k SilentReading
+    (λ d none silent. none)
+    (λ a p q start r. broken-silent start r)
+    (λ a p q kind network at frame.
+    at-silent (innerFrom (c .networks) (c .kinds) (c .owners) (c .tenants) (c .bindings) p kind network frame)
+    (record { start = at; length = length frame; «in_memory» = false })
+    (inner-silent (c .networks) (c .kinds) (c .owners) (c .tenants) (c .bindings) p kind network frame))
+    (λ a p q g start end. tt)
 
 -- ---- a receive
 
