@@ -10,6 +10,7 @@ pub mod Udp
 pub mod Vxlan
 pub mod Nvgre
 pub mod Segment
+pub mod Inner
 pub mod Stt
 pub mod Frame
 pub mod Carriage

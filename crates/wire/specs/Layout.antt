@@ -1,5 +1,6 @@
--- The layout of every packet that we write (document 01, "Wrapping" and "Carriage and tunnel headers"): each field of its headers in the order of the RFCs'
--- pictures, by its place, its width in bytes and its value, and then what is carried. It is held against the bytes, whatever built them.
+-- The layout of every packet that we write (document 01, "Wrapping" and "Carriage and tunnel headers"; document 02, §5 for the hints of an STT frame): each
+-- field of its headers in the order of the RFCs' pictures, by its place, its width in bytes and its value, and then what is carried. It is held against the
+-- bytes, whatever built them.
 use Prim.Native.Nat.{ℕ, _+_, _%_, _^_, _<_, _≤_}
 use mathlib.Core.Path.{_≡_}
 use mathlib.Core.Bool.{Bool, cond}
@@ -7,6 +8,7 @@ use mathlib.Core.List.{List, [], _∷_, _++_}
 use lib.ListN.{length, drop}
 use Rattle.wire.specs.Bytes.{beAt, part}
 use Rattle.wire.specs.Sum.{complement, pseudo}
+use Rattle.wire.specs.Inner.{WrittenHints}
 use Rattle.wire.specs.Write.{vxlanPacket, nvgrePacket, sttFrame, segmentPacket}
 
 -- a field: the place of its first byte, its width in bytes, its value
@@ -81,12 +83,12 @@ segmentFields source destination from port frameLength offset identifier last by
     ∷ field 38 2 0  -- urgent pointer
     ∷ [])
 
--- An STT frame (draft-davie-stt-06, 3.1); it carries the inner frame.
-abbrev pub sttFields : (context : ℕ) → List Field
-sttFields context =
+-- An STT frame (draft-davie-stt-06, 3.1); it carries the inner frame. Of the flags, 0x01 and 0x02 are none that is written (`WrittenHints`).
+abbrev pub sttFields : (flags l4 context : ℕ) → List Field
+sttFields flags l4 context =
     field 0 1 0  -- version
-    ∷ field 1 1 0  -- flags
-    ∷ field 2 1 0  -- L4 offset
+    ∷ field 1 1 flags
+    ∷ field 2 1 l4  -- L4 offset
     ∷ field 3 1 0  -- reserved
     ∷ field 4 2 0  -- maximum segment size
     ∷ field 6 2 0  -- PCP, V, VLAN
@@ -102,8 +104,12 @@ VxlanLaidOut source destination vni frame packet = LaidOut 0 (vxlanFields source
 abbrev pub NvgreLaidOut : (source destination vsid : ℕ) (frame packet : List ℕ) → Type 0
 NvgreLaidOut source destination vsid frame packet = LaidOut 0 (nvgreFields source destination vsid frame packet) frame packet
 
-abbrev pub SttLaidOut : (context : ℕ) (frame whole : List ℕ) → Type 0
-SttLaidOut context frame whole = LaidOut 0 (sttFields context) frame whole
+-- with the hints of the frame (document 02, §5)
+pub record SttLaidOut (context : ℕ) (frame whole : List ℕ) : Type 0 where
+  pub flags : ℕ
+  pub l4 : ℕ
+  pub hints : WrittenHints flags l4 frame
+  pub laid-out : LaidOut 0 (sttFields flags l4 context) frame whole
 
 -- of the STT frame `whole`, which carries the frame, the bytes from `offset` up to `end`
 abbrev pub SegmentLaidOut : (source destination port offset end identifier : ℕ) (last : Bool) (frame whole packet : List ℕ) → Type 0

@@ -48,7 +48,7 @@ findingOf start R.GreVersion = 26 atByte (start + 1)
 -- 27: GRE protocol type wrong
 findingOf start R.GreTypeHigh = 27 atByte (start + 2)
 findingOf start R.GreTypeLow = 27 atByte (start + 3)
--- 28: STT version; 29: STT flags both set; in the STT frame
+-- 28: STT version; 29: STT flags both set, of TCP or UDP over IP; in the STT frame
 findingOf start R.SttVersion = 28 atByte 0
 findingOf start R.SttFlags = 29 atByte 1
 -- 13: inner frame breaks its rule

@@ -1,5 +1,5 @@
 -- DOCUMENT 01's TABLE ("The numbered answers"), the rows that the bytes of a packet decide: a condition and the number that it gives, in the paper's order;
--- the rows 25 to 29 (document 02, §4) also name the byte that breaks its rule.
+-- the rows 25 to 29 (document 02, §4; 29 as §5 narrows it) also name the byte that breaks its rule.
 -- The endpoint's page (crate endpoint, specs/Table.antt) joins them with its own; compare them with the paper line by line.
 -- No reader stands here but in `Table`, THE STATEMENT: what a reader answers is told by the first row that applies, number and offset, and where none does,
 -- the fields that it read are those named there. Laws/Table.antt proves it (`wire-table`).
@@ -8,14 +8,15 @@ use mathlib.Core.Path.{_≡_}
 use mathlib.Core.Bool.{Bool, not, cond, _&&_, _||_}
 use mathlib.Core.List.{List, [], _∷_, _++_}
 use lib.ListN.{length, take, drop}
-use lib.Dec.{ltb, leb, eqb}
 use Rattle.wire.specs.Bytes.{beAt, part}
 use Rattle.wire.specs.Sum.{total, ones, pseudo}
 use Rattle.wire.specs.Checks.{Check, first}
+pub use Rattle.wire.specs.Checks.{_is_, _isnt_, _below_, _above_, _atLeast_}
 use Rattle.wire.specs.Checks as K
 use Rattle.wire.specs.Refusal.{Finding, _atByte_, only, findingOf}
 use Rattle.wire.specs.Ipv4.{ipv4Of}
 use Rattle.wire.specs.Carriage.{carriageOf}
+use Rattle.wire.specs.Inner.{carriesTransport}
 use Rattle.wire.specs.Stt.{sttOf}
 use Rattle.wire.specs.Frame.{frameOf}
 use Rattle.wire.specs.declared.ipv4.Ipv4.{Ipv4}
@@ -62,22 +63,6 @@ told rows = rows otherwise only 0
 -- Open: likewise
 abbrev pub numbered : Rows → ℕ
 numbered rows = first (λ (x : Finding). x .number) rows 0
-
-infix 45 _is_ _isnt_ _below_ _above_ _atLeast_
-abbrev pub _is_ : ℕ → ℕ → Bool
-a is b = eqb a b
-
-abbrev pub _isnt_ : ℕ → ℕ → Bool
-a isnt b = not (eqb a b)
-
-abbrev pub _below_ : ℕ → ℕ → Bool
-a below b = ltb a b
-
-abbrev pub _above_ : ℕ → ℕ → Bool
-a above b = ltb b a
-
-abbrev pub _atLeast_ : ℕ → ℕ → Bool
-a atLeast b = leb b a
 
 -- the ones' complement sum (RFC 1071): a checksum is right where it is 0xFFFF
 abbrev pub sum : List ℕ → ℕ
@@ -166,12 +151,13 @@ nvgreRows start payload =
     ∷ (beAt payload 3 1 isnt 0x58 ⇒ 27 atByte start + 3)
     ∷ []
 
--- a complete STT frame: version 0; flags 0x01 and 0x02 not both set. The bytes are the frame's own
+-- a complete STT frame: version 0; flags 0x01 and 0x02 not both set, where the inner frame carries TCP or UDP over IP (document 02, §5; Inner.antt). The bytes
+-- are the STT frame's own
 unfoldable pub contextOf : (frame : List ℕ) → ℕ
 contextOf frame = beAt frame 8 8
 
 unfoldable pub sttRows : (frame : List ℕ) → Rows
-sttRows frame = (beAt frame 0 1 isnt 0 ⇒ 28 atByte 0) ∷ (beAt frame 1 1 % 4 is 3 ⇒ 29 atByte 1) ∷ []
+sttRows frame = (beAt frame 0 1 isnt 0 ⇒ 28 atByte 0) ∷ (beAt frame 1 1 % 4 is 3 && carriesTransport (drop 18 frame) ⇒ 29 atByte 1) ∷ []
 
 -- ---- the inner frame: 13. Under 14 or over 1,514 bytes; bytes 12 and 13 are 0x8100 or 0x88A8
 

@@ -12,6 +12,7 @@ use Rattle.wire.specs.Ipv4 as I
 use Rattle.wire.specs.Udp.{udp}
 use Rattle.wire.specs.Vxlan.{vxlan}
 use Rattle.wire.specs.Nvgre.{gre}
+use Rattle.wire.specs.Inner.{hintsOf}
 use Rattle.wire.specs.Stt.{stt}
 use Rattle.wire.specs.Segment as S
 
@@ -62,9 +63,9 @@ vxlanBody vni frame = udp (sourcePort frame) 4789 (8 + length (vxlan 8 0 vni 0 f
 unfoldable pub nvgreBody : (vsid : ℕ) → List ℕ → List ℕ
 nvgreBody vsid frame = gre 0 0 vsid 0 frame
 
--- an STT frame (draft-davie-stt-06, 3.1): every field but the Context ID is 0
+-- an STT frame (draft-davie-stt-06, 3.1): every field but the hints (document 02, §5) and the Context ID is 0
 unfoldable pub sttFrame : (context : ℕ) → List ℕ → List ℕ
-sttFrame context frame = stt 0 0 0 0 0 0 context 0 frame
+sttFrame context frame = stt 0 (hintsOf frame .flags) (hintsOf frame .l4) 0 0 0 context 0 frame
 
 -- ---- need not be believed: a segment of an STT frame (draft-davie-stt-06, 3.2)
 

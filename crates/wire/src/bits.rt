@@ -8,6 +8,12 @@ pub(crate) fn high4(x: u8) -> u8
     x >> 4
 }
 
+pub(crate) fn low5(x: u8) -> u8
+    ensures { λ r. ⌜ r ≡ x % 32 ⌝ }
+{
+    x & 0x1F
+}
+
 pub(crate) fn low4(x: u8) -> u8
     ensures { λ r. ⌜ r ≡ x % 16 ⌝ }
 {

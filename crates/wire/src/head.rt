@@ -6,7 +6,8 @@ ghost use Rattle.wire.specs.Bytes.{be};
 ghost use Rattle.wire.specs.Udp.{udp};
 ghost use Rattle.wire.specs.Vxlan.{vxlan};
 ghost use Rattle.wire.specs.Nvgre.{gre};
-ghost use Rattle.wire.specs.Write.{ipv4With, ipv4Head, tcpWith, sttFrame};
+ghost use Rattle.wire.specs.Stt.{stt};
+ghost use Rattle.wire.specs.Write.{ipv4With, ipv4Head, tcpWith};
 use crate::number::GRE_KEY;
 use crate::number::GRE_TYPE_HIGH;
 use crate::number::GRE_TYPE_LOW;
@@ -125,19 +126,19 @@ pub(crate) fn nvgre(vsid: u64) -> [u8; 8]
     ]
 }
 
-// An STT frame's header (draft-davie-stt-06, 3.1): only the Context ID is not 0.
-pub(crate) fn stt(context: u64) -> [u8; 18]
-    ensures { λ r. ⌜ r ≡ sttFrame context [] ⌝ }
+// An STT frame's header (draft-davie-stt-06, 3.1): every field but the hints and the Context ID is 0.
+pub(crate) fn stt(flags: u8, l4: u8, context: u64) -> [u8; 18]
+    ensures { λ r. ⌜ r ≡ stt 0 flags l4 0 0 0 context 0 [] ⌝ }
 {
     let high = above(context);
     [
+        0, // version
+        flags,
+        l4,
+        0, // reserved
+        0, // maximum segment size
         0,
-        0,
-        0,
-        0,
-        0,
-        0,
-        0,
+        0, // PCP, V, VLAN
         0,
         b3(high),
         b2(high),

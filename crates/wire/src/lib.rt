@@ -5,6 +5,7 @@ pub mod carriage;
 pub mod field;
 pub mod frame;
 mod head;
+pub mod inner;
 pub mod ipv4;
 mod le;
 pub mod number;

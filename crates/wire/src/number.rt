@@ -22,8 +22,10 @@ pub const TCP_PSH_ACK: u8 = 0x18;
 
 pub const TIME_TO_LIVE: u8 = 64;
 
-// The first byte of an IPv4 header that we write: version 4 and five words (RFC 791, 3.1).
+// The first byte of an IPv4 header (RFC 791, 3.1): version 4 and five words, as we write it; version 4 and fifteen words, the most.
 pub const IPV4_VERSION_IHL: u8 = 0x45;
+
+pub const IPV4_VERSION_IHL_MAX: u8 = 0x4F;
 
 // The byte of a TCP-shaped header that we write with the data offset in its upper half: five words (RFC 793, 3.1).
 pub const TCP_DATA_OFFSET: u8 = 0x50;
@@ -53,6 +55,8 @@ pub const TCP_HEADER: usize = 20;
 
 pub const STT_HEADER: usize = 18;
 
+pub const ETHERNET_HEADER: usize = 14;
+
 // The headers in front of a frame or a segment, all of them.
 pub const VXLAN_OVERHEAD: usize = 36;
 
@@ -68,6 +72,11 @@ pub const GRE_TYPE_HIGH: u8 = 0x65;
 
 pub const GRE_TYPE_LOW: u8 = 0x58;
 
+// Types of an Ethernet frame that carries IPv4 (RFC 894) or IPv6 (RFC 2464).
+pub const TYPE_IPV4: u16 = 0x0800;
+
+pub const TYPE_IPV6: u16 = 0x86DD;
+
 // Types of a tagged Ethernet frame (IEEE 802.1Q, 802.1ad).
 pub const TYPE_VLAN: u16 = 0x8100;
 
@@ -77,6 +86,16 @@ pub const TYPE_SERVICE_VLAN: u16 = 0x88A8;
 pub const FRAME_MIN: usize = 14;
 
 pub const FRAME_MAX: usize = 1514;
+
+// A frame's Ethernet header and the shortest IPv4 header (RFC 791, 3.1), or an IPv6 header (RFC 8200, 3), behind which the transport header begins.
+pub const FRAME_WITH_IPV4: usize = 34;
+
+pub const FRAME_WITH_IPV6: usize = 54;
+
+// Flags of an STT frame (draft-davie-stt-06, 3.1): number 2, IPv4; number 3, TCP.
+pub const HINT_IPV4: u8 = 0x04;
+
+pub const HINT_TCP: u8 = 0x08;
 
 // The longest payload that a 16-bit length field can give.
 pub const PAYLOAD_MAX: usize = 65535;

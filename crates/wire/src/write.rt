@@ -9,6 +9,7 @@ ghost use Rattle.wire.specs.Sum.{pseudo, complement};
 ghost use Rattle.wire.specs.Write.{sourcePort, flagsOf, fits, segmentFits, segmentBytes, segmentBody, vxlanPacket, nvgrePacket, segmentPacket, Written};
 use crate::be::be16;
 use crate::head;
+use crate::inner::hints_of;
 use crate::number::FRAME_MIN;
 use crate::number::IPV4_HEADER;
 use crate::number::NVGRE_OVERHEAD;
@@ -182,7 +183,8 @@ fn segment_bytes(s: &mut [u8], context: u64, offset: usize, count: usize, frame:
     requires { ⌜ (offset + count ≤ 18 + length (now frame)) × (length (now frame) ≤ 65517) × (20 + count ≤ length (now s)) ⌝ }
     ensures { λ _. ⌜ now (s .exit) ≡ laid (now (s .entry)) 20 (segmentBytes context offset count (now (frame .entry))) ⌝ }
 {
-    let header = head::stt(context);
+    let hints = hints_of(frame);
+    let header = head::stt(hints.flags, hints.l4, context);
     let end = offset + count;
     let a = in_header(offset);
     let e = in_header(end);

@@ -14,6 +14,8 @@ use Rattle.wire.specs.Ipv4 as I
 use Rattle.wire.specs.Udp.{udp}
 use Rattle.wire.specs.Vxlan.{vxlan}
 use Rattle.wire.specs.Nvgre.{gre}
+use Rattle.wire.specs.Inner.{hintsOf}
+use Rattle.wire.specs.Laws.Inner.{hints-are, hints-fit}
 use Rattle.wire.specs.Stt.{stt}
 use Rattle.wire.specs.Segment as S
 use Rattle.wire.specs.Write.{ipv4With, outer, ipv4Head, packet, sourcePort, vxlanBody, nvgreBody, sttFrame, flagsOf, tcpWith, segmentHeader, segmentBytes}
@@ -151,7 +153,16 @@ module _ (source destination : ℕ) (own-fits : source < 256 ^ 4) (peer-fits : d
 
 stt-at : (context : ℕ) (frame : List ℕ) → context < 256 ^ 8 → SttLaidOut context frame (sttFrame context frame)
 unfolding sttFrame stt be
-stt-at context frame h = laid-out (sttFields context) frame [] (sttFrame context frame) 0 refl (omega arith) refl
+stt-at context frame h =
+    let f : ℕ = hintsOf frame .flags in
+    let l : ℕ = hintsOf frame .l4 in
+    record {
+      flags = f;
+      l4 = l;
+      hints = hints-are frame;
+      laid-out = laid-out (sttFields f l context) frame [] (sttFrame context frame) 0 refl
+          (omega (arith, hints-fit frame .flags-fit, hints-fit frame .l4-fits)) refl;
+    }
 
 pub layouts : Layouts
 layouts = record {

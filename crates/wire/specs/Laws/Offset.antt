@@ -11,6 +11,7 @@ use Rattle.wire.specs.Bytes.{beAt, part}
 use Rattle.wire.specs.Laws.Bytes.{caseB, be-one, be-take, be-drop, part-is, part-length}
 use Rattle.wire.specs.Checks.{_⇒_, first, Passed}
 use Rattle.wire.specs.Laws.Checks.{Each, by-each, neither, or-false-l, or-false-r}
+use Rattle.wire.specs.Inner.{carriesTransport}
 use Rattle.wire.specs.Refusal.{Finding, only}
 use Rattle.wire.specs.Table.{Rows, _andThen_, _otherwise_, told, headerLengthOf, totalLengthOf, protocolOf, sourceOf, destinationOf, payloadOf, ipv4Rows}
 use Rattle.wire.specs.Table.{payloadRows, vxlanRows, nvgreRows, sttRows}
@@ -233,8 +234,8 @@ stt-named frame long rest low n =
     caseB (not (eqb (beAt frame 0 1) 0))
     (λ t. let here : not (eqb (getD frame 0 0) 0) ≡ true = rw b0 at t in
     rw t (omega arith, record { inside = omega arith; here = rw here; before = λ i l. absurd (omega arith) }))
-    (λ f. caseB (eqb (beAt frame 1 1 % 4) 3)
-    (λ t. let here : eqb (getD frame 1 0 % 4) 3 ≡ true = rw b1 at t in
+    (λ f. caseB (eqb (beAt frame 1 1 % 4) 3 && carriesTransport (drop 18 frame))
+    (λ t. let here : (eqb (getD frame 1 0 % 4) 3 && carriesTransport (drop 18 frame)) ≡ true = rw b1 at t in
     rw (f, t) (
       omega arith,
       record {
@@ -242,7 +243,7 @@ stt-named frame long rest low n =
         here = here;
         before = λ i l. neither _ _
             (off i 0 (not (eqb (getD frame i 0) 0)) (λ z. rw z (rw b0 at f)))
-            (off i 1 (eqb (getD frame i 0 % 4) 3) (λ z. absurd (omega arith)));
+            (off i 1 (eqb (getD frame i 0 % 4) 3 && carriesTransport (drop 18 frame)) (λ z. absurd (omega arith)));
       },
     ))
     (λ t. none-higher rest low (rw (f, t) at n)))

@@ -1,5 +1,5 @@
 -- What refusals tell: 3 to 10, 13, and 25 to 29 with a byte.
-use Prim.Native.Nat.{ℕ, _+_, _≤_, _%_}
+use Prim.Native.Nat.{ℕ, _+_, _≤_}
 use mathlib.Core.Path.{_≡_, refl, subst}
 use mathlib.Core.Logic.{_⊎_, inl, inr}
 use mathlib.Core.Bool.{not}
@@ -13,7 +13,7 @@ use Rattle.wire.specs.Checks.{Check, _⇒_, first}
 use Rattle.wire.specs.Laws.Checks.{by-each}
 use Rattle.wire.specs.Refusal.{Finding, only, codeOf, findingOf}
 use Rattle.wire.specs.Ipv4.{ipv4Checks, ipv4At, ipv4Of}
-use Rattle.wire.specs.Stt.{sttChecks, sttOf}
+use Rattle.wire.specs.Stt.{contradicts, sttChecks, sttOf}
 use Rattle.wire.specs.Frame.{frameChecks, frameOf}
 use Rattle.wire.specs.declared.refusal.Refusal.{Refusal}
 use Rattle.wire.specs.declared.refusal.Refusal.the-variants as R
@@ -113,7 +113,7 @@ SttCode (T.Refused r) = (codeOf r ≡ 28) ⊎ (codeOf r ≡ 29)
 pub stt-code : (s : List ℕ) (r : Refusal) → 18 ≤ length s → sttOf s ≡ T.Refused r → (codeOf r ≡ 28) ⊎ (codeOf r ≡ 29)
 unfolding sttOf sttChecks first findingOf
 stt-code s r l e =
-    let two : List (Check Refusal) = (not (eqb (beAt s 0 1) 0) ⇒ R.SttVersion) ∷ (eqb (beAt s 1 1 % 4) 3 ⇒ R.SttFlags) ∷ [] in
+    let two : List (Check Refusal) = (not (eqb (beAt s 0 1) 0) ⇒ R.SttVersion) ∷ (contradicts s ⇒ R.SttFlags) ∷ [] in
     let z : first T.Refused two (T.Header (beAt s 8 8)) ≡ T.Refused r = rw (le-ltb (length s) 18 l) at e in
     subst SttCode z (by-each SttCode T.Refused two (T.Header (beAt s 8 8)) (inl refl, (inr refl, tt)) tt)
 

@@ -2,15 +2,19 @@
 use Prim.Native.Nat.{ℕ, _+_, _%_, _^_, _<_, _≤_}
 use mathlib.Core.Path.{_≡_, refl, sym, ap, _∙_}
 use mathlib.Core.Logic.{_≢_}
+use mathlib.Core.Bool.{true, false, _&&_}
 use mathlib.Core.List.{List, [], _∷_}
 use native.Mathlib.Omega.{arith}
-use borrow.Author.Tests.{eqb-false}
+use borrow.Author.Tests.{le-ltb, eq-eqb, ne-eqb}
 use lib.ListN.{length, drop}
+use lib.Dec.{eqb}
 use Rattle.wire.specs.Bytes.{Bytes, be, beAt, _then_}
-use Rattle.wire.specs.Laws.Bytes.{as-fields, be-value, be-lt}
+use Rattle.wire.specs.Laws.Bytes.{caseB, as-fields, be-value, be-lt}
 use Rattle.wire.specs.Checks.{Passed}
-use Rattle.wire.specs.Laws.Checks.{pass, passed, tests, passing, At, given, decided}
-use Rattle.wire.specs.Stt.{stt, IsStt, sttChecks, sttOf, ReadsStt}
+use Rattle.wire.specs.Laws.Checks.{pass, passed, tests, is-not, At, given, decided}
+use Rattle.wire.specs.Inner.{CarriesTransport, carriesTransport}
+use Rattle.wire.specs.Laws.Inner.{test-is, test-says}
+use Rattle.wire.specs.Stt.{stt, IsStt, contradicts, sttChecks, sttOf, ReadsStt}
 use Rattle.wire.specs.declared.stt.SttRead.the-variants as T
 
 record ReadsBack (flags context : ℕ) (frame s : List ℕ) : Type 0 where
@@ -31,13 +35,42 @@ reads-back flags l4 reserved mss tag context padding frame h1 h2 = record {
   long = omega arith;
 }
 
+-- ---- flags 0x01 and 0x02: both set, of an inner frame that carries TCP or UDP over IP
+
+pub contradicts-not : (s : List ℕ) → (beAt s 1 1 % 4 ≡ 3 → ⊥) → false ≡ contradicts s
+unfolding contradicts
+contradicts-not s n = rw (ne-eqb (beAt s 1 1 % 4) 3 n)
+
+pub contradicts-by : (s : List ℕ) → beAt s 1 1 % 4 ≡ 3 → carriesTransport (drop 18 s) ≡ contradicts s
+unfolding contradicts
+contradicts-by s e = rw (eq-eqb (beAt s 1 1 % 4) 3 e)
+
+-- they are not, where they need not agree or do
+agrees : (s : List ℕ) → (CarriesTransport (drop 18 s) → beAt s 1 1 % 4 ≢ 3) → contradicts s ≡ false
+unfolding contradicts
+agrees s h =
+    caseB (carriesTransport (drop 18 s))
+    (λ t. rw (ne-eqb (beAt s 1 1 % 4) 3 (h (test-says (drop 18 s) t))))
+    (λ t. caseB (eqb (beAt s 1 1 % 4) 3) (λ e. rw (e, t)) (λ e. rw e))
+
+agreed : (s : List ℕ) → contradicts s ≡ false → CarriesTransport (drop 18 s) → beAt s 1 1 % 4 ≢ 3
+unfolding contradicts
+agreed s e w q =
+    let t : (eqb (beAt s 1 1 % 4) 3 && carriesTransport (drop 18 s)) ≡ true = rw (eq-eqb (beAt s 1 1 % 4) 3 q, test-is (drop 18 s) w) in
+    let z : true ≡ false = sym t ∙ e in
+    let y : _≡_ {A = ℕ} 0 1 = cc in
+    omega arith
+
 pub complete : {context : ℕ} {frame s : List ℕ} → IsStt context frame s → (sttOf s ≡ T.Header context) × (drop 18 s ≡ frame) × (length s ≡ 18 + length frame)
 unfolding sttOf sttChecks
 complete {context} {frame} {s} w =
     let r : ReadsBack (w .flags) context frame s =
     rw (w .is) (reads-back (w .flags) (w .l4) (w .reserved) (w .mss) (w .tag) context (w .padding) frame (w .flags-fit) (w .context-fits)) in
-    let n : beAt s 1 1 % 4 ≢ 3 = rw (r .flags-is) (w .not-both) in
-    (pass T.Refused (sttChecks s) _ (omega (arith, passing, r .version-is, r .long)) ∙ rw (r .context-is), r .frame-is, r .long)
+    let n : contradicts s ≡ false = agrees s (λ t. rw (r .flags-is) (w .not-both (rw (r .frame-is) at t))) in (
+      pass T.Refused (sttChecks s) _ (le-ltb (length s) 18 (omega (arith, r .long)), (is-not (beAt s 0 1) 0 (r .version-is), (n, tt))) ∙ rw (r .context-is),
+      r .frame-is,
+      r .long,
+    )
 
 -- the bytes are a frame of version 0
 as-stt : (s : List ℕ) → Bytes s → 18 ≤ length s → beAt s 0 1 ≡ 0
@@ -68,18 +101,18 @@ sound s b context eq =
         padding = beAt s 16 2;
         is = rw e at (as-stt s b h v);
         flags-fit = omega (arith, be-lt s b 1 1);
-        not-both = eqb-false (beAt s 1 1 % 4) 3 (p .0 .1 .1 .0);
+        not-both = agreed s (p .0 .1 .1 .0);
         context-fits = rw (← e) (be-lt s b 8 8);
       };
       within = h;
     }
 
--- ---- what is ignored: the answer depends on the length, the version, flags 0x01 and 0x02 and the Context ID alone, not on the other flags, the hints, the
--- tag or the padding
+-- ---- what is ignored: the answer depends on the length, the version and the Context ID alone, and where the inner frame carries TCP or UDP over IP on flags
+-- 0x01 and 0x02; not on the other flags, the hints, the tag or the padding
 
-pub ignores : (s t : List ℕ) → length s ≡ length t → beAt s 0 1 ≡ beAt t 0 1 → beAt s 1 1 % 4 ≡ beAt t 1 1 % 4 → beAt s 8 8 ≡ beAt t 8 8 → sttOf s ≡ sttOf t
+ignores : (s t : List ℕ) → length s ≡ length t → beAt s 0 1 ≡ beAt t 0 1 → beAt s 8 8 ≡ beAt t 8 8 → contradicts s ≡ contradicts t → sttOf s ≡ sttOf t
 unfolding sttOf sttChecks
-ignores s t l v f c = rw (l, v, f, c)
+ignores s t l v c f = rw (l, v, f, c)
 
 -- what is read as a header is one, for any list
 pub stt-room : (s : List ℕ) (context : ℕ) → sttOf s ≡ T.Header context → 18 ≤ length s
@@ -103,4 +136,5 @@ reads-stt = record {
   complete = λ context frame s w. let c = complete w in (c .0, c .1);
   sound = λ s b context e. let a = sound s b context e in (a .is, a .within);
   ignores = ignores;
+  agrees = agrees;
 }

@@ -18,7 +18,7 @@ use Rattle.wire.specs.Udp.{udpSum, udpChecks, udpOf}
 use Rattle.wire.specs.Vxlan.{vxlanChecks, vxlanAt, vxlanOf}
 use Rattle.wire.specs.Nvgre.{nvgreChecks, nvgreAt, nvgreOf}
 use Rattle.wire.specs.Segment.{segmentChecks, segmentAt, segmentOf}
-use Rattle.wire.specs.Stt.{sttChecks, sttOf}
+use Rattle.wire.specs.Stt.{contradicts, sttChecks, sttOf}
 use Rattle.wire.specs.Frame.{frameChecks, frameOf}
 use Rattle.wire.specs.Carriage.{carriageOf}
 use Rattle.wire.specs.declared.carriage.Carried.the-variants as C
@@ -208,7 +208,7 @@ module _ (f : Tunnel → Finding) (g : Segment → Finding) (start protocol sour
 -- ---- a complete STT frame: 28, 29
 
 stt-told : (start : ℕ) (f : ℕ → Finding) (frame : List ℕ) → 18 ≤ length frame → sttTells start f (sttOf frame) ≡ (sttRows frame otherwise f (beAt frame 8 8))
-unfolding sttOf sttChecks sttRows first findingOf
+unfolding contradicts sttOf sttChecks sttRows first findingOf
 stt-told start f frame l = pull (sttTells start f) H.Refused (sttChecks frame) (H.Header (beAt frame 8 8)) ∙ rw (le-ltb (length frame) 18 l)
 
 -- ---- the inner frame: 13

@@ -20,6 +20,9 @@ use Rattle.wire.specs.Laws.Udp.{udp-length}
 use Rattle.wire.specs.Vxlan.{vxlan}
 use Rattle.wire.specs.Laws.Vxlan.{vxlan-length}
 use Rattle.wire.specs.Nvgre.{gre, IsNvgre}
+use Rattle.wire.specs.Inner.{hintsOf}
+use Rattle.wire.specs.Laws.Inner.{hints-fit}
+use Rattle.wire.specs.declared.inner.Hints.{Hints}
 use Rattle.wire.specs.Stt.{stt, IsStt}
 use Rattle.wire.specs.Segment as S
 use Rattle.wire.specs.Carriage.{IsVxlanUdp, Tunnels}
@@ -166,15 +169,15 @@ nvgre-is source destination vsid frame trailing h1 h2 h3 h4 = (
 pub stt-is : (context : ℕ) (frame : List ℕ) → context < 256 ^ 8 → IsStt context frame (sttFrame context frame)
 unfolding sttFrame
 stt-is context frame h = record {
-  flags = 0;
-  l4 = 0;
+  flags = hintsOf frame .flags;
+  l4 = hintsOf frame .l4;
   reserved = 0;
   mss = 0;
   tag = 0;
   padding = 0;
   is = refl;
-  flags-fit = omega arith;
-  not-both = λ e. omega arith;
+  flags-fit = omega (arith, hints-fit frame .flags-fit);
+  not-both = λ w e. omega (arith, hints-fit frame .low-zero);
   context-fits = h;
 }
 
@@ -381,14 +384,16 @@ nvgre-written source destination vsid frame ip mid out o1 o2 o3 e f p1 p2 p3 =
     packet-written 47 source destination 8 frame ip mid (nvgreBody vsid frame) out o1 o2 o3 (ap length f) (ap (λ (x : List ℕ). x ++ frame) f) e p1 p2 p3
 
 -- the two pieces of a segment's bytes: of the STT frame's header, and of the inner frame
-pub segment-pieces : (context offset count a e b f : ℕ) (frame header s s1 s2 : List ℕ) → header ≡ sttFrame context [] → 20 ≤ length s
+pub segment-pieces : (context offset count a e b f : ℕ) (hints : Hints) (frame header s s1 s2 : List ℕ)
+    → hints ≡ hintsOf frame → header ≡ stt 0 (hints .flags) (hints .l4) 0 0 0 context 0 [] → 20 ≤ length s
     → a ≡ offset - (offset - 18) → e ≡ offset + count - (offset + count - 18) → b ≡ offset - 18 → f ≡ offset + count - 18
     → s1 ≡ laid s 20 (part header a e) → s2 ≡ laid s1 (20 + (e - a)) (part frame b f)
     → s2 ≡ laid s 20 (segmentBytes context offset count frame)
 unfolding segmentBytes sttFrame stt be
-segment-pieces context offset count a e b f frame header s s1 s2 eh room ea ee eb ef p1 p2 =
+segment-pieces context offset count a e b f hints frame header s s1 s2 ei eh room ea ee eb ef p1 p2 =
     let n : length header ≡ 18 = ap length eh in
-    let w : sttFrame context frame ≡ header ++ frame = ap (λ (l : List ℕ). l ++ frame) (sym eh) in
+    let w : sttFrame context frame ≡ header ++ frame =
+    ap (λ (h : Hints). stt 0 (h .flags) (h .l4) 0 0 0 context 0 frame) (sym ei) ∙ ap (λ (l : List ℕ). l ++ frame) (sym eh) in
     let l : length (part header a e) ≡ e - a = part-length header a e (omega arith) in
     let q : part header a e ++ part frame b f ≡ part (sttFrame context frame) offset (offset + count) =
     rw (w, ea, ee, eb, ef) (sym (part-append header frame 18 offset (offset + count) n (omega arith))) in

@@ -5,6 +5,9 @@ use borrow.Author.Needs.{needs}
 use Rattle.wire.proofs.write.segment_bytes.Statement.{statement}
 use Rattle.wire.proofs.write.segment_bytes.Tie as tie
 
+hints-of-requires : tie.Need-hints-of-requires
+hints-of-requires c κs = search needs
+
 stt-requires : tie.Need-stt-requires
 stt-requires c κs = search needs
 
@@ -50,14 +53,15 @@ returns c =
     let e = p1 .before .before .before in
     let o = e .before in
     let h = o .before in
-    segment-pieces _ _ _ _ _ _ _ _ _ _ _ _ (h .stt .ensures) (omega arith) (o .in-header .ensures) (e .in-header2 .ensures) (b .in-frame .ensures)
-    (f .in-frame2 .ensures)
-    (p1 .put-part .ensures) (p2 .put-part2 .ensures)
+    let a = h .before .before .before .before in
+    segment-pieces _ _ _ _ _ _ _ _ _ _ _ _ _ (h .before .hints-of .ensures) (h .stt .ensures) (omega (arith, a .pre .2)) (o .in-header .ensures)
+    (e .in-header2 .ensures) (b .in-frame .ensures) (f .in-frame2 .ensures) (p1 .put-part .ensures) (p2 .put-part2 .ensures)
 
 pub segment-bytes-spec : {M : Type 1} → statement M
 segment-bytes-spec =
     tie.close
     (tie.spec
+    hints-of-requires
     stt-requires
     add-end
     in-header-requires
