@@ -1,6 +1,7 @@
 -- DEMAND 2, writing (document 01, "Wrapping"): what is written for a binding is, by the same formats that the receiver is proved against, a packet from us to
 -- the binding's peer that carries the frame: whole by VXLAN or NVGRE on the binding's network, or by STT the segment asked for of an STT frame that carries it.
--- Each field of its headers has the value that document 01 gives it. Count and bounds are the paper's formula.
+-- Each field of its headers has the value that document 01 gives it, and the hints of an STT frame those that document 02, §5 does. Count and bounds are the
+-- paper's formula.
 -- How to read it: `Demand2Writing e b frame` is the statement for one binding and one frame; `whole` is the STT frame, the same for every segment. The theorem
 -- (`demand-two-writing` of Laws) asks that the endpoint came from the calls (`Reached`) and that the binding is listed; every other call of wrapping is
 -- refused, as `wrapOf` says.

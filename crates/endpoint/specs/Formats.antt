@@ -1,6 +1,5 @@
--- What the published formats, read as document 01 reads them, and our configuration say of a packet and of a complete STT frame. Definitions only: demand 2
--- and demand 3
--- are stated with them. Nothing here speaks of the receiver.
+-- What the published formats, read as documents 01 and 02 read them, and our configuration say of a packet and of a complete STT frame. Definitions only:
+-- demand 2 and demand 3 are stated with them. Nothing here speaks of the receiver.
 use Prim.Native.Nat.{ℕ, _<_}
 use mathlib.Core.Path.{_≡_}
 use mathlib.Core.Logic.{_≢_}

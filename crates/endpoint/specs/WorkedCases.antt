@@ -8,6 +8,7 @@ use lib.ListN.{replicate}
 use Rattle.wire.specs.Sum.{total, ones}
 use Rattle.wire.specs.Nvgre.{nvgreOf}
 use Rattle.wire.specs.Refusal.{Finding, only, findingOf}
+use Rattle.wire.specs.Inner.{hintsOf}
 use Rattle.wire.specs.Write.{sourcePort}
 use Rattle.wire.specs.declared.carriage.Carried.{Carried}
 use Rattle.wire.specs.declared.carriage.Carried.the-variants as C
@@ -26,6 +27,12 @@ T = 0x02 ∷ 0x00 ∷ 0x00 ∷ 0x00 ∷ 0x00 ∷ 0x02 ∷ 0x02 ∷ 0x00 ∷ 0x00
 -- an Ethernet header with larger words
 abbrev U : List ℕ
 U = 0xff ∷ 0xff ∷ 0xff ∷ 0xff ∷ 0xff ∷ 0xff ∷ 0x02 ∷ 0x00 ∷ 0x5e ∷ 0x10 ∷ 0x00 ∷ 0x01 ∷ 0x08 ∷ 0x00 ∷ []
+
+-- a TCP frame: an IPv4 header that ends with the frame, from 10.0.0.3 to 10.0.0.4
+abbrev W : List ℕ
+W =
+    0x02 ∷ 0x00 ∷ 0x00 ∷ 0x00 ∷ 0x00 ∷ 0x02 ∷ 0x02 ∷ 0x00 ∷ 0x00 ∷ 0x00 ∷ 0x00 ∷ 0x01 ∷ 0x08 ∷ 0x00
+    ∷ 0x45 ∷ 0x00 ∷ 0x00 ∷ 0x14 ∷ 0x00 ∷ 0x00 ∷ 0x40 ∷ 0x00 ∷ 0x40 ∷ 0x06 ∷ 0x00 ∷ 0x00 ∷ 0x0a ∷ 0x00 ∷ 0x00 ∷ 0x03 ∷ 0x0a ∷ 0x00 ∷ 0x00 ∷ 0x04 ∷ []
 
 abbrev own : ℕ
 own = 0x0a000001
@@ -56,6 +63,17 @@ lengthCode n = choiceCode (chosen (replicate 4 free) (record { identifier = 1; f
 
 abbrev complete : List ℕ → ℕ
 complete map = cond (allBelow 9 (λ i. bitAt map 0 i)) 1 0
+
+-- the hints of frames (document 02, §5). IPv4: the header's first byte, its fragment word and protocol, and n bytes behind these; IPv6: first byte, next header
+abbrev hintList : List ℕ → List ℕ
+hintList frame = hintsOf frame .flags ∷ hintsOf frame .l4 ∷ []
+
+abbrev ipv4Hints : (first high low protocol n : ℕ) → List ℕ
+ipv4Hints first high low protocol n =
+    hintList (replicate 12 2 ++ (0x08 ∷ 0x00 ∷ first ∷ 0 ∷ 0 ∷ 0 ∷ 0 ∷ 0 ∷ high ∷ low ∷ 64 ∷ protocol ∷ []) ++ replicate n 0)
+
+abbrev ipv6Hints : (first next n : ℕ) → List ℕ
+ipv6Hints first next n = hintList (replicate 12 2 ++ (0x86 ∷ 0xdd ∷ first ∷ 0 ∷ 0 ∷ 0 ∷ 0 ∷ 0 ∷ next ∷ []) ++ replicate n 0)
 
 -- a case: what the definitions give, and what the paper says
 pub record Case : Type 0 where
@@ -98,6 +116,18 @@ cases =
     is 0x45 ∷ 0x00 ∷ 0x00 ∷ 0x29 ∷ 0x00 ∷ 0x00 ∷ 0x40 ∷ 0x00 ∷ 0x40 ∷ 0x06 ∷ 0x26 ∷ 0xcd ∷ 0x0a ∷ 0x00 ∷ 0x00 ∷ 0x01 ∷ 0x0a ∷ 0x00 ∷ 0x00 ∷ 0x02
     ∷ 0xe8 ∷ 0x0e ∷ 0x1d ∷ 0x2f ∷ 0x02 ∷ 0x19 ∷ 0x02 ∷ 0x18 ∷ 0xde ∷ 0xad ∷ 0xbe ∷ 0xef ∷ 0x50 ∷ 0x18 ∷ 0x00 ∷ 0x00 ∷ 0xed ∷ 0xbc ∷ 0x00 ∷ 0x00
     ∷ 0x07 ∷ [])
+    -- nor this: a whole STT packet with a TCP frame, whose hints (document 02, §5) are 0x0c and 34
+    ∷ (packetOf 3 own peer 7471 0x0102030405060708 1500 W 0 0xdeadbeef
+    is (0x45 ∷ 0x00 ∷ 0x00 ∷ 0x5c ∷ 0x00 ∷ 0x00 ∷ 0x40 ∷ 0x00 ∷ 0x40 ∷ 0x06 ∷ 0x26 ∷ 0x9a ∷ 0x0a ∷ 0x00 ∷ 0x00 ∷ 0x01 ∷ 0x0a ∷ 0x00 ∷ 0x00 ∷ 0x02
+    ∷ 0xcc ∷ 0x03 ∷ 0x1d ∷ 0x2f ∷ 0x00 ∷ 0x34 ∷ 0x00 ∷ 0x00 ∷ 0xde ∷ 0xad ∷ 0xbe ∷ 0xef ∷ 0x50 ∷ 0x18 ∷ 0x00 ∷ 0x00 ∷ 0xfd ∷ 0x4c ∷ 0x00 ∷ 0x00
+    ∷ 0x00 ∷ 0x0c ∷ 0x22 ∷ 0x00 ∷ 0x00 ∷ 0x00 ∷ 0x00 ∷ 0x00 ∷ 0x01 ∷ 0x02 ∷ 0x03 ∷ 0x04 ∷ 0x05 ∷ 0x06 ∷ 0x07 ∷ 0x08 ∷ 0x00 ∷ 0x00 ∷ []) ++ W)
+    -- document 02, §5: TCP and UDP over IPv4 with headers of 5 and 15 words, a first fragment, a next one, ICMP, a header that ends a byte outside the frame
+    ∷ (ipv4Hints 0x45 0 0 6 10 ++ ipv4Hints 0x4f 0x40 0 17 50 is 0x0c ∷ 34 ∷ 0x04 ∷ 74 ∷ [])
+    ∷ (ipv4Hints 0x45 0x20 0 6 10 ++ ipv4Hints 0x45 0 1 6 10 ++ ipv4Hints 0x45 0 0 1 10 ++ ipv4Hints 0x4f 0 0 6 49 is 0x0c ∷ 34 ∷ 0 ∷ 0 ∷ 0 ∷ 0 ∷ 0 ∷ 0 ∷ [])
+    -- four words, version 6 with IPv4's type, version 4 with IPv6's
+    ∷ (ipv4Hints 0x44 0 0 6 10 ++ ipv4Hints 0x65 0 0 6 10 ++ ipv6Hints 0x45 6 33 is 0 ∷ 0 ∷ 0 ∷ 0 ∷ 0 ∷ 0 ∷ [])
+    -- TCP and UDP over IPv6, an extension header, 39 bytes
+    ∷ (ipv6Hints 0x60 6 33 ++ ipv6Hints 0x6f 17 33 ++ ipv6Hints 0x60 44 33 ++ ipv6Hints 0x60 6 32 is 0x08 ∷ 54 ∷ 0 ∷ 54 ∷ 0 ∷ 0 ∷ 0 ∷ 0 ∷ [])
     -- 5. MTU 576, inner 1,514: three segments of 536, 536, 460. MTU 1,500: inner 1,442 makes one, 1,443 makes two
     ∷ (segmentsOf 3 1514 576 ∷ segmentSize 1514 576 0 ∷ segmentSize 1514 576 1 ∷ segmentSize 1514 576 2 ∷ [] is 3 ∷ 536 ∷ 536 ∷ 460 ∷ [])
     ∷ (segmentsOf 3 1442 1500 ∷ segmentsOf 3 1443 1500 ∷ [] is 1 ∷ 2 ∷ [])

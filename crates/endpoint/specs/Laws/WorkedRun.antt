@@ -10,7 +10,8 @@ use Rattle.wire.specs.Ipv4.{ipv4Checks, ipv4At, ipv4Of}
 use Rattle.wire.specs.Udp.{udpSum, udpChecks, udpOf}
 use Rattle.wire.specs.Vxlan.{vxlanChecks, vxlanAt, vxlanOf}
 use Rattle.wire.specs.Segment.{segmentChecks, segmentAt, segmentOf}
-use Rattle.wire.specs.Stt.{sttChecks, sttOf}
+use Rattle.wire.specs.Inner.{carriesIpv4, carriesIpv6, carriesTransport}
+use Rattle.wire.specs.Stt.{contradicts, sttChecks, sttOf}
 use Rattle.wire.specs.Frame.{frameChecks, frameOf}
 use Rattle.wire.specs.Carriage.{carriageOf}
 use Rattle.wire.specs.Refusal.{findingOf}
@@ -82,11 +83,11 @@ read-d1 = refl
 -- ---- what the frames are worth: Context ID 77 is binding 0, tenant 7; the other is binding 1, tenant 8
 
 pub worth-a : (note : Note) → judgeOf listed 0 note (frame-a .content) ≡ good (record { tenant = 7; binding = 0 })
-unfolding first judgeOf sttFrom sttChecks sttOf beAt innerFrom from lowest binds frameChecks frameOf
+unfolding first judgeOf sttFrom contradicts carriesTransport carriesIpv4 carriesIpv6 sttChecks sttOf beAt innerFrom from lowest binds frameChecks frameOf
 worth-a note = refl
 
 pub worth-b : (note : Note) → judgeOf listed 0 note (frame-b .content) ≡ good (record { tenant = 8; binding = 1 })
-unfolding first judgeOf sttFrom sttChecks sttOf beAt innerFrom from lowest binds frameChecks frameOf
+unfolding first judgeOf sttFrom contradicts carriesTransport carriesIpv4 carriesIpv6 sttChecks sttOf beAt innerFrom from lowest binds frameChecks frameOf
 worth-b note = refl
 
 -- ---- packets of peer 0's own: delivered, and refused (10)
