@@ -65,7 +65,7 @@ pub enum Refusal {
     BadGreType = 27,
     /// Version of the STT frame wrong.
     BadSttVersion = 28,
-    /// Flags 0x01 and 0x02 of the STT frame both set.
+    /// Flags 0x01 and 0x02 of an STT frame with TCP or UDP over IP both set.
     BadSttFlags = 29,
 }
 

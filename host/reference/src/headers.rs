@@ -1,8 +1,10 @@
 //! Reading of the outer headers: IPv4, then UDP, GRE or the TCP-shaped header
-//! of STT, then the tunnel headers. Every reader knows only its own bytes.
+//! of STT, then the tunnel headers. Every reader knows only its own bytes; that of
+//! an STT frame also asks what its inner frame carries.
 
 use crate::answer::{Fault, Refusal};
 use crate::checksum;
+use crate::inner::Hints;
 
 /// IP protocol numbers of the three carriers.
 pub const PROTOCOL_TCP: u8 = 6;
@@ -33,7 +35,7 @@ fn field<const N: usize>(bytes: &[u8], at: usize) -> [u8; N] {
     field
 }
 
-fn be16(bytes: &[u8], at: usize) -> u16 {
+pub fn be16(bytes: &[u8], at: usize) -> u16 {
     u16::from_be_bytes(field(bytes, at))
 }
 
@@ -218,12 +220,13 @@ fn gre_fault(header: &[u8; GRE_HEADER]) -> Fault {
 }
 
 /// The Context ID of an STT frame (draft-davie-stt-06, section 3.1). Flags 0
-/// (checksum verified) and 1 (checksum partial) exclude each other.
+/// (checksum verified) and 1 (checksum partial) exclude each other where the inner
+/// frame has TCP or UDP; the hints of every other frame are ignored.
 pub fn stt_network_id(frame: &[u8]) -> Result<u64, Fault> {
     if frame[0] != 0 {
         return Err(Fault::new(Refusal::BadSttVersion, 0));
     }
-    if frame[1] & 0x03 == 0x03 {
+    if frame[1] & 0x03 == 0x03 && Hints::of(&frame[STT_HEADER..]).is_some() {
         return Err(Fault::new(Refusal::BadSttFlags, 1));
     }
     Ok(be64(frame, 8))

@@ -26,6 +26,7 @@ mod detector;
 mod endpoint;
 mod headers;
 mod image;
+mod inner;
 mod listing;
 mod reassembly;
 mod received_map;

@@ -1,10 +1,12 @@
-//! Writing of outer packets (document 01, "Wrapping").
+//! Writing of outer packets (document 01, "Wrapping"; the hints of an STT frame:
+//! document 02, section 5).
 
 use crate::answer::{Refusal, Wrapped, DONE};
 use crate::checksum;
 use crate::headers::{self, PROTOCOL_GRE, PROTOCOL_TCP, PROTOCOL_UDP};
 use crate::headers::{GRE_HEADER, IPV4_HEADER, STT_HEADER, TCP_HEADER, UDP_HEADER, VXLAN_HEADER};
 use crate::headers::{TRANSPARENT_ETHERNET, VXLAN_PORT};
+use crate::inner::Hints;
 use crate::listing::{Binding, Config, Kind, Listing};
 
 /// Which part of the frame is asked for.
@@ -204,15 +206,24 @@ fn write_tcp_rest(header: &mut [u8], is_last: bool) {
     header[14..20].fill(0);
 }
 
-/// The bytes of the STT frame from `start` on that fill `payload`. Every field
-/// of its header but the Context ID is 0.
+/// The header of the STT frame around `frame`: hints, Context ID, and every other
+/// field 0.
+fn stt_header(context_id: u64, frame: &[u8]) -> [u8; STT_HEADER] {
+    let hints = Hints::of(frame).unwrap_or_default();
+    let mut header = [0; STT_HEADER];
+    header[1] = hints.flags;
+    header[2] = hints.l4_offset;
+    header[8..16].copy_from_slice(&context_id.to_be_bytes());
+    header
+}
+
+/// The bytes of the STT frame from `start` on that fill `payload`.
 fn write_frame_part(payload: &mut [u8], start: usize, context_id: u64, frame: &[u8]) {
-    let mut stt = [0u8; STT_HEADER];
-    stt[8..16].copy_from_slice(&context_id.to_be_bytes());
     let of_header = STT_HEADER.saturating_sub(start).min(payload.len());
     let (head, tail) = payload.split_at_mut(of_header);
     if of_header > 0 {
-        head.copy_from_slice(&stt[start..start + of_header]);
+        let header = stt_header(context_id, frame);
+        head.copy_from_slice(&header[start..start + of_header]);
     }
     let inner_start = start + of_header - STT_HEADER;
     tail.copy_from_slice(&frame[inner_start..inner_start + tail.len()]);
@@ -252,8 +263,11 @@ mod tests {
 
     #[test]
     fn a_frame_part_may_start_anywhere() {
-        let frame: Vec<u8> = (100..120).collect();
-        let whole: Vec<u8> = [0, 0, 0, 0, 0, 0, 0, 0, 1, 2, 3, 4, 5, 6, 7, 8, 0, 0]
+        // TCP over IPv4, so that no byte of the hints is 0.
+        let mut frame: Vec<u8> = (100..140).collect();
+        frame[12..15].copy_from_slice(&[0x08, 0x00, 0x45]);
+        frame[20..24].copy_from_slice(&[0, 0, 64, 6]);
+        let whole: Vec<u8> = [0, 0x0C, 34, 0, 0, 0, 0, 0, 1, 2, 3, 4, 5, 6, 7, 8, 0, 0]
             .into_iter()
             .chain(frame.iter().copied())
             .collect();

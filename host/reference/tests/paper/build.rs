@@ -124,12 +124,34 @@ pub fn part(identifier: u32, frame: &[u8], from: usize, to: usize) -> Vec<u8> {
     segment(PEER, identifier, frame.len(), from, &frame[from..to])
 }
 
-/// An inner frame of `length` bytes, no tag.
+/// An inner frame of `length` bytes, no tag. Its type is that of IPv4, but no IP
+/// header follows.
 pub fn inner(length: usize) -> Vec<u8> {
     let mut frame: Vec<u8> = (0..length).map(|i| (i * 7 + 3) as u8).collect();
     if length >= 14 {
         set_word(&mut frame, 12, 0x0800);
     }
+    frame
+}
+
+/// The same with an IPv4 header of this many words behind the Ethernet header, as
+/// far as the length reaches.
+pub fn over_ipv4(words: u8, protocol: u8, length: usize) -> Vec<u8> {
+    let mut frame = inner(length.max(34));
+    frame[14] = 0x40 | words;
+    set_word(&mut frame, 20, 0);
+    frame[23] = protocol;
+    frame.truncate(length);
+    frame
+}
+
+/// The same with an IPv6 header.
+pub fn over_ipv6(next_header: u8, length: usize) -> Vec<u8> {
+    let mut frame = inner(length.max(54));
+    set_word(&mut frame, 12, 0x86DD);
+    frame[14] = 0x60;
+    frame[20] = next_header;
+    frame.truncate(length);
     frame
 }
 

@@ -87,9 +87,9 @@ fn bytes_of_a_gre_header_wrong_together() {
     }
 }
 
-/// A good STT frame with these two first bytes.
+/// An STT frame that carries TCP, with these two first bytes.
 fn frame_with(version: u8, flags: u8) -> Vec<u8> {
-    let mut frame = good(60);
+    let mut frame = stt_frame(CONTEXT, &over_ipv4(5, 6, 42));
     frame[..2].copy_from_slice(&[version, flags]);
     frame
 }

@@ -72,10 +72,15 @@ fn tunnel_headers_then_twelve_then_thirteen() {
     bed.refuses_frame(13, &part(1, &frame, 0, 32));
     frame[9] ^= 1;
     bed.refuses_frame(12, &part(1, &frame, 0, 32));
-    frame[1] = 3;
-    bed.refuses_frame_at(29, 1, &part(1, &frame, 0, 32));
     frame[0] = 1;
     bed.refuses_frame_at(28, 0, &part(1, &frame, 0, 32));
+    // No frame has both 29 and 13: a tag hides TCP and UDP.
+    let mut frame = stt_frame(CONTEXT ^ 1, &over_ipv4(5, 6, 34));
+    bed.refuses_frame(12, &part(1, &frame, 0, 52));
+    frame[1] = 3;
+    bed.refuses_frame_at(29, 1, &part(1, &frame, 0, 52));
+    frame[0] = 1;
+    bed.refuses_frame_at(28, 0, &part(1, &frame, 0, 52));
 }
 
 #[test]

@@ -96,15 +96,14 @@ fn bad_frames_give_their_slot_back() {
         (13, 30, 0x81),
     ];
     for (code, at, value) in wrongs {
-        let mut frame = good(50);
-        set_word(&mut frame, 30, 0x0000);
+        let mut frame = stt_frame(CONTEXT, &over_ipv4(5, 17, 34));
         frame[at] = value;
         let offset = if code == 29 { 1 } else { 0 };
         for _ in 0..5 {
-            bed.holds(&part(1, &frame, 25, 50));
+            bed.holds(&part(1, &frame, 25, 52));
             bed.refuses_frame_at(code, offset, &part(1, &frame, 0, 25));
-            assert_eq!(bed.memory[..50], frame);
-            assert_eq!(bed.memory[1536..1543], [255, 255, 255, 255, 255, 255, 3]);
+            assert_eq!(bed.memory[..52], frame);
+            assert_eq!(bed.memory[1536..1543], [255, 255, 255, 255, 255, 255, 15]);
         }
     }
     for identifier in 0..4 {
