@@ -88,6 +88,22 @@ pub fn nvgre(path: Path, vsid: u32, inner: &[u8]) -> Vec<u8> {
     ipv4(path, GRE, &payload)
 }
 
+/// Puts an IPv4 header of `words` words behind the Ethernet header of a frame of at
+/// least 34 bytes: no later fragment, and this protocol. All else stays.
+pub fn put_ipv4(frame: &mut [u8], words: u8, protocol: u8) {
+    put16(frame, 12, 0x0800);
+    frame[14] = 0x40 | words;
+    put16(frame, 20, 0x4000);
+    frame[23] = protocol;
+}
+
+/// Puts an IPv6 header there, of a frame of at least 21 bytes.
+pub fn put_ipv6(frame: &mut [u8], next_header: u8) {
+    put16(frame, 12, 0x86DD);
+    frame[14] = 0x60 | frame[14] & 0x0F;
+    frame[20] = next_header;
+}
+
 /// An STT frame: 18-byte header and inner frame.
 pub fn stt_frame(context: u64, inner: &[u8]) -> Vec<u8> {
     let mut frame = vec![0u8; 8];

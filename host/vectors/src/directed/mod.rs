@@ -65,12 +65,19 @@ pub fn set_up(recorder: &mut Recorder, seed: u32) {
     recorder.lend(ENOUGH, seed);
 }
 
-/// An inner frame of `length` bytes with a type that is no tag.
+/// An inner frame of `length` bytes with a type that is neither tag nor IP.
 pub fn inner(prng: &mut Prng, length: usize) -> Vec<u8> {
     let mut frame = prng.bytes(length);
     if length >= 14 {
-        frame[12] = 0x08;
+        frame[12] = 0x09;
     }
+    frame
+}
+
+/// The same, of at least 34 bytes, with TCP behind an IPv4 header of five words.
+pub fn with_tcp(prng: &mut Prng, length: usize) -> Vec<u8> {
+    let mut frame = inner(prng, length);
+    packet::put_ipv4(&mut frame, 5, packet::TCP);
     frame
 }
 

@@ -386,7 +386,7 @@ fn ages_differ(r: &mut Recorder, prng: &mut Prng) {
     r.receive(17, &part(24, &frame, 0, 32));
 }
 
-/// Answer to a frame with this header byte set to this value.
+/// Answer to a frame with TCP that has this header byte set to this value.
 const HEADER_CHANGES: [(u8, usize, u8); 14] = [
     (28, 0, 1),
     (28, 0, 0x80),
@@ -407,14 +407,14 @@ const HEADER_CHANGES: [(u8, usize, u8); 14] = [
 /// The last segment of a bad frame is stored and the slot is free afterwards.
 fn bad_frames(r: &mut Recorder, prng: &mut Prng) {
     set_up(r, prng.draw() as u32);
-    let good = good_frame(prng, 48);
+    let good = stt_frame(CONTEXT, &with_tcp(prng, 34));
     for (code, at, value) in HEADER_CHANGES {
         let mut frame = good.clone();
         frame[at] = value;
         let offset = if code > 24 { at } else { 0 };
-        r.receive(1, &part(1, &frame, 24, 48));
+        r.receive(1, &part(1, &frame, 24, 52));
         r.receive_at(code, offset, &part(1, &frame, 0, 24));
-        r.receive_at(code, offset, &part(1, &frame, 0, 48));
+        r.receive_at(code, offset, &part(1, &frame, 0, 52));
     }
     let mut tagged = good.clone();
     put16(&mut tagged, 30, 0x8100);
@@ -422,29 +422,39 @@ fn bad_frames(r: &mut Recorder, prng: &mut Prng) {
     put16(&mut service, 30, 0x88A8);
     for frame in [&tagged, &service] {
         r.receive(1, &part(2, frame, 0, 31));
-        r.receive(13, &part(2, frame, 31, 48));
+        r.receive(13, &part(2, frame, 31, 52));
     }
-    order_of_bad_frames(r, &tagged);
+    order_of_bad_frames(r, &tagged, &good);
     for identifier in 0..4 {
         r.receive(1, &part(identifier, &good, 0, 24));
     }
     r.receive(17, &part(4, &good, 0, 24));
 }
 
-/// 28 before 29 before 12 before 13, and 16 before all of them.
-fn order_of_bad_frames(r: &mut Recorder, tagged: &[u8]) {
+/// 28 before 29 before 12 before 13, and 16 before all of them. A frame with TCP is
+/// not tagged, so that none has both 29 and 13.
+fn order_of_bad_frames(r: &mut Recorder, tagged: &[u8], tcp: &[u8]) {
     let mut frame = tagged.to_vec();
     for (code, offset, at, value) in [
         (13, 0, 8, tagged[8]),
         (12, 0, 8, tagged[8] ^ 1),
-        (29, 1, 1, 3),
         (28, 0, 0, 1),
     ] {
         frame[at] = value;
-        r.receive(1, &part(3, &frame, 0, 47));
-        r.receive(16, &part(3, &frame, 46, 48));
-        r.receive_at(code, offset, &part(3, &frame, 47, 48));
+        refused_at_the_last_byte(r, code, offset, &frame);
     }
+    let mut frame = tcp.to_vec();
+    for (code, offset, at, value) in [(12, 0, 8, tcp[8] ^ 1), (29, 1, 1, 3), (28, 0, 0, 1)] {
+        frame[at] = value;
+        refused_at_the_last_byte(r, code, offset, &frame);
+    }
+}
+
+fn refused_at_the_last_byte(r: &mut Recorder, code: u8, offset: usize, frame: &[u8]) {
+    let last = frame.len() - 1;
+    r.receive(1, &part(3, frame, 0, last));
+    r.receive(16, &part(3, frame, last - 1, last + 1));
+    r.receive_at(code, offset, &part(3, frame, last, last + 1));
 }
 
 /// Version and flags come in segments of their own, in any order: the last one gets
@@ -462,7 +472,7 @@ fn wrong_byte_anywhere(r: &mut Recorder, prng: &mut Prng) {
     ];
     let faults = [(28, 0, 1, 1), (29, 1, 0, 3), (28, 0, 2, 0xFF)];
     for (pending, (code, offset, version, flags)) in (0..).zip(faults) {
-        let mut frame = good_frame(prng, 50);
+        let mut frame = stt_frame(CONTEXT, &with_tcp(prng, 36));
         frame[..2].copy_from_slice(&[version, flags]);
         let parts = cut(FROM_A, PORT, 1, &frame, &[1, 2]);
         r.receive(1, &loose(100 + pending, 60, 9, &[1; 9]));
@@ -471,7 +481,7 @@ fn wrong_byte_anywhere(r: &mut Recorder, prng: &mut Prng) {
             r.receive(1, &parts[second]);
             r.receive_at(code, offset, &parts[last]);
         }
-        let whole = with_ip_options(&part(2, &frame, 0, 50), 3);
+        let whole = with_ip_options(&part(2, &frame, 0, 54), 3);
         r.receive_at(code, offset, &whole);
         r.receive_at(code, offset, &with_tcp_options(&whole, 2));
     }
