@@ -6,6 +6,7 @@
 mod build;
 mod detector;
 mod faults;
+mod hints;
 mod image;
 mod listing;
 mod memory;

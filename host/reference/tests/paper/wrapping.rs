@@ -4,7 +4,7 @@ use crate::build::*;
 use niulassenc_reference::{view, Endpoint, Wrapped};
 
 /// Endpoint at OWN with one peer and one binding of each kind.
-fn writer(mtu: u32) -> Endpoint {
+pub fn writer(mtu: u32) -> Endpoint {
     let (mut endpoint, code) = Endpoint::start(OWN, PORT.into(), mtu);
     assert_eq!(code, 0);
     endpoint.add_peer(PEER);
@@ -27,7 +27,7 @@ fn refuses(code: u8, endpoint: &Endpoint, call: (u32, u32), frame: &[u8], room: 
 }
 
 /// The packet written into an output of `room` bytes, the rest untouched.
-fn writes(endpoint: &Endpoint, call: (u32, u32), frame: &[u8], room: usize) -> (Vec<u8>, u32) {
+pub fn writes(endpoint: &Endpoint, call: (u32, u32), frame: &[u8], room: usize) -> (Vec<u8>, u32) {
     let mut output = vec![0xAA; room];
     let wrapped = endpoint.wrap(call.0, frame, call.1, 5, &mut output);
     assert_eq!(wrapped.code, 0, "{call:?}, {} bytes", frame.len());
