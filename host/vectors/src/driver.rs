@@ -295,11 +295,15 @@ impl Driver {
         self.last_answer.map_or(0, |answer| answer.offset)
     }
 
+    /// Where the frame lies that the last receive delivered; the empty place after
+    /// another answer.
+    pub fn place(&self) -> Place {
+        self.last_answer.map_or(Place::EMPTY, |answer| answer.place)
+    }
+
     /// The bytes that the last receive delivered; none after another answer.
     pub fn handed_back(&self) -> &[u8] {
-        let answer = self.last_answer;
-        let place = answer.map_or(Place::EMPTY, |answer| answer.place);
-        view(&self.last_packet, &self.memory, place)
+        view(&self.last_packet, &self.memory, self.place())
     }
 
     /// What a detector is told of the frame that the last receive delivered: its

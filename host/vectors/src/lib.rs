@@ -19,7 +19,7 @@ use recorder::Recorder;
 
 /// Seed and number of random steps when the command line names none.
 pub const DEFAULT_SEED: u64 = 20_140_415;
-pub const DEFAULT_STEPS: usize = 4500;
+pub const DEFAULT_STEPS: usize = 3900;
 
 /// All directed cases, then `steps` random steps; then those of the detector, as many
 /// random observations as there are random steps. Every frame that is delivered is

@@ -94,23 +94,85 @@ fn lend(recorder: &mut Recorder, prng: &mut Prng) {
     recorder.lend(length, prng.draw() as u32);
 }
 
-/// An inner frame, short mostly, now and then one that breaks its rule.
+/// An inner frame, short mostly; most of them carry IP, or miss it by a little.
 fn inner(prng: &mut Prng) -> Vec<u8> {
+    let mut frame = if prng.percent(60) {
+        over_ip(prng)
+    } else {
+        of_any_kind(prng)
+    };
+    if frame.len() >= 14 && prng.percent(70) {
+        frame[6..12].copy_from_slice(&[2, 0, 0, 0, 0, prng.pick(&SOURCES)]);
+    }
+    frame
+}
+
+/// A frame of drawn bytes, now and then one that breaks its rule.
+fn of_any_kind(prng: &mut Prng) -> Vec<u8> {
     let length = match prng.below(40) {
-        0 => prng.between(0, 13),
-        1 => prng.pick(&[1514, 1515, 500, 1464, 1465]),
-        _ => prng.between(14, 60),
+        0 | 1 => prng.between(0, 13),
+        2 => prng.pick(&[1514, 1515, 500, 1464, 1465]),
+        _ => prng.between(14, 36),
     };
     let mut frame = prng.bytes(length);
     if length >= 14 {
-        if prng.percent(70) {
-            frame[6..12].copy_from_slice(&[2, 0, 0, 0, 0, prng.pick(&SOURCES)]);
-        }
         let tag = prng.pick(&[0x8100, 0x88A8]);
-        let kind = if prng.percent(3) { tag } else { 0x0800 };
-        put16(&mut frame, 12, kind);
+        let kind = prng.pick(&[0x0800, 0x86DD, 0x0806, 46]);
+        put16(&mut frame, 12, if prng.percent(8) { tag } else { kind });
     }
     frame
+}
+
+/// A frame with an IP header, mostly in front of TCP or UDP, that ends at the header
+/// or a little behind; one of three has one field off by one.
+fn over_ip(prng: &mut Prng) -> Vec<u8> {
+    let words = if prng.percent(80) {
+        5
+    } else {
+        prng.between(6, 15)
+    };
+    let is_ipv4 = prng.percent(55);
+    let end = 14 + if is_ipv4 { 4 * words } else { 40 };
+    let length = match prng.below(100) {
+        0 => prng.pick(&[1514, 600]),
+        _ => end + prng.below(4),
+    };
+    let mut frame = prng.bytes(length);
+    let other = prng.pick(&[0, 1, 41, 44, 47, 58]);
+    let protocol = prng.pick(&[6, 17, 6, 17, 6, 17, 6, 17, other]);
+    if is_ipv4 {
+        packet::put_ipv4(&mut frame, words as u8, protocol);
+    } else {
+        packet::put_ipv6(&mut frame, protocol);
+    }
+    if prng.percent(33) {
+        miss_ip(prng, &mut frame, end);
+    }
+    frame
+}
+
+/// Changes one of the fields that the look into the frame asks for: type, version,
+/// header length, fragment, protocol, or the frame's end.
+fn miss_ip(prng: &mut Prng, frame: &mut Vec<u8>, end: usize) {
+    let up = prng.percent(50);
+    let near = |byte: u8, step: u8| {
+        if up {
+            byte.wrapping_add(step)
+        } else {
+            byte.wrapping_sub(step)
+        }
+    };
+    match prng.below(6) {
+        0 => frame[13] = near(frame[13], 1),
+        1 => frame[14] = near(frame[14], 0x10),
+        2 => frame[14] = near(frame[14], 1),
+        3 => put16(frame, 20, prng.pick(&[1, 0x2000, 0x2001, 0x1000, 0x8000])),
+        4 => {
+            let at = if frame[12] == 0x08 { 23 } else { 20 };
+            frame[at] = near(frame[at], 1);
+        }
+        _ => frame.truncate(end - 1),
+    }
 }
 
 impl Scene {
@@ -118,11 +180,11 @@ impl Scene {
         match prng.below(100) {
             0..=7 => recorder.tick(),
             8..=11 if self.received => view(recorder, prng),
-            12..=16 => self.wrap(recorder, prng),
-            17 => self.add_peer(recorder, prng),
-            18 => self.add_binding(recorder, prng),
-            19 => self.memory_too_short(recorder, prng),
-            n if n < 20 + SWAP_MEMORY_PERCENT => lend(recorder, prng),
+            12..=26 => self.wrap(recorder, prng),
+            27 => self.add_peer(recorder, prng),
+            28 => self.add_binding(recorder, prng),
+            29 => self.memory_too_short(recorder, prng),
+            n if n < 30 + SWAP_MEMORY_PERCENT => lend(recorder, prng),
             98 => save(recorder, prng),
             99 => self.load(recorder, prng),
             _ => self.receive(recorder, prng),
@@ -175,7 +237,7 @@ impl Scene {
     }
 
     fn wrap(&mut self, recorder: &mut Recorder, prng: &mut Prng) {
-        let binding = prng.below(self.bindings.len() + 1) as u16;
+        let binding = self.binding_to_wrap(prng) as u16;
         let frame = inner(prng);
         let segment = match prng.below(8) {
             0 => prng.between(1, 3) as u32,
@@ -187,6 +249,16 @@ impl Scene {
             _ => prng.between(frame.len() + 58, 1600),
         };
         recorder.try_wrap(binding, segment, prng.draw() as u32, output, &frame);
+    }
+
+    /// One of STT, mostly: its header has hints. Or any, or one that is not there.
+    fn binding_to_wrap(&self, prng: &mut Prng) -> usize {
+        let bindings = 0..self.bindings.len();
+        let stt: Vec<_> = bindings.filter(|&n| self.bindings[n].1 == 3).collect();
+        if stt.is_empty() || prng.percent(25) {
+            return prng.below(self.bindings.len() + 1);
+        }
+        prng.pick(&stt)
     }
 
     /// An image that is good, mostly, or has one fault. Where it is taken, the
@@ -296,7 +368,7 @@ impl Scene {
             self.next_identifier = self.next_identifier.wrapping_add(1);
             self.next_identifier
         };
-        let mut cuts: Vec<usize> = (0..prng.below(4))
+        let mut cuts: Vec<usize> = (0..prng.below(3))
             .map(|_| prng.between(1, frame.len() - 1))
             .collect();
         cuts.sort_unstable();
@@ -310,18 +382,20 @@ impl Scene {
         if frame.len() < 32 || frame.len() > 1532 {
             frame = packet::stt_frame(id, &T);
         }
-        // Fields that are ignored, and now and then one that is not.
-        frame[1] = prng.byte() & 0xFE;
+        // Hints of all sorts: only the two flags together count, with TCP or UDP.
+        frame[1] = prng.byte();
         frame[2] = prng.byte();
-        frame[6] = prng.byte();
+        frame[4..8].copy_from_slice(&prng.bytes(4));
+        if prng.percent(20) {
+            frame[1] |= 0x03;
+        }
+        // Now and then a field that is not ignored.
         if prng.percent(6) {
             let at = prng.below(16);
             frame[at] = prng.byte();
         }
-        // Flags that exclude each other, often behind a wrong version.
-        if prng.percent(4) {
-            frame[0] = prng.pick(&[0, 0, 1, 0x80]);
-            frame[1] |= 0x03;
+        if prng.percent(3) {
+            frame[0] = prng.pick(&[1, 0x80]);
         }
         frame
     }

@@ -1,9 +1,10 @@
 //! The two files: their form, byte by byte, and what the generator promises.
 
-use std::collections::BTreeSet;
+use std::collections::{BTreeMap, BTreeSet};
 use std::path::Path;
 use std::process::Command;
 use vectors::driver::Driver;
+use vectors::packet::get16;
 use vectors::prng::Prng;
 use vectors::record::{decode, replay, Record};
 use vectors::recorder::Recorder;
@@ -344,7 +345,8 @@ fn delivered_frames_are_observed_in(runs: &[u8]) {
     assert_eq!(due, None);
 }
 
-/// Over several seeds: how often one listing shows an address twice differs much.
+/// How often one listing shows an address twice differs much: each seed has to have
+/// some of each answer, and all of them together enough.
 #[test]
 fn delivered_frames_are_observed() {
     let mut counts = [0; 4];
@@ -353,6 +355,8 @@ fn delivered_frames_are_observed() {
         random::steps(&mut recorder, &mut Prng::new(seed), DEFAULT_STEPS);
         delivered_frames_are_observed_in(&recorder.runs);
         assert_eq!(observed(&recorder.answers), recorder.observed);
+        let [new, known, duplicate, _] = recorder.observed;
+        assert!(new.min(known).min(duplicate) >= 25, "seed {seed}");
         for (sum, count) in counts.iter_mut().zip(recorder.observed) {
             *sum += count;
         }
@@ -364,6 +368,79 @@ fn delivered_frames_are_observed() {
             count >= least,
             "{new} new, {known} known, {duplicate} duplicate"
         );
+    }
+}
+
+/// What a run has met of the look into inner frames (document 02, section 5).
+#[derive(Debug, Default)]
+struct Looks {
+    /// STT headers that were written, by their flags and L4 offset; any offset of IPv4
+    /// counts as 34.
+    written: BTreeMap<(u8, u8), usize>,
+    /// Complete STT frames, as far as they were refused with 29 or delivered.
+    complete: usize,
+    /// Those that were refused with 29.
+    refused: usize,
+    /// Those that were delivered with both flags set.
+    ignored: usize,
+    /// Those of the latter that have the type of IPv4 or IPv6.
+    missed: usize,
+}
+
+impl Looks {
+    fn of(runs: &[u8]) -> Looks {
+        let mut looks = Looks::default();
+        let mut driver = Driver::untold();
+        for record in decode(runs).unwrap() {
+            let code = record.call(&mut driver).code;
+            match record {
+                Record::Wrap { segment: 0, .. } if code == Some(0) => looks.wrapped(&driver),
+                Record::Receive { .. } => looks.received(&driver, code),
+                _ => {}
+            }
+        }
+        looks
+    }
+
+    fn wrapped(&mut self, driver: &Driver) {
+        let packet = driver.written();
+        if packet[9] != 6 {
+            return;
+        }
+        let (flags, l4_offset) = (packet[41], packet[42]);
+        let l4_offset = if flags & 4 != 0 { 34 } else { l4_offset };
+        *self.written.entry((flags, l4_offset)).or_default() += 1;
+    }
+
+    fn received(&mut self, driver: &Driver, code: Option<u8>) {
+        let place = driver.place();
+        self.refused += usize::from(code == Some(29));
+        self.complete += usize::from(place.in_memory || code == Some(29));
+        if place.in_memory && driver.memory[place.start - 17] & 3 == 3 {
+            self.ignored += 1;
+            let kind = get16(driver.handed_back(), 12);
+            self.missed += usize::from(matches!(kind, 0x0800 | 0x86DD));
+        }
+    }
+}
+
+/// The random part writes hints of every kind, and its complete frames have both flags
+/// set where that counts and where it does not, often nearly so.
+#[test]
+fn inner_frames_are_looked_into() {
+    for seed in SEEDS {
+        let mut recorder = Recorder::new();
+        random::steps(&mut recorder, &mut Prng::new(seed), DEFAULT_STEPS);
+        let looks = Looks::of(&recorder.runs);
+        let kinds = [(0x00, 0), (0x00, 54), (0x04, 34), (0x08, 54), (0x0C, 34)];
+        assert!(looks.written.keys().eq(&kinds), "seed {seed}: {looks:?}");
+        let least = looks.written.values().min();
+        assert!(least >= Some(&8), "seed {seed}: {looks:?}");
+        let sum: usize = looks.written.values().sum();
+        assert!(sum >= 150, "seed {seed}: {looks:?}");
+        assert!(looks.complete >= 300, "seed {seed}: {looks:?}");
+        let least = looks.refused.min(looks.ignored).min(looks.missed);
+        assert!(least >= 40, "seed {seed}: {looks:?}");
     }
 }
 

@@ -1,6 +1,7 @@
 //! Directed cases. Each starts its own endpoint and says which code it expects;
 //! the expectations are read off documents 01 and 02, never off the reference.
 
+mod hints;
 mod image;
 mod listing;
 mod outer;
@@ -42,6 +43,7 @@ pub fn all(recorder: &mut Recorder, prng: &mut Prng) {
         tunnels::CASES,
         segments::CASES,
         wrapping::CASES,
+        hints::CASES,
         image::CASES,
     ];
     for (name, case) in groups.into_iter().flatten() {

@@ -514,7 +514,7 @@ fn context_last(r: &mut Recorder, prng: &mut Prng) {
 /// says what was received, whoever wrote it. The paper gives no code to expect here
 /// without working out the new contents, so these are recorded only.
 fn changed_memory(r: &mut Recorder, prng: &mut Prng) {
-    for length in [33, 37, 40, 40, 41, 47] {
+    for length in [33, 37, 40, 41, 47] {
         set_up(r, prng.draw() as u32);
         let frame = good_frame(prng, length);
         for identifier in 0..4 {
