@@ -100,7 +100,8 @@ fn set_up(own: u32, peer: u32, mtu: u32) -> Endpoint {
     endpoint
 }
 
-/// Drawn bytes, but for the type 0x88B5.
+/// Drawn bytes, but for those that make TCP or UDP over IPv4 or IPv6 of it, by its size,
+/// as far as there is room for the IP header.
 fn frame(size: usize, binding: u32) -> Vec<u8> {
     let mut x = size as u32 * 16 + binding;
     let mut bytes: Vec<u8> = (0..size)
@@ -109,7 +110,19 @@ fn frame(size: usize, binding: u32) -> Vec<u8> {
             (x >> 16) as u8
         })
         .collect();
-    bytes[12..14].copy_from_slice(&[0x88, 0xb5]);
+    let protocol = if size % 2 == 0 { 6 } else { 17 };
+    let header = if size % 4 < 2 {
+        [0x08, 0x00, 0x45, 0x40]
+    } else {
+        [0x86, 0xdd, 0x60, protocol]
+    };
+    let places = [12, 13, 14, 20, 21, 23];
+    let values = header.into_iter().chain([0, protocol]);
+    for (at, value) in places.into_iter().zip(values) {
+        if let Some(byte) = bytes.get_mut(at) {
+            *byte = value;
+        }
+    }
     bytes
 }
 
