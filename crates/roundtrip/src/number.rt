@@ -13,6 +13,7 @@ fn put(frame: &mut [u8], at: usize, value: u8) {
     }
 }
 
+// Of four sizes two are of IPv4 and two of IPv6; of either two, one has TCP and one UDP.
 fn by_version(size: usize, four: u8, six: u8) -> u8 {
     if size % 4 < 2 {
         return four;

@@ -124,7 +124,7 @@ fn of_any_kind(prng: &mut Prng) -> Vec<u8> {
 }
 
 /// A frame with an IP header, mostly in front of TCP or UDP, that ends at the header
-/// or a little behind; one of three has one field off by one.
+/// or a little behind; one of three has one field that is off by a little.
 fn over_ip(prng: &mut Prng) -> Vec<u8> {
     let words = if prng.percent(80) {
         5
