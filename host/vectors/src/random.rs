@@ -152,7 +152,7 @@ fn over_ip(prng: &mut Prng) -> Vec<u8> {
 }
 
 /// Changes one of the fields that the look into the frame asks for: type, version,
-/// header length, fragment, protocol, or the frame's end.
+/// header length, fragment, protocol, or the frame's end; or puts a tag before the type.
 fn miss_ip(prng: &mut Prng, frame: &mut Vec<u8>, end: usize) {
     let up = prng.percent(50);
     let near = |byte: u8, step: u8| {
@@ -162,7 +162,7 @@ fn miss_ip(prng: &mut Prng, frame: &mut Vec<u8>, end: usize) {
             byte.wrapping_sub(step)
         }
     };
-    match prng.below(6) {
+    match prng.below(8) {
         0 => frame[13] = near(frame[13], 1),
         1 => frame[14] = near(frame[14], 0x10),
         2 => frame[14] = near(frame[14], 1),
@@ -170,6 +170,15 @@ fn miss_ip(prng: &mut Prng, frame: &mut Vec<u8>, end: usize) {
         4 => {
             let at = if frame[12] == 0x08 { 23 } else { 20 };
             frame[at] = near(frame[at], 1);
+        }
+        5 => {
+            // The other version's type, before this one's header.
+            let kind = if frame[12] == 0x08 { 0x86DD } else { 0x0800 };
+            put16(frame, 12, kind);
+        }
+        6 => {
+            let tag = prng.pick(&[[0x81, 0x00], [0x88, 0xA8]]);
+            frame.splice(12..12, [tag[0], tag[1], 0, 9]);
         }
         _ => frame.truncate(end - 1),
     }
