@@ -39,7 +39,7 @@ extern "C" {
 
 /* The version of this header. niulassenc_version() gives the archive's in the same form. */
 #define NIULASSENC_VERSION_MAJOR 0
-#define NIULASSENC_VERSION_MINOR 5
+#define NIULASSENC_VERSION_MINOR 6
 #define NIULASSENC_VERSION_PATCH 0
 #define NIULASSENC_VERSION \
     (NIULASSENC_VERSION_MAJOR * 0x10000u + NIULASSENC_VERSION_MINOR * 0x100u + NIULASSENC_VERSION_PATCH)

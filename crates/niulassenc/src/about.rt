@@ -2,12 +2,12 @@
 ghost use mathlib.Core.Path.{_≡_};
 ghost use Rattle.niulassenc.specs.About.{versionOf, endpointBytes, detectorBytes};
 
-// 0.5.0: the major number times 65,536, the minor number times 256, and the patch.
+// 0.6.0: the major number times 65,536, the minor number times 256, and the patch.
 #[no_mangle]
 pub extern "C" fn niulassenc_version() -> u32
-    ensures { λ r. ⌜ r ≡ versionOf 0 5 0 ⌝ }
+    ensures { λ r. ⌜ r ≡ versionOf 0 6 0 ⌝ }
 {
-    1280
+    1536
 }
 
 // How many bytes a caller's endpoint takes.

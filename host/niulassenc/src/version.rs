@@ -4,7 +4,7 @@ use crate::ffi;
 use core::mem::size_of;
 
 /// This crate's version: major × 65,536 + minor × 256 + patch.
-pub const VERSION: u32 = 0x00_05_00;
+pub const VERSION: u32 = 0x00_06_00;
 
 /// The archive's version, in the same form.
 pub fn version() -> u32 {
