@@ -66,7 +66,13 @@ extern "C" {
 /* The answers. From 2 on they are refusals: a refused call leaves the endpoint, the memory and the output as they came. The one
  * exception is 12, 13, 28 or 29 on an STT frame that has become complete: its last segment is stored, and its slot is freed.
  * 11 is no longer given: since version 0.5.0 a receive gives one of 25 to 29 instead, checked where 11 was, right before 12, and
- * with the offset of a byte. Later versions may have more numbers: treat one that you do not know as a refusal. */
+ * with the offset of a byte. Later versions may have more numbers: treat one that you do not know as a refusal.
+ *
+ * TCP or UDP is found in an inner frame whose type (bytes 12 and 13) is
+ * - 0x0800, with an IPv4 header (version 4, 20 bytes or more) that ends within the frame, fragment offset 0 and protocol 6 or 17;
+ * - 0x86DD, with an IPv6 header (version 6, 40 bytes) that ends within the frame and next header 6 or 17.
+ * So it is not found in a tagged frame, behind IPv6 extension headers, or in a fragment but the first. The TCP or UDP header itself
+ * is not looked at. A frame in which it is not found is never refused with 29, since version 0.6.0, whatever its STT flags. */
 enum niulassenc_code {
     NIULASSENC_DONE = 0,                    /* delivered, written or done */
     NIULASSENC_PENDING = 1,                 /* segment received, its frame not yet complete */
@@ -100,7 +106,8 @@ enum niulassenc_code {
                                                not 0 */
     NIULASSENC_BAD_GRE_TYPE = 27,           /* GRE protocol type not 0x6558 */
     NIULASSENC_BAD_STT_VERSION = 28,        /* STT frame's version not 0 */
-    NIULASSENC_BAD_STT_FLAGS = 29           /* STT frame's flags 0x01 and 0x02 both set */
+    NIULASSENC_BAD_STT_FLAGS = 29           /* STT frame's flags 0x01 and 0x02 both set, and TCP or UDP found in the inner
+                                               frame, as told above */
 };
 
 enum niulassenc_kind {
@@ -330,7 +337,10 @@ uint8_t niulassenc_tick(struct niulassenc_endpoint *endpoint);
 /* Wraps a frame (14 to 1,514 bytes, untagged) for the binding: the outer packet that carries it, or its segment of this
  * number, is written at the front of the output, and no byte behind it is touched: 13, 21, 22, 23. Segments count from 0 and
  * are asked for one a call; VXLAN and NVGRE have segment 0 only. The identifier names the STT frame: all its segments take the
- * same one, and frames that are pending at a peer at once take different ones. A packet is never longer than the MTU. */
+ * same one, and frames that are pending at a peer at once take different ones. A packet is never longer than the MTU.
+ * Of an STT frame the header tells, since version 0.6.0, where TCP or UDP is found in the inner frame, in the sense of enum
+ * niulassenc_code: flag 0x04 says IPv4, flag 0x08 TCP, and the L4 offset is that of the TCP or UDP header from the inner frame's
+ * first byte on. Where it is not found, flags and L4 offset are 0. All else of that header but the Context ID is always 0. */
 struct niulassenc_writing niulassenc_wrap(const struct niulassenc_endpoint *endpoint, uint32_t binding, const uint8_t *frame,
                                           size_t frame_length, uint32_t segment, uint32_t identifier, uint8_t *output,
                                           size_t output_length);
@@ -416,7 +426,7 @@ static inline const char *niulassenc_text(uint32_t code)
         "GRE flags or version wrong",
         "GRE protocol type wrong",
         "STT version wrong",
-        "STT flags both set",
+        "STT checksum flags both set on a TCP or UDP frame",
     };
 
     return code < sizeof texts / sizeof *texts ? texts[code] : "unknown code";

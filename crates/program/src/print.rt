@@ -98,7 +98,7 @@ fn header_answer(code: u8) {
         26 => text(b"GRE flags or version wrong"),
         27 => text(b"GRE protocol type wrong"),
         28 => text(b"STT version wrong"),
-        29 => text(b"STT flags both set"),
+        29 => text(b"STT checksum flags both set on a TCP or UDP frame"),
         _ => text(b"unknown code"),
     }
 }

@@ -163,6 +163,31 @@ impl Endpoint {
     /// `output`; VXLAN and NVGRE have segment 0 only. The identifier, any number
     /// that no other frame pending at this peer has, is used by STT alone.
     /// Refused with 13 or 21 to 23.
+    ///
+    /// The header of an STT frame tells where TCP or UDP is found in the inner
+    /// frame: flag 0x04 for IPv4, flag 0x08 for TCP, and the L4 offset, the
+    /// transport header's from the inner frame's first byte on. It is found behind
+    /// type 0x0800, an IPv4 header that ends within the frame, fragment offset 0 and
+    /// protocol 6 or 17; and behind type 0x86DD, an IPv6 header that ends within the
+    /// frame and next header 6 or 17, there at 54. Of every other frame flags and L4
+    /// offset are 0. All else of the header but the Context ID is always 0.
+    ///
+    /// ```
+    /// # use niulassenc::{Endpoint, Kind, Refusal};
+    /// # fn main() -> Result<(), Refusal> {
+    /// let mut endpoint = Endpoint::start([10, 0, 0, 1].into(), 7471, 1500)?;
+    /// let peer = endpoint.add_peer([10, 0, 0, 2].into())?;
+    /// let binding = endpoint.add_binding(peer, Kind::Stt, 22, 7)?;
+    ///
+    /// let mut frame = [0; 60];
+    /// frame[12..15].copy_from_slice(&[0x08, 0x00, 0x45]); // IPv4, a header of 20 bytes
+    /// frame[23] = 6; // TCP
+    /// let mut output = [0; 1500];
+    /// endpoint.wrap(binding, &frame, 0, 77, &mut output)?;
+    /// assert_eq!(output[40..43], [0, 0x04 | 0x08, 34]); // version, flags, L4 offset
+    /// # Ok(())
+    /// # }
+    /// ```
     pub fn wrap(
         &self,
         binding: u16,

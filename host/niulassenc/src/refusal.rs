@@ -104,8 +104,8 @@ refusals! {
         "GRE protocol type not 0x6558";
     28 BadSttVersion "STT version wrong"
         "STT frame's version not 0";
-    29 BadSttFlags "STT flags both set"
-        "STT frame's flags 0x01 and 0x02 both set";
+    29 BadSttFlags "STT checksum flags both set on a TCP or UDP frame"
+        "STT frame's flags 0x01 and 0x02 both set, and TCP or UDP found in the inner frame ([`Endpoint::wrap`](crate::Endpoint::wrap) says where)";
 }
 
 impl Refusal {
