@@ -1,4 +1,4 @@
-// A demonstration: one endpoint with two peers, a network of each kind, and what becomes of thirteen packets. The boards are clones: all frames have the same
+// A demonstration: one endpoint with two peers, a network of each kind, and what becomes of fourteen packets. The boards are clones: all frames have the same
 // addresses. Three go to a tenant each, and none of these sees the others; when a second peer shows the address to one of the tenants, the detector says so.
 mod report;
 
@@ -228,8 +228,8 @@ fn wrong_headers(rack: Rack, memory: &mut [u8]) -> Rack {
 }
 
 // A wrong STT header, in a frame that is complete: the refusal names the first offending byte of the frame.
-fn wrong_frames(rack: Rack, memory: &mut [u8]) -> Rack {
-    let first = show(
+fn wrong_frame(rack: Rack, memory: &mut [u8]) -> Rack {
+    show(
         rack,
         b"STT from 10.0.0.2, network 7, version 1",
         b"\x45\x00\x00\x48\x00\x00\x40\x00\x40\x06\x26\xae\x0a\x00\x00\x02\x0a\x00\x00\x01\
@@ -237,12 +237,27 @@ fn wrong_frames(rack: Rack, memory: &mut [u8]) -> Rack {
           \x01\x00\x00\x00\x00\x00\x00\x00\x00\x00\x00\x00\x00\x00\x00\x07\x00\x00\
           \x02\x00\x00\x00\x00\x02\x02\x00\x00\x00\x00\x01\x88\xb5",
         memory,
+    )
+}
+
+// An STT frame whose flags say both that the checksum was verified and that it is partial. They are about TCP and UDP: on any other frame they are ignored.
+fn both_flags(rack: Rack, memory: &mut [u8]) -> Rack {
+    let first = show(
+        rack,
+        b"STT from 10.0.0.2, network 7, flags 0x03, TCP over IPv4",
+        b"\x45\x00\x00\x70\x00\x00\x40\x00\x40\x06\x26\x86\x0a\x00\x00\x02\x0a\x00\x00\x01\
+          \xcc\x03\x1d\x2f\x00\x48\x00\x00\x00\x00\x00\x04\x50\x18\x00\x00\x27\x65\x00\x00\
+          \x00\x03\x00\x00\x00\x00\x00\x00\x00\x00\x00\x00\x00\x00\x00\x07\x00\x00\
+          \x02\x00\x00\x00\x00\x02\x02\x00\x00\x00\x00\x01\x08\x00\
+          \x45\x00\x00\x28\x00\x00\x40\x00\x40\x06\xb9\x7c\xc0\xa8\x00\x01\xc0\xa8\x00\x02\
+          \x9c\x40\x00\x50\x00\x00\x00\x01\x00\x00\x00\x00\x50\x02\x10\x00\x81\xfd\x00\x00",
+        memory,
     );
     show(
         first,
-        b"STT from 10.0.0.2, network 7, flags 0x03",
+        b"STT from 10.0.0.2, network 7, flags 0x03, neither TCP nor UDP",
         b"\x45\x00\x00\x48\x00\x00\x40\x00\x40\x06\x26\xae\x0a\x00\x00\x02\x0a\x00\x00\x01\
-          \xcc\xb8\x1d\x2f\x00\x20\x00\x00\x00\x00\x00\x04\x50\x18\x00\x00\x24\xdc\x00\x00\
+          \xcc\xb8\x1d\x2f\x00\x20\x00\x00\x00\x00\x00\x05\x50\x18\x00\x00\x24\xdb\x00\x00\
           \x00\x03\x00\x00\x00\x00\x00\x00\x00\x00\x00\x00\x00\x00\x00\x07\x00\x00\
           \x02\x00\x00\x00\x00\x02\x02\x00\x00\x00\x00\x01\x88\xb5",
         memory,
@@ -277,6 +292,7 @@ fn main() {
     let second = in_segments(first, &mut memory);
     let third = dropped(second, &mut memory);
     let fourth = wrong_headers(third, &mut memory);
-    let fifth = wrong_frames(fourth, &mut memory);
-    shown_twice(fifth, &mut memory);
+    let fifth = wrong_frame(fourth, &mut memory);
+    let sixth = both_flags(fifth, &mut memory);
+    shown_twice(sixth, &mut memory);
 }
