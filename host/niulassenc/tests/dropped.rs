@@ -48,13 +48,28 @@ fn nvgre() -> Vec<u8> {
     payload
 }
 
-/// An STT frame with T on Context ID 22, of this version and with these flags.
-fn stt(version: u8, flags: u8) -> Vec<u8> {
+/// An STT frame with an inner frame on Context ID 22, of this version and with these
+/// flags.
+fn stt_with(version: u8, flags: u8, inner: &[u8]) -> Vec<u8> {
     let mut frame = vec![
         version, flags, 0, 0, 0, 0, 0, 0, 0, 0, 0, 0, 0, 0, 0, 22, 0, 0,
     ];
-    frame.extend(T);
+    frame.extend(inner);
     frame
+}
+
+/// One with T, which is neither TCP nor UDP.
+fn stt(version: u8, flags: u8) -> Vec<u8> {
+    stt_with(version, flags, &T)
+}
+
+/// One with TCP over IPv4.
+fn stt_tcp(version: u8, flags: u8) -> Vec<u8> {
+    let mut inner = [0; 54];
+    inner[..12].copy_from_slice(&T[..12]);
+    inner[12..15].copy_from_slice(&[0x08, 0x00, 0x45]);
+    inner[23] = 6;
+    stt_with(version, flags, &inner)
 }
 
 /// The segment of a frame that has these of its bytes.
@@ -219,25 +234,43 @@ fn breaks_stt(frame: &[u8], refusal: Refusal, at: u8) {
 #[test]
 fn stt_frames() {
     breaks_stt(&stt(1, 0), Refusal::BadSttVersion, 0);
-    breaks_stt(&stt(0x80, 3), Refusal::BadSttVersion, 0);
-    breaks_stt(&stt(0, 3), Refusal::BadSttFlags, 1);
-    let unlisted = |version, flags| {
-        let mut frame = stt(version, flags);
+    breaks_stt(&stt_tcp(0x80, 3), Refusal::BadSttVersion, 0);
+    breaks_stt(&stt_tcp(0, 3), Refusal::BadSttFlags, 1);
+    // A network that is not listed, and a tagged frame: version and flags come first.
+    let unlisted = |mut frame: Vec<u8>| {
         frame[15] = 23;
-        frame[30..].copy_from_slice(&[0x81, 0]);
         frame
     };
-    breaks_stt(&unlisted(2, 0), Refusal::BadSttVersion, 0);
-    breaks_stt(&unlisted(0, 7), Refusal::BadSttFlags, 1);
+    let tagged = |mut frame: Vec<u8>| {
+        frame[30..32].copy_from_slice(&[0x81, 0]);
+        frame
+    };
+    breaks_stt(&unlisted(tagged(stt(2, 0))), Refusal::BadSttVersion, 0);
+    breaks_stt(&unlisted(stt_tcp(0, 7)), Refusal::BadSttFlags, 1);
+    // Behind a tag there is neither TCP nor UDP to be found, so the flags are ignored.
     let receiver = &mut Receiver::new();
-    let whole = |frame: Vec<u8>| ipv4(6, 1, &segment(&frame, 0..frame.len()));
+    receiver.gives(&whole(&tagged(stt_tcp(0, 3))), 13, 0);
+    receiver.gives(&whole(&unlisted(tagged(stt_tcp(0, 3)))), 12, 0);
+}
+
+/// A frame in one segment.
+fn whole(frame: &[u8]) -> Vec<u8> {
+    ipv4(6, 1, &segment(frame, 0..frame.len()))
+}
+
+/// Every value of version and flags. The flags are about TCP and UDP alone.
+#[test]
+fn stt_versions_and_flags() {
+    let receiver = &mut Receiver::new();
     for value in 0..=255 {
-        let (version, flags) = (whole(stt(value, 0)), whole(stt(0, value)));
+        let version = whole(&stt(value, 0));
         if value == 0 {
             receiver.gives(&version, 0, 0);
         } else {
             receiver.drops(&version, Refusal::BadSttVersion, Offset::SttFrame(0));
         }
+        receiver.gives(&whole(&stt(0, value)), 0, 0);
+        let flags = whole(&stt_tcp(0, value));
         if value & 3 == 3 {
             receiver.drops(&flags, Refusal::BadSttFlags, Offset::SttFrame(1));
         } else {
@@ -337,8 +370,8 @@ fn in_words() {
     assert_eq!(said(27, 63), gre_type);
     let version = "STT version wrong (28), at byte 0 of the STT frame";
     assert_eq!(said(28, 0), version);
-    let both = "STT flags both set (29), at byte 1 of the STT frame";
-    assert_eq!(said(29, 1), both);
+    let both = "STT checksum flags both set on a TCP or UDP frame (29)";
+    assert_eq!(said(29, 1), format!("{both}, at byte 1 of the STT frame"));
     assert_eq!(said(6, 0), "not for our address (6)");
     for code in (2..=24).chain(30..=255) {
         assert!(!said(code, 9).contains("byte"), "{code}");
