@@ -1,7 +1,7 @@
 /*
  * The library from C: an endpoint that delivers a VXLAN frame and an STT frame in two segments, what refusals leave, the byte that
- * a bad tunnel header is refused for, frames that its peer wraps and it unwraps, what ticks free, and its configuration saved and
- * loaded. It is C++ as well.
+ * a bad tunnel header is refused for, frames that its peer wraps and it unwraps, what an STT frame tells of the TCP or UDP header in
+ * it, what ticks free, and its configuration saved and loaded. It is C++ as well.
  * Each step prints a line; host/ctest/run compares them with demo.expected. Whatever a line cannot show is asserted.
  */
 #undef NDEBUG
@@ -97,18 +97,24 @@ static void bad_headers(struct niulassenc_endpoint *endpoint)
 {
     static const uint8_t gre[24 + 8] = {0x46, 0, 0, 46, 0, 0, 0x40, 0, 64, 47, 0, 0, 10, 0, 0, 1, 10, 0, 0, 2, 1, 1, 1, 1,
                                         0x20, 0, 0x65, 0x59, 0, 0x10, 0, 0};
-    uint8_t nvgre[sizeof gre + sizeof frame], stt[STT_HEADER + sizeof frame], packet[64];
+    uint8_t nvgre[sizeof gre + sizeof frame], stt[STT_HEADER + sizeof tcp_frame], packet[128];
 
     memcpy(nvgre, gre, sizeof gre);
     memcpy(nvgre + sizeof gre, frame, sizeof frame);
     put16(nvgre + 10, checksum(0, nvgre, 24));
     receive(endpoint, "NVGRE with type 0x6559", nvgre, sizeof nvgre);
 
-    stt_frame(stt, 0x0102030405060708, frame, sizeof frame);
+    stt_frame(stt, 0x0102030405060708, tcp_frame, sizeof tcp_frame);
     stt[1] = 3;
     receive(endpoint, "STT with both flags, first segment", packet, segment(packet, stt, sizeof stt, 0, 20, 78));
-    receive(endpoint, "STT with both flags, last segment", packet, segment(packet, stt, sizeof stt, 20, 12, 78));
+    receive(endpoint, "STT with both flags, last segment", packet, segment(packet, stt, sizeof stt, 20, sizeof stt - 20, 78));
     assert(memcmp(memory, stt, sizeof stt) == 0 && !endpoint->peers[0].slots[0].pending);
+
+    /* The flags are about TCP and UDP. T carries neither, so on it they are ignored. */
+    stt_frame(stt, 0x0102030405060708, frame, sizeof frame);
+    stt[1] = 3;
+    size_t length = segment(packet, stt, STT_HEADER + sizeof frame, 0, STT_HEADER + sizeof frame, 79);
+    receive(endpoint, "STT with both flags, neither TCP nor UDP", packet, length);
 }
 
 /* Wraps, and prints the answer. What is behind the packet stays as it came: all of the output, where the call is refused. */
@@ -131,15 +137,23 @@ static size_t wrap(const struct niulassenc_endpoint *sender, const char *what, u
     return wrote.length;
 }
 
-/* The peer wraps, and we unwrap: T on VNI 22, and a frame of 600 bytes that an MTU of 576 cuts in two. */
-static void wraps(struct niulassenc_endpoint *endpoint)
+/* The peer, with an MTU of 576: binding 0 is VXLAN, binding 1 STT. */
+static struct niulassenc_endpoint sending_peer(void)
 {
     struct niulassenc_endpoint sender = niulassenc_start(PEER, STT_PORT, 576).endpoint;
-    uint8_t large[600], out[2][580];
 
     assert(niulassenc_add_peer(&sender, OWN).code == NIULASSENC_DONE);
     assert(niulassenc_add_binding(&sender, 0, NIULASSENC_VXLAN, 22, 1).code == NIULASSENC_DONE);
     assert(niulassenc_add_binding(&sender, 0, NIULASSENC_STT, 0x0102030405060708, 2).code == NIULASSENC_DONE);
+    return sender;
+}
+
+/* The peer wraps, and we unwrap: T on VNI 22, and a frame of 600 bytes that an MTU of 576 cuts in two. */
+static void wraps(struct niulassenc_endpoint *endpoint)
+{
+    struct niulassenc_endpoint sender = sending_peer();
+    uint8_t large[600], out[2][580];
+
     size_t length = wrap(&sender, "wrap on VXLAN", 0, frame, sizeof frame, 0, out[0], sizeof out[0]);
     assert(length == sizeof vxlan && memcmp(out[0], vxlan, sizeof vxlan) == 0);
     receive(endpoint, "unwrap", out[0], length);
@@ -161,6 +175,18 @@ static void wraps(struct niulassenc_endpoint *endpoint)
     wrap(&sender, "wrap above the MTU", 0, large, 541, 0, out[0], sizeof out[0]);
     wrap(&sender, "wrap segment 2 of 2", 1, large, sizeof large, 2, out[0], sizeof out[0]);
     wrap(&sender, "wrap into 49 bytes", 0, frame, sizeof frame, 0, out[0], 49);
+}
+
+/* The STT header, at byte 40 of a frame's first packet, tells what the frame carries and where: flag 0x04 is IPv4, 0x08 is TCP. */
+static void hints(void)
+{
+    struct niulassenc_endpoint sender = sending_peer();
+    uint8_t out[580];
+
+    wrap(&sender, "wrap TCP on STT", 1, tcp_frame, sizeof tcp_frame, 0, out, sizeof out);
+    printf("STT header: flags 0x%02x, L4 offset %d\n", out[41], out[42]);
+    wrap(&sender, "wrap neither TCP nor UDP on STT", 1, frame, sizeof frame, 0, out, sizeof out);
+    printf("STT header: flags 0x%02x, L4 offset %d\n", out[41], out[42]);
 }
 
 /* How many frames are pending. */
@@ -274,6 +300,7 @@ int main(void)
     refusals(&endpoint);
     bad_headers(&endpoint);
     wraps(&endpoint);
+    hints();
     ticks(&endpoint, second, second_length);
     images(&endpoint);
     misfits();

@@ -52,6 +52,23 @@ static struct {
 } given;
 static uint8_t code;
 
+/* Makes the largest frame, which carries neither TCP nor UDP. */
+static void carry_neither(uint8_t *to)
+{
+    for (size_t i = 0; i < LARGEST_FRAME; i++)
+        to[i] = (uint8_t)i;
+    put16(to + 12, 0x88b5);
+}
+
+/* Makes it one that carries TCP (6) or UDP (17), over IPv4 behind the longest header or over IPv6. */
+static void carry(uint8_t *to, uint32_t type, uint8_t protocol)
+{
+    put16(to + 12, type);
+    to[14] = type == 0x0800 ? 0x4f : 0x60;
+    put16(to + 20, type == 0x0800 ? 0 : (uint32_t)protocol << 8);
+    to[23] = protocol;
+}
+
 static void start(void)
 {
     code = niulassenc_start(OWN, given.port, 1500).code;
@@ -304,10 +321,22 @@ static void complete(struct subject *subject, size_t at, uint8_t change, uint8_t
     measure(subject, expected);
 }
 
+/* Both checksum flags: refused on TCP and UDP frames, ignored on others. */
+static void both_flags(struct subject *subject)
+{
+    complete(subject, 1, 3, NIULASSENC_DONE);
+    carry(stt + STT_HEADER, 0x0800, 6);
+    complete(subject, 1, 3, NIULASSENC_BAD_STT_FLAGS);
+    complete(subject, 1, 1, NIULASSENC_DONE);
+    carry(stt + STT_HEADER, 0x86dd, 17);
+    complete(subject, 1, 3, NIULASSENC_BAD_STT_FLAGS);
+    carry_neither(stt + STT_HEADER);
+}
+
 static void stt_refusals(struct subject *subject)
 {
     complete(subject, 0, 1, NIULASSENC_BAD_STT_VERSION);
-    complete(subject, 1, 3, NIULASSENC_BAD_STT_FLAGS);
+    both_flags(subject);
     complete(subject, 8, 1, NIULASSENC_NO_BINDING);
     complete(subject, STT_HEADER + 13, TO_TAG, NIULASSENC_BAD_FRAME);
     piece(sizeof stt, 0, 500, IDENTIFIER);
@@ -362,6 +391,12 @@ static void wraps(struct subject *subject)
     wrap_on(subject, ON_NVGRE, 1472, 0, 1500, NIULASSENC_DONE);
     wrap_on(subject, ON_STT, sizeof inner, 0, 1500, NIULASSENC_DONE);
     wrap_on(subject, ON_STT, sizeof inner, 1, 1500, NIULASSENC_DONE);
+    carry(inner, 0x0800, 6);
+    wrap_on(subject, ON_STT, sizeof inner, 0, 1500, NIULASSENC_DONE);
+    wrap_on(subject, ON_STT, sizeof inner, 1, 1500, NIULASSENC_DONE);
+    carry(inner, 0x86dd, 17);
+    wrap_on(subject, ON_STT, sizeof inner, 0, 1500, NIULASSENC_DONE);
+    carry_neither(inner);
     wrap_on(subject, ON_STT, 13, 0, 1500, NIULASSENC_BAD_FRAME);
     wrap_on(subject, ON_VXLAN, 1464, 0, 1499, NIULASSENC_OUTPUT_TOO_SHORT);
     wrap_on(subject, ON_NVGRE, 1472, 0, 1499, NIULASSENC_OUTPUT_TOO_SHORT);
@@ -512,9 +547,7 @@ int main(int count, char **arguments)
     size_t of_start = strtoul(arguments[1], NULL, 10);
     size_t of_load = strtoul(arguments[2], NULL, 10);
     size_t of_others = strtoul(arguments[3], NULL, 10);
-    for (size_t i = 0; i < sizeof inner; i++)
-        inner[i] = (uint8_t)i;
-    put16(inner + 12, 0x88b5);
+    carry_neither(inner);
     stt_frame(stt, 22, inner, sizeof inner);
     list(8, 64);
     full = endpoint;
