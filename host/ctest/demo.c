@@ -1,7 +1,7 @@
 /*
  * The library from C: an endpoint that delivers a VXLAN frame and an STT frame in two segments, what refusals leave, the byte that
- * a bad tunnel header is refused for, frames that its peer wraps and it unwraps, what an STT frame tells of the TCP or UDP header in
- * it, what ticks free, and its configuration saved and loaded. It is C++ as well.
+ * a bad tunnel header is refused for, frames that its peer wraps and it unwraps, what an STT header tells of a TCP frame, what
+ * ticks free, and its configuration saved and loaded. It is C++ as well.
  * Each step prints a line; host/ctest/run compares them with demo.expected. Whatever a line cannot show is asserted.
  */
 #undef NDEBUG

@@ -10,6 +10,7 @@
  *   binding's owner;
  * - a refusal for a tunnel header names the first byte that breaks its rule, a good header has none, and every other answer has
  *   offset 0;
+ * - the first segment of a wrapped STT frame has the header that the inner frame asks for, its hints too;
  * - a detector answers what a search through its entries says, and only a new address changes it, by one entry;
  * - a saved image is the endpoint's numbers in their order, and loads again as the same configuration with no frame pending; a
  *   load accepts what a start and additions accept, and nothing else.
@@ -38,7 +39,8 @@ enum { MEMORY = NIULASSENC_MEMORY_BYTES, LONGEST = 2000, OWN = 0x0a000002, STT_P
 
 enum call { START, PEER, BINDING, RAW, BUILT, TICK, WRAP, CUT, OWNER, SOURCE, OBSERVE, SAVE, LOAD, CALLS };
 
-/* What the fuzzer looks at: each answer to each call, each number of pending frames, and the number of entries by eights. */
+/* What the fuzzer looks at: each answer to each call, the hints of wrapped STT frames, each number of pending frames, and the
+ * number of entries by eights. */
 enum { PENDING = CALLS * 32, ENTRIES = PENDING + NIULASSENC_PEERS * NIULASSENC_SLOTS + 1, COUNTERS = ENTRIES + 32 };
 __attribute__((section("__libfuzzer_extra_counters"))) static uint8_t counters[COUNTERS];
 
@@ -284,6 +286,34 @@ static void freed(const uint8_t *packet)
     CHECK(memcmp(&expected, endpoint, ENDPOINT_BYTES) == 0);
 }
 
+/* Where an inner frame has a TCP or UDP header, 0 where it has none, and what the flags of an STT frame say of it: 0x04 IPv4, 0x08
+ * TCP. */
+static size_t transport(const uint8_t *frame, size_t length, uint8_t *flags)
+{
+    bool four = length >= 34 && get(frame + 12, 2) == 0x0800 && frame[14] >= 0x45 && frame[14] <= 0x4f;
+    bool six = length >= 54 && get(frame + 12, 2) == 0x86dd && frame[14] >= 0x60 && frame[14] <= 0x6f;
+    size_t at = four ? 14 + 4 * (frame[14] - 0x40u) : 54;
+
+    *flags = 0;
+    if ((!four && !six) || at > length || (four && get(frame + 20, 2) % 0x2000 != 0))
+        return 0;
+    uint8_t protocol = frame[four ? 23 : 20];
+    if (protocol != 6 && protocol != 17)
+        return 0;
+    *flags = (uint8_t)((four ? 0x04 : 0) | (protocol == 6 ? 0x08 : 0));
+    return at;
+}
+
+/* What the header of a complete STT frame is refused with, 0 where it is good. The checksum flags count for TCP and UDP only. */
+static uint8_t judge_stt(const uint8_t *frame, size_t length)
+{
+    uint8_t flags;
+
+    if (frame[0] != 0)
+        return NIULASSENC_BAD_STT_VERSION;
+    return (frame[1] & 3) == 3 && transport(frame + 18, length - 18, &flags) != 0 ? NIULASSENC_BAD_STT_FLAGS : 0;
+}
+
 /* The code and offset that the tunnel header of a packet is refused with, which has passed all checks up to there, for STT the
  * reassembly too; 0 and 0 for a good header. */
 static void judge(const uint8_t *packet, uint8_t *code, size_t *offset)
@@ -302,8 +332,7 @@ static void judge(const uint8_t *packet, uint8_t *code, size_t *offset)
         *code = NIULASSENC_BAD_GRE_TYPE;
         *offset = header[2] != 0x65 ? at + 2 : at + 3;
     } else if (packet[9] == 6) {
-        const uint8_t *frame = memory + slot_of(packet) * NIULASSENC_SLOT_BYTES;
-        *code = frame[0] != 0 ? NIULASSENC_BAD_STT_VERSION : (frame[1] & 3) == 3 ? NIULASSENC_BAD_STT_FLAGS : 0;
+        *code = judge_stt(memory + slot_of(packet) * NIULASSENC_SLOT_BYTES, get(header + 4, 2));
         *offset = *code == NIULASSENC_BAD_STT_FLAGS;
     }
 }
@@ -380,6 +409,46 @@ static size_t add_options(uint8_t *packet, size_t length, size_t words)
     return length + 4 * words;
 }
 
+/* Gives a frame an IP header, as `which` says, now and then one that does not count: of another version, with another protocol, of
+ * a later fragment, or longer than the frame. */
+static void put_ip(uint8_t *frame, size_t length, uint32_t which)
+{
+    static const uint8_t protocols[4] = {6, 17, 6, 1};
+    uint8_t protocol = protocols[which >> 1 & 3];
+
+    if (length < 34)
+        return;
+    put16(frame + 12, which & 1 ? 0x0800 : 0x86dd);
+    frame[14] = (uint8_t)(which & 8 ? number(1) : which & 1 ? 0x45 + number(1) % 11 : 0x60);
+    put16(frame + 20, which & 16 ? number(2) : which & 1 ? which << 8 & 0xe000 : (uint32_t)protocol << 8);
+    frame[23] = protocol;
+}
+
+static void segment_header(uint8_t *packet, uint32_t frame_length, uint32_t offset)
+{
+    packet[9] = 6;
+    put16(packet + 22, STT_PORT);
+    put16(packet + 24, frame_length);
+    put16(packet + 26, offset);
+    put32(packet + 28, number(1) % 6);
+    packet[32] = 0x50;
+}
+
+/* Writes a segment of an STT frame that has an IP header: all of the frame, its first 56 bytes, or the rest. Gives the segment's
+ * length. */
+static size_t segment_with_ip(uint8_t *packet, bool both_flags)
+{
+    uint8_t frame[80] = {0};
+    uint32_t length = 70 + number(1) % 8, which = number(1) % 3, from = which == 2 ? 56 : 0, to = which == 1 ? 56 : length;
+
+    segment_header(packet, length, from);
+    frame[1] = both_flags ? 3 : (uint8_t)number(1);
+    bytes(frame + 18, number(1) % (length - 17));
+    put_ip(frame + 18, length - 18, number(1));
+    memcpy(packet + 40, frame + from, to - from);
+    return to - from;
+}
+
 /* Writes what a packet of one of the three kinds carries, a short frame or a segment, and gives the packet's length. */
 static size_t carried(uint8_t *packet, uint32_t protocol, bool both_flags)
 {
@@ -398,14 +467,12 @@ static size_t carried(uint8_t *packet, uint32_t protocol, bool both_flags)
         put16(packet + 25, 0x1000 >> 8);
         packet[26] = (uint8_t)number(1);
         length += 8 + bytes(packet + 28, number(1) % 80);
+    } else if (protocol == 2) {
+        length += 20 + segment_with_ip(packet, both_flags);
     } else {
-        packet[9] = 6;
-        put16(packet + 22, STT_PORT);
-        put16(packet + 24, protocol == 2 ? 32 + number(1) % 8 : number(2));
-        put16(packet + 26, protocol == 2 ? number(1) % 40 : number(2));
-        put32(packet + 28, number(1) % 6);
-        packet[32] = 0x50;
-        length += 20 + bytes(packet + 40, number(1) % (protocol == 2 ? 41 : 256));
+        uint32_t frame_length = protocol == 3 ? 32 + number(1) % 8 : number(2);
+        segment_header(packet, frame_length, protocol == 3 ? number(1) % 40 : number(2));
+        length += 20 + bytes(packet + 40, number(1) % (protocol == 3 ? 41 : 256));
         if (both_flags) /* where the segment is the frame's first */
             put16(packet + 40, 3);
     }
@@ -417,7 +484,7 @@ static void built(void)
 {
     uint8_t packet[LONGEST] = {0x45, 0, 0, 0, 0, 0, 0x40, 0, 64};
     uint32_t which = number(1);
-    size_t length = carried(packet, number(1) % 4, which & 64), words = which & 32 ? number(1) % 11 : 0;
+    size_t length = carried(packet, number(1) % 5, which & 64), words = which & 32 ? number(1) % 11 : 0;
 
     mend(packet, length, 1 | 2 | which << 5);
     length = add_options(packet, length, words);
@@ -476,14 +543,31 @@ static void tick(void)
             CHECK(endpoint->peers[peer].slots[slot].age < NIULASSENC_TICKS);
 }
 
+/* The first segment of an STT frame: what stands behind the IPv4 and the TCP header is the frame's own, from its version on. */
+static void wrapped_stt(uint32_t binding, const uint8_t *frame, size_t length, const uint8_t *packet, size_t packet_length)
+{
+    uint8_t expected[18 + NIULASSENC_FRAME_MAX] = {0};
+
+    expected[2] = (uint8_t)transport(frame, length, &expected[1]);
+    put32(expected + 8, (uint32_t)(endpoint->networks[binding] >> 32));
+    put32(expected + 12, (uint32_t)endpoint->networks[binding]);
+    memcpy(expected + 18, frame, length);
+    CHECK(packet_length > 40 && packet_length - 40 <= 18 + length);
+    CHECK(memcmp(expected, packet + 40, packet_length - 40) == 0);
+    count(WRAP, (uint8_t)(24 + (expected[2] != 0) + expected[1] / 4)); /* the five kinds of hints, behind the codes */
+}
+
 static void wrap(void)
 {
     uint32_t which = number(1), binding = which & 1 ? number(4) : number(1) % 8, segment = which & 2 ? number(4) : which >> 6;
-    size_t length = number(2) % 1600, room = which & 4 ? number(2) % (LONGEST + 1) : LONGEST;
+    size_t length = which & 16 ? 33 + number(1) % 44 : number(2) % 1600; /* the longest IPv4 header ends at 74 */
+    size_t room = which & 4 ? number(2) % (LONGEST + 1) : LONGEST;
     uint8_t *frame = part(packet_pages, length, at_end), *output = part(output_pages, room, at_end);
 
     for (size_t i = 0; i < length; i++)
         frame[i] = (uint8_t)(i + which);
+    if (which & 8)
+        put_ip(frame, length, number(1));
     memcpy(lent_before, frame, length);
     memset(output, 0xa5, room);
     remember();
@@ -497,6 +581,8 @@ static void wrap(void)
     CHECK(got.segments <= NIULASSENC_SEGMENTS_MAX && (got.segments == 0 || segment < got.segments));
     for (size_t i = got.length; i < room; i++)
         CHECK(output[i] == 0xa5);
+    if (got.code == NIULASSENC_DONE && endpoint->kinds[binding] == NIULASSENC_STT && segment == 0)
+        wrapped_stt(binding, frame, length, output, got.length);
 }
 
 static void cut(void)

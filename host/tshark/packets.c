@@ -1,9 +1,9 @@
 /*
- * Writes a capture (pcap, IPv4 packets) to standard output: inner frames of many kinds that the library wraps on STT bindings, each on a
- * Context ID of its own, for tshark to read. What tshark must say of each is in packets.expected, in the same order.
+ * Writes a capture (pcap, IPv4 packets) to standard output: inner frames of many kinds that the library wraps on STT bindings, each
+ * on a Context ID of its own, for tshark to read. What tshark must say of each is in packets.expected, in the same order.
  *
- * The inner frames have right lengths and checksums, as draft-davie-stt-06, 3.1, wants them, but for the one that is cut off. No last
- * segment has 20 bytes or fewer: tshark (4.0) counts the TCP header as data, and takes such a frame for complete before it comes.
+ * The inner frames have right lengths and checksums, as draft-davie-stt-06, 3.1, wants them, but for the one that is cut off. No
+ * last segment has 20 bytes or fewer: tshark (4.0) counts the TCP header as data, and takes such a frame for complete too early.
  */
 #include <stdio.h>
 #include <stdlib.h>
@@ -71,8 +71,8 @@ static uint32_t sum(uint32_t from, const uint8_t *bytes, size_t length)
     return from;
 }
 
-/* A header of TCP, UDP, ICMP or ICMPv6 in the first of `length` bytes, with a checksum over all of them. `pseudo` is the sum of the two
- * addresses. */
+/* A header of TCP, UDP, ICMP or ICMPv6 in the first of `length` bytes, with a checksum over all of them. `pseudo` is the sum of the
+ * two addresses. */
 static void transport(uint8_t *at, size_t length, uint8_t protocol, uint32_t pseudo)
 {
     size_t field = protocol == TCP ? 16 : protocol == UDP ? 6 : 2;
@@ -88,8 +88,8 @@ static void transport(uint8_t *at, size_t length, uint8_t protocol, uint32_t pse
     put16(at + field, ~sum(protocol == ICMP ? 0 : pseudo + protocol + (uint32_t)length, at, length));
 }
 
-/* IPv4 from 192.0.2.1 to 192.0.2.2. Only where the fragment offset is 0 there is a transport header. That of a first fragment has the
- * checksum of this fragment alone; nobody can verify it. */
+/* IPv4 from 192.0.2.1 to 192.0.2.2. Only where the fragment offset is 0 there is a transport header. That of a first fragment has
+ * the checksum of this fragment alone; nobody can verify it. */
 static void ipv4(uint8_t *at, size_t length, const struct inner *of)
 {
     size_t header = 4 * of->words;
