@@ -1,12 +1,12 @@
 //! What is measured.
 
+use crate::frames::{inner, over_ip, tcp_over_ipv4};
 use crate::sides::Side;
 use crate::table::whole;
 use niulassenc_reference::Endpoint;
 use vectors::directed::{NVGRE, OWN, PEER_A, PORT, STT, VXLAN};
 use vectors::image::{Bound, Image};
 use vectors::packet::{self, Label, Path};
-use vectors::prng::Prng;
 
 /// The lengths of the inner frames.
 const INNER: [usize; 2] = [64, 1514];
@@ -162,17 +162,18 @@ impl Case {
     }
 }
 
-/// An inner frame whose type is no tag.
-fn inner(length: usize) -> Vec<u8> {
-    let mut frame = Prng::new(length as u64).bytes(length);
-    frame[12] = 0x08;
-    frame
-}
-
 fn segment(length: usize, from: usize, to: usize) -> Vec<u8> {
     let frame = packet::stt_frame(NETWORK, &inner(length));
     let label = Label::new(PORT, 5, frame.len(), from);
     packet::segment(FROM_PEER, label, &frame[from..to])
+}
+
+/// An STT frame in one segment, with the two flags set that exclude each other.
+fn both_flags(inner: &[u8]) -> Vec<u8> {
+    let mut frame = packet::stt_frame(NETWORK, inner);
+    frame[1] = 0x03;
+    let label = Label::new(PORT, 5, frame.len(), 0);
+    packet::segment(FROM_PEER, label, &frame)
 }
 
 fn vxlan(length: usize) -> Vec<u8> {
@@ -213,6 +214,11 @@ fn deliveries(cases: &mut Vec<Case>) {
             cases.push(delivery("STT in one segment", STT, whole));
         }
     }
+    // Without a transport header it is delivered; with one it is refusal 29.
+    let name = "STT in one segment, both flags, inner 64, 64 bindings";
+    let flagged = both_flags(&inner(64));
+    let full = Listing::Full;
+    cases.push(Case::receive(name.to_string(), STT, full, 0, flagged));
 }
 
 /// A frame of 1,532 bytes in two segments: after the first it is pending, the
@@ -263,8 +269,7 @@ fn refusals(cases: &mut Vec<Case>) {
     let nvgre = packet::nvgre(FROM_PEER, NETWORK as u32, &inner(64));
     let mistyped = packet::with_byte(&nvgre, 23, 0x59);
     push(27, "GRE protocol type", NVGRE, mistyped);
-    // The STT frame begins behind the 40 bytes of both headers.
-    let flagged = packet::with_byte(&segment(64, 0, 82), 41, 0x03);
+    let flagged = both_flags(&tcp_over_ipv4(64));
     push(29, "STT flags, in one segment", STT, flagged);
 }
 
@@ -286,16 +291,22 @@ fn ticks(cases: &mut Vec<Case>) {
     });
 }
 
+/// What an STT frame says of its transport header is found in the inner frame.
 fn wraps(cases: &mut Vec<Case>) {
+    let mut push = |name: String, kind, frame| {
+        let case = Case::receive(name, kind, Listing::Full, 0, Vec::new());
+        cases.push(Case {
+            call: Call::Wrap(frame),
+            ..case
+        });
+    };
     for (kind, name) in [(VXLAN, "VXLAN"), (NVGRE, "NVGRE"), (STT, "STT")] {
         for length in INNER {
-            let name = format!("wrap {name}, inner {length}");
-            let case = Case::receive(name, kind, Listing::Full, 0, Vec::new());
-            cases.push(Case {
-                call: Call::Wrap(inner(length)),
-                ..case
-            });
+            push(format!("wrap {name}, inner {length}"), kind, inner(length));
         }
+    }
+    for (transport, frame) in over_ip(64) {
+        push(format!("wrap STT, inner 64, {transport}"), STT, frame);
     }
 }
 

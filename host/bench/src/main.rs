@@ -5,6 +5,7 @@
 
 mod callgrind;
 mod cases;
+mod frames;
 mod measure;
 mod sides;
 mod table;
