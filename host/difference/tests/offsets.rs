@@ -3,10 +3,12 @@
 //! and STT frames cut in every way that parts their first two bytes. Each answer is
 //! held to the reference's, and to rules that go byte by byte and are written here
 //! from the section's text (`offsets/rules.rs`): a mistake that library and reference
-//! share would show too.
+//! share would show too. Which frames give 29 is `hints.rs`'s matter.
 
 #[path = "offsets/gre.rs"]
 mod gre;
+#[path = "hints/look.rs"]
+mod look;
 #[path = "offsets/others.rs"]
 mod others;
 #[path = "offsets/rules.rs"]

@@ -1,7 +1,7 @@
 //! Every answer that names no byte, right behind one that does.
 
 use crate::rules::{of_frame, of_packet, Verdict};
-use crate::sides::{Sides, ID, OPTIONS};
+use crate::sides::{Sides, ID, OPTIONS, WITH_TCP};
 use vectors::directed::{ENOUGH, FROM_A, PORT};
 use vectors::packet::{self, with_byte, with_ip_options, with_word, Label, T};
 
@@ -64,9 +64,9 @@ fn named(words: u8) -> Vec<(Verdict, Vec<u8>)> {
         .map(|packet| (of_packet(&packet, 0), packet))
         .collect();
     for fault in [[1, 3], [0, 3]] {
-        let mut frame = packet::stt_frame(ID.into(), &T);
+        let mut frame = packet::stt_frame(ID.into(), &WITH_TCP);
         frame[..2].copy_from_slice(&fault);
-        let packet = with_ip_options(&segment(8, 32, 0, &frame), words);
+        let packet = with_ip_options(&segment(8, frame.len(), 0, &frame), words);
         named.push((of_frame(&frame, 0), packet));
     }
     named

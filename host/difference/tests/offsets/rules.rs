@@ -1,6 +1,8 @@
 //! The rules of the tunnel headers, one for each byte that has one, and the first byte
 //! that breaks its own.
 
+use crate::look::look;
+
 /// What a byte must be.
 pub struct Rule {
     /// Its place, counted from the first byte behind the IPv4 header, or of the STT
@@ -41,6 +43,7 @@ pub const GRE: [Rule; 4] = [
     },
 ];
 
+/// The second holds for a frame with a transport header alone.
 pub const STT: [Rule; 2] = [
     Rule {
         at: 0,
@@ -93,5 +96,7 @@ pub fn of_packet(packet: &[u8], otherwise: u8) -> Verdict {
 
 /// The answer to the segment that completes an STT frame.
 pub fn of_frame(frame: &[u8], otherwise: u8) -> Verdict {
-    first(&STT, frame, 0, otherwise)
+    let has_transport = look(&frame[18..]).is_some();
+    let rules = if has_transport { &STT[..] } else { &STT[..1] };
+    first(rules, frame, 0, otherwise)
 }

@@ -11,6 +11,12 @@ use vectors::driver::memory_contents;
 /// The network that the peer has of every kind.
 pub const ID: u32 = 0x00C0_FFEE;
 
+/// The papers' inner frame with TCP over IPv4, so that both flags in front of it are 29.
+pub const WITH_TCP: [u8; 34] = [
+    2, 0, 0, 0, 0, 2, 2, 0, 0, 0, 0, 1, 0x08, 0x00, // Ethernet
+    0x45, 0, 0, 20, 0, 0, 0x40, 0, 64, 6, 0, 0, 10, 0, 0, 1, 10, 0, 0, 2, // IPv4
+];
+
 /// Words of options that an IPv4 header may have.
 pub const OPTIONS: std::ops::RangeInclusive<u8> = 0..=10;
 

@@ -1,7 +1,8 @@
 //! STT: the two bytes that a frame begins with, in whichever segments they come.
 
+use crate::look::look;
 use crate::rules::{of_frame, Verdict};
-use crate::sides::{Sides, ID};
+use crate::sides::{Sides, ID, WITH_TCP};
 use vectors::directed::{FROM_A, PORT};
 use vectors::packet::{self, header_length, Label, T};
 
@@ -79,9 +80,10 @@ fn every_pair(slot: usize, frame: &mut [u8], parts: &mut [Segment], otherwise: u
         assert!(stored == frame, "{pair:#06x}: the last segment is stored");
     }
     sides.check();
+    let refused = if look(&frame[18..]).is_some() { 64 } else { 0 };
     assert_eq!(sides.codes[28], 255 * 256);
-    assert_eq!(sides.codes[29], 64);
-    assert_eq!(sides.codes[usize::from(otherwise)], 192);
+    assert_eq!(sides.codes[29], refused);
+    assert_eq!(sides.codes[usize::from(otherwise)], 256 - refused);
 }
 
 const TWO: [&[usize]; 2] = [&[0, 1], &[1, 0]];
@@ -96,30 +98,32 @@ const THREE: [&[usize]; 6] = [
 
 fn every_pair_cut(cuts: &[usize], orders: &[&[usize]]) {
     for (number, order) in orders.iter().enumerate() {
-        let mut frame = frame(ID.into(), &T);
+        let mut frame = frame(ID.into(), &WITH_TCP);
         let mut parts = segments(7, &frame, cuts, order);
         let slot = (number + cuts[0]) % 4;
         every_pair(slot, &mut frame, &mut parts, 0);
     }
 }
 
-/// In every slot; and with no binding, with a tag, and with both.
+/// In every slot; and with no binding, with a tag, with both, and without a transport
+/// header.
 #[test]
 fn every_version_and_flags_in_one_segment() {
-    let mut tagged = T;
-    tagged[12..].copy_from_slice(&[0x81, 0x00]);
+    let mut tagged = WITH_TCP;
+    tagged[12..14].copy_from_slice(&[0x81, 0x00]);
     let bound = u64::from(ID);
     for (slot, (otherwise, mut frame)) in [
-        (0, frame(bound, &T)),
-        (12, frame(bound ^ 1, &T)),
+        (0, frame(bound, &WITH_TCP)),
+        (12, frame(bound ^ 1, &WITH_TCP)),
         (13, frame(bound, &tagged)),
         (12, frame(bound ^ 1, &tagged)),
+        (0, frame(bound, &T)),
     ]
     .into_iter()
     .enumerate()
     {
         let mut parts = segments(7, &frame, &[], &[0]);
-        every_pair(slot, &mut frame, &mut parts, otherwise);
+        every_pair(slot % 4, &mut frame, &mut parts, otherwise);
     }
 }
 
@@ -149,7 +153,7 @@ const FAULTS: [[u8; 2]; 4] = [[1, 0], [0, 3], [0xFF, 0xFF], [0, 2]];
 #[test]
 fn frames_beside_each_other() {
     let frames = FAULTS.map(|fault| {
-        let mut frame = frame(ID.into(), &T);
+        let mut frame = frame(ID.into(), &WITH_TCP);
         frame[..2].copy_from_slice(&fault);
         frame
     });
@@ -177,7 +181,8 @@ fn frames_beside_each_other() {
 /// A segment that is refused changes nothing: what counts are the bytes received first.
 #[test]
 fn refused_segments_do_not_count() {
-    let good = frame(ID.into(), &T);
+    let good = frame(ID.into(), &WITH_TCP);
+    let length = good.len();
     for fault in FAULTS {
         let mut bad = good.clone();
         bad[..2].copy_from_slice(&fault);
@@ -186,10 +191,10 @@ fn refused_segments_do_not_count() {
             let part = |frame: &[u8], from, to| Segment::new(1, frame, from, to, 0).packet;
             sides.receive(&part(first, 0, 2), HELD);
             sides.receive(&part(second, 0, 2), Verdict::of(16));
-            sides.receive(&part(second, 1, 32), Verdict::of(16));
+            sides.receive(&part(second, 1, length), Verdict::of(16));
             let longer = [&second[..], &[0]].concat();
-            sides.receive(&part(&longer, 2, 33), Verdict::of(15));
-            sides.receive(&part(second, 2, 32), of_frame(first, 0));
+            sides.receive(&part(&longer, 2, length + 1), Verdict::of(15));
+            sides.receive(&part(second, 2, length), of_frame(first, 0));
             sides.check();
         }
     }
