@@ -1,6 +1,6 @@
 //! Inner frames.
 
-use vectors::packet::{put16, TCP, UDP};
+use vectors::packet::{put_ipv4, put_ipv6, TCP, UDP};
 use vectors::prng::Prng;
 
 /// A frame whose type is no tag and no IP.
@@ -11,21 +11,15 @@ pub fn inner(length: usize) -> Vec<u8> {
     frame
 }
 
-/// A frame with an IPv4 header of so many words, no fragment.
 fn ipv4(length: usize, words: u8, protocol: u8) -> Vec<u8> {
     let mut frame = inner(length);
-    put16(&mut frame, 12, 0x0800);
-    frame[14] = 0x40 | words;
-    put16(&mut frame, 20, 0x4000);
-    frame[23] = protocol;
+    put_ipv4(&mut frame, words, protocol);
     frame
 }
 
 fn ipv6(length: usize, next_header: u8) -> Vec<u8> {
     let mut frame = inner(length);
-    put16(&mut frame, 12, 0x86DD);
-    frame[14] = 0x60;
-    frame[20] = next_header;
+    put_ipv6(&mut frame, next_header);
     frame
 }
 

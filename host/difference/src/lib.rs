@@ -36,6 +36,11 @@ pub struct Counts {
     pub saves: [u64; 2],
     /// Loads that gave an endpoint, and those that were refused.
     pub loads: [u64; 2],
+    /// First segments of STT frames that were written: with the hints of TCP and UDP over
+    /// IPv4, of TCP and UDP over IPv6, and with none.
+    pub hints: [u64; 5],
+    /// STT frames that were delivered with both flags set.
+    pub both_flags: u64,
 }
 
 impl Counts {
@@ -44,17 +49,57 @@ impl Counts {
         self.observed.iter().sum()
     }
 
+    /// One more call, with its code or a detector's answer.
+    fn note(&mut self, record: &Record, code: u8, pair: &Pair) {
+        self.calls += 1;
+        match record {
+            Record::Receive { .. } => {
+                self.receives += 1;
+                self.codes[usize::from(code)] += 1;
+                let both = |flags| flags & 0x03 == 0x03;
+                self.both_flags += u64::from(pair.delivered_flags.is_some_and(both));
+            }
+            Record::Wrap { .. } => {
+                if let Some(hints) = pair.written_hints {
+                    self.hints[number_of_hints(hints)] += 1;
+                }
+            }
+            Record::Observe { .. } => {
+                self.observed[usize::from(code)] += 1;
+                let last = code == 0 && pair.entries() == ENTRIES;
+                self.full_detectors += u64::from(last);
+            }
+            Record::Save { .. } => self.saves[usize::from(code != 0)] += 1,
+            Record::Load { .. } => self.loads[usize::from(code != 0)] += 1,
+            _ => {}
+        }
+    }
+
     pub fn add(&mut self, other: &Counts) {
         self.calls += other.calls;
         self.receives += other.receives;
         self.full_detectors += other.full_detectors;
+        self.both_flags += other.both_flags;
         let sums = self.codes.iter_mut().chain(&mut self.observed);
         let sums = sums.chain(&mut self.saves).chain(&mut self.loads);
+        let sums = sums.chain(&mut self.hints);
         let counts = other.codes.iter().chain(&other.observed);
         let counts = counts.chain(&other.saves).chain(&other.loads);
+        let counts = counts.chain(&other.hints);
         for (sum, count) in sums.zip(counts) {
             *sum += count;
         }
+    }
+}
+
+/// The place of flags and L4 offset in [`Counts::hints`].
+fn number_of_hints(hints: [u8; 2]) -> usize {
+    match hints {
+        [0x0C, _] => 0,
+        [0x04, _] => 1,
+        [0x08, _] => 2,
+        [_, 54] => 3,
+        _ => 4,
     }
 }
 
@@ -76,21 +121,7 @@ pub fn compare(run: &[Record]) -> Result<Counts, Difference> {
         let code = catch_unwind(AssertUnwindSafe(|| pair.call(record)))
             .unwrap_or_else(|_| Err("the reference panicked".to_string()))
             .map_err(|what| Difference { at, what })?;
-        counts.calls += 1;
-        match record {
-            Record::Receive { .. } => {
-                counts.receives += 1;
-                counts.codes[usize::from(code)] += 1;
-            }
-            Record::Observe { .. } => {
-                counts.observed[usize::from(code)] += 1;
-                let last = code == 0 && pair.entries() == ENTRIES;
-                counts.full_detectors += u64::from(last);
-            }
-            Record::Save { .. } => counts.saves[usize::from(code != 0)] += 1,
-            Record::Load { .. } => counts.loads[usize::from(code != 0)] += 1,
-            _ => {}
-        }
+        counts.note(record, code, &pair);
     }
     Ok(counts)
 }

@@ -68,6 +68,14 @@ fn report(name: &str, counts: &Counts, begun: Instant) {
         let ([saved, unsaved], [loaded, bad]) = (counts.saves, counts.loads);
         println!("  saves: {saved}, refused: {unsaved}; loads: {loaded}, refused: {bad}");
     }
+    if counts.hints != [0; 5] {
+        let [tcp4, udp4, tcp6, udp6, none] = counts.hints;
+        print!("  hints written: TCP and UDP over IPv4: {tcp4}, {udp4}");
+        println!("; over IPv6: {tcp6}, {udp6}; none: {none}");
+    }
+    if counts.both_flags > 0 {
+        println!("  delivered with both flags: {}", counts.both_flags);
+    }
     if counts.observations() > 0 {
         let [new, known, duplicate, full] = counts.observed;
         let detectors = counts.full_detectors;

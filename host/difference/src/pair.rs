@@ -9,6 +9,7 @@ use niulassenc::numbers::RawDetector;
 use niulassenc_reference as reference;
 use std::fmt::Debug;
 use vectors::driver::{flat, memory_contents};
+use vectors::packet;
 use vectors::record::Record;
 
 /// The two endpoints, the memory lent to each, and the last packet. The two
@@ -21,6 +22,10 @@ pub struct Pair {
     library_memory: Lent,
     reference_memory: Vec<u8>,
     last_packet: Vec<u8>,
+    /// The flags of the STT frame that the last receive delivered.
+    pub delivered_flags: Option<u8>,
+    /// Flags and L4 offset in the STT header that the last wrap wrote.
+    pub written_hints: Option<[u8; 2]>,
 }
 
 /// Says what differs.
@@ -86,6 +91,8 @@ impl Pair {
             library_memory: Lent::new(&[]),
             reference_memory: Vec::new(),
             last_packet: Vec::new(),
+            delivered_flags: None,
+            written_hints: None,
         }
     }
 
@@ -194,6 +201,10 @@ impl Pair {
         )?;
         self.delivered(&receipt, &expected)?;
         same("packet", packet, &self.last_packet[..])?;
+        let from_memory = receipt.code == 0 && receipt.place.in_memory;
+        // The second of the 18 bytes in front of the frame.
+        let flags = || self.library_memory.contents()[receipt.place.start - 17];
+        self.delivered_flags = from_memory.then(flags);
         Ok(receipt.code)
     }
 
@@ -302,6 +313,9 @@ impl Pair {
         same("length", wrapped.length, expected.length)?;
         same("segments", wrapped.segments, expected.segments)?;
         lent.check("output", &output)?;
+        // The STT header is in the first segment, behind the 40 bytes of two others.
+        let is_first = wrapped.code == 0 && output[9] == packet::TCP && *segment == 0;
+        self.written_hints = is_first.then(|| [output[41], output[42]]);
         Ok(wrapped.code)
     }
 

@@ -20,10 +20,14 @@ const ID: u64 = 0x00C0_FFEE;
 /// the inner frame's up to its type.
 const HEADERS: usize = 20 + 20 + 18 + 14;
 
+/// Where the STT frame of a packet without options begins.
+const STT_FRAME: usize = 20 + 20;
+
 pub fn all(seed: u64) -> Vec<Sweep> {
     let prng = &mut Prng::new(seed);
     let sweeps = [
         ("every value of every header byte", header_bytes(prng)),
+        ("every value behind both flags", behind_both_flags(prng)),
         ("every length", lengths(prng)),
         ("every frame length of a segment", frame_lengths(prng)),
         ("every offset of a segment", offsets(prng)),
@@ -87,12 +91,20 @@ fn packets(inner: &[u8]) -> [Vec<u8>; 4] {
     ]
 }
 
-/// An inner frame whose type is no tag.
+/// Bytes up to the end of an IPv6 header, which reach behind all that an IPv4 header
+/// says of itself.
+const TO_TRANSPORT: usize = 14 + 40;
+
+/// An inner frame whose type is no tag. Half of them have an IP header, as far as it fits.
 fn inner(prng: &mut Prng, length: usize) -> Vec<u8> {
-    let mut frame = prng.bytes(length);
-    if let Some(byte) = frame.get_mut(12) {
-        *byte = 0x08;
+    let mut frame = prng.bytes(length.max(TO_TRANSPORT));
+    let transport = prng.pick(&[packet::TCP, packet::UDP]);
+    match prng.below(4) {
+        0 => packet::put_ipv4(&mut frame, prng.between(5, 15) as u8, transport),
+        1 => packet::put_ipv6(&mut frame, transport),
+        _ => frame[12] = 0x08,
     }
+    frame.truncate(length);
     frame
 }
 
@@ -117,6 +129,34 @@ fn header_bytes(prng: &mut Prng) -> Vec<Record> {
             }
             run.extend([Record::Tick, Record::Tick]);
         }
+    }
+    run
+}
+
+/// Every value of every byte of STT frames with both flags that have a transport header,
+/// and of one that has none. The IP headers just end with their frames.
+fn behind_both_flags(prng: &mut Prng) -> Vec<Record> {
+    let mut run = set_up(prng);
+    let mut frames = [
+        prng.bytes(TO_TRANSPORT),
+        prng.bytes(TO_TRANSPORT),
+        prng.bytes(TO_TRANSPORT),
+    ];
+    packet::put_ipv4(&mut frames[0], 10, packet::TCP);
+    packet::put_ipv6(&mut frames[1], packet::UDP);
+    packet::put16(&mut frames[2], 12, 0x0806);
+    for inner in frames {
+        let [.., packet] = packets(&inner);
+        let packet = packet::with_byte(&packet, STT_FRAME + 1, 0x03);
+        for at in STT_FRAME..packet.len() {
+            run.extend((0..=255).map(|value| receive(packet::with_byte(&packet, at, value))));
+        }
+        // One byte less than an IP header has.
+        run.push(receive(packet::edited(&packet, |copy| {
+            copy.pop();
+            packet::put16(copy, 2, packet.len() as u16 - 1);
+            packet::put16(copy, 24, 18 + TO_TRANSPORT as u16 - 1);
+        })));
     }
     run
 }

@@ -20,6 +20,9 @@ fn sweeps_show_no_difference() {
         counts.add(&expect(check(sweep.name, &sweep.run)));
     }
     assert!(counts.receives > 300_000);
+    hints_were_given(&counts, 500);
+    let of_both_flags = [counts.codes[29], counts.both_flags];
+    assert!(of_both_flags.iter().all(|&count| count > 15_000));
 }
 
 /// Numbers around the bounds of what a slice has, and near the largest, which
@@ -83,6 +86,7 @@ fn directed_cases_show_no_difference() {
     every_answer_was_given(&counts, 5);
     every_observation_was_given(&counts, 100);
     saves_and_loads_were_made(&counts, 40);
+    hints_were_given(&counts, 5);
 }
 
 #[test]
@@ -91,6 +95,7 @@ fn a_million_random_receives_show_no_difference() {
     assert!(counts.receives >= 1_000_000);
     every_answer_was_given(&counts, 1000);
     saves_and_loads_were_made(&counts, 1000);
+    hints_were_given(&counts, 500);
 }
 
 /// Every number of a detector is compared after every one of them.
@@ -133,6 +138,13 @@ fn every_observation_was_given(counts: &Counts, least: u64) {
     for (name, count) in names.iter().zip(counts.observed) {
         assert!(count >= least, "{name} came {count} times");
     }
+}
+
+/// Each of the four that a wrap may write, and none; and both flags were seen on frames
+/// without a transport header.
+fn hints_were_given(counts: &Counts, least: u64) {
+    let given = counts.hints.iter().chain([&counts.both_flags]);
+    assert!(given.clone().all(|&count| count >= least), "{counts:?}");
 }
 
 /// A comparison says little about an answer that never came.
