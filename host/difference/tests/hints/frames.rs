@@ -56,15 +56,14 @@ pub fn with_transport(prng: &mut Prng) -> Vec<Vec<u8>> {
     frames
 }
 
-/// Frames without one, each by one fault.
+/// Frames without one, by one fault each.
 pub fn without_transport(prng: &mut Prng) -> Vec<Vec<u8>> {
     const ICMP: u8 = 1;
-    const FRAGMENT_HEADER: u8 = 44;
     let mut later_fragment = ipv4(prng, 60, 5, TCP);
     later_fragment[21] = 1;
     let mut mistyped = ipv4(prng, 60, 5, UDP);
     put(&mut mistyped, 12, &IPV6.to_be_bytes());
-    vec![
+    let mut frames = vec![
         frame(prng, 14, IPV4),
         frame(prng, 60, 0x0806),
         ipv4(prng, 33, 5, TCP),
@@ -75,6 +74,23 @@ pub fn without_transport(prng: &mut Prng) -> Vec<Vec<u8>> {
         mistyped,
         ipv6(prng, 53, TCP),
         ipv6(prng, 53, UDP),
-        ipv6(prng, 80, FRAGMENT_HEADER),
-    ]
+    ];
+    frames.extend(further_in(prng));
+    frames
+}
+
+/// Frames whose transport header stands where no look goes: behind each extension header
+/// of IPv6, which says that TCP follows, and behind an LLC header that says IPv4.
+fn further_in(prng: &mut Prng) -> Vec<Vec<u8>> {
+    let mut frames = Vec::new();
+    for extension in [0, 43, 44, 51, 60, 135] {
+        let mut frame = ipv6(prng, 90, extension);
+        put(&mut frame, 54, &[TCP, 0]);
+        frames.push(frame);
+    }
+    let packet = ipv4(prng, 60, 5, TCP).split_off(14);
+    let mut frame = frame(prng, 22, 8 + packet.len() as u16);
+    put(&mut frame, 14, &[0xAA, 0xAA, 3, 0, 0, 0, 0x08, 0x00]);
+    frames.push([frame, packet].concat());
+    frames
 }
