@@ -86,7 +86,7 @@ fn directed_cases_show_no_difference() {
     every_answer_was_given(&counts, 5);
     every_observation_was_given(&counts, 100);
     saves_and_loads_were_made(&counts, 40);
-    hints_were_given(&counts, 5);
+    hints_were_given(&counts, 3);
 }
 
 #[test]
@@ -95,7 +95,7 @@ fn a_million_random_receives_show_no_difference() {
     assert!(counts.receives >= 1_000_000);
     every_answer_was_given(&counts, 1000);
     saves_and_loads_were_made(&counts, 1000);
-    hints_were_given(&counts, 500);
+    hints_were_given(&counts, 5000);
 }
 
 /// Every number of a detector is compared after every one of them.
