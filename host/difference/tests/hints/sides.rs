@@ -45,10 +45,19 @@ impl Sides {
     }
 
     pub fn of_mtu(mtu: u16) -> Sides {
-        let mut library = numbers::Endpoint::start(OWN, PORT.into(), mtu.into()).0;
-        let mut reference = reference::Endpoint::start(OWN, PORT.into(), mtu.into()).0;
-        library.add_peer(FROM_A.from);
-        reference.add_peer(FROM_A.from);
+        Sides::between(OWN, FROM_A.from, mtu)
+    }
+
+    /// The ones that match those of an MTU: what these write is for them.
+    pub fn matching() -> Sides {
+        Sides::between(FROM_A.from, OWN, 1600)
+    }
+
+    fn between(own: u32, peer: u32, mtu: u16) -> Sides {
+        let mut library = numbers::Endpoint::start(own, PORT.into(), mtu.into()).0;
+        let mut reference = reference::Endpoint::start(own, PORT.into(), mtu.into()).0;
+        library.add_peer(peer);
+        reference.add_peer(peer);
         library.add_binding(0, STT.into(), ID, 7);
         reference.add_binding(0, STT.into(), ID, 7);
         let memory = memory_contents(ENOUGH, 1);
@@ -91,28 +100,29 @@ impl Sides {
         Ok(packet)
     }
 
-    /// Writes every segment of a frame: joined, they are the STT frame of the rules.
-    pub fn wrap(&mut self, inner: &[u8]) {
+    /// Writes every segment of a frame, and gives the packets: joined, their payloads are
+    /// the STT frame of the rules.
+    pub fn wrap(&mut self, inner: &[u8]) -> Vec<Vec<u8>> {
         if is_tagged(inner) {
             assert_eq!(self.packet(inner, 0), Err(13), "{inner:02x?}");
-            return;
+            return Vec::new();
         }
         let expected = stt_frame(inner);
         let count = expected.len().div_ceil(usize::from(self.mtu) - HEADERS) as u32;
-        let mut joined: Vec<u8> = Vec::new();
-        for segment in 0..count {
-            match self.packet(inner, segment) {
-                Ok(packet) => joined.extend(&packet[HEADERS..]),
-                Err(code) => panic!("{code} on segment {segment} of {inner:02x?}"),
-            }
-        }
+        let packets: Result<Vec<_>, u8> = (0..count)
+            .map(|segment| self.packet(inner, segment))
+            .collect();
+        let packets = packets.unwrap_or_else(|code| panic!("{code} on {inner:02x?}"));
         assert_eq!(self.packet(inner, count), Err(23), "the last was the last");
+        let payloads: Vec<&[u8]> = packets.iter().map(|packet| &packet[HEADERS..]).collect();
+        let joined = payloads.concat();
         assert!(
             joined == expected,
             "written {joined:02x?}\nby the rules {expected:02x?}"
         );
-        self.seen.segments[count as usize - 1] += 1;
+        self.seen.segments[packets.len() - 1] += 1;
         self.count_written(inner);
+        packets
     }
 
     fn count_written(&mut self, inner: &[u8]) {
@@ -183,6 +193,17 @@ impl Sides {
         self.seen.codes[usize::from(expected.0)] += 1;
         let both = stt[1] & 3 == 3;
         self.seen.both_delivered += usize::from(both && expected.0 == 0);
+    }
+
+    /// The packets of one frame come as they were written, in this order.
+    pub fn receive_written(&mut self, packets: &[Vec<u8>], inner: &[u8]) {
+        let Some((last, others)) = packets.split_last() else {
+            return;
+        };
+        for packet in others {
+            self.keep(packet);
+        }
+        self.complete(last, &stt_frame(inner));
     }
 
     /// In one segment.

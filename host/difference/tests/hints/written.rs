@@ -145,6 +145,36 @@ fn every_number_of_segments() {
     assert!(segments[1] >= 1000 && segments[2] >= 350, "{segments:?}");
 }
 
+/// What is written is delivered by a matching endpoint, whatever it says of the frame.
+#[test]
+fn what_is_written_is_delivered() {
+    let prng = &mut Prng::new(8);
+    let mut matching = Sides::matching();
+    let mut segments = [0; 3];
+    for mtu in [576, 806, 1600] {
+        let mut sides = Sides::of_mtu(mtu);
+        let mut frames = [with_transport(prng), without_transport(prng)].concat();
+        for length in [530, 1000, 1060, 1514] {
+            for protocol in [TCP, UDP, 0] {
+                frames.push(ipv4(prng, length, 15, protocol));
+                frames.push(ipv6(prng, length, protocol));
+            }
+        }
+        for frame in frames {
+            let mut packets = sides.wrap(&frame);
+            for _ in 0..packets.len() {
+                packets.rotate_left(1);
+                matching.receive_written(&packets, &frame);
+                segments[packets.len() - 1] += 1;
+            }
+        }
+        matching.check();
+    }
+    let delivered = matching.seen.codes[0];
+    assert_eq!(delivered, segments.iter().sum());
+    assert!(segments.iter().all(|&count| count >= 18), "{segments:?}");
+}
+
 /// Bytes of no meaning behind either type.
 #[test]
 fn noise_behind_the_type() {
