@@ -6,7 +6,9 @@
 #![forbid(unsafe_code)]
 
 pub mod answer;
+pub mod endpoints;
 pub mod lent;
+pub mod orders;
 pub mod pair;
 pub mod raw;
 pub mod report;

@@ -7,7 +7,7 @@ pub const IPV4: u16 = 0x0800;
 pub const IPV6: u16 = 0x86DD;
 
 /// Lengths around every bound: of the frame, of an IPv4 header of any length, of IPv6's.
-pub fn lengths() -> impl Iterator<Item = usize> {
+fn lengths() -> impl Iterator<Item = usize> {
     (14..=76).chain([1513, 1514])
 }
 
@@ -40,6 +40,35 @@ pub fn ipv6(prng: &mut Prng, length: usize, next_header: u8) -> Vec<u8> {
     put(&mut frame, 14, &[0x60 | prng.byte() & 0x0F]);
     put(&mut frame, 20, &[next_header]);
     frame
+}
+
+/// Over IPv4 and IPv6: every first byte of the header, which has its version and length,
+/// with TCP, UDP and neither behind, in frames of every length around a bound.
+pub fn every_first_byte(prng: &mut Prng, mut each: impl FnMut(&mut Prng, &[u8])) {
+    for length in lengths() {
+        for protocol in [TCP, UDP, 0] {
+            for first in 0..=255 {
+                let over_ipv4 = ipv4(prng, length, 0, protocol);
+                let over_ipv6 = ipv6(prng, length, protocol);
+                for mut frame in [over_ipv4, over_ipv6] {
+                    put(&mut frame, 14, &[first]);
+                    each(prng, &frame);
+                }
+            }
+        }
+    }
+}
+
+/// Every protocol behind IPv4 headers of every length, and every next header of IPv6.
+pub fn every_protocol(prng: &mut Prng, mut each: impl FnMut(&mut Prng, &[u8])) {
+    for number in 0..=255 {
+        for words in 5..=15 {
+            let over_ipv4 = ipv4(prng, 80, words, number);
+            each(prng, &over_ipv4);
+        }
+        let over_ipv6 = ipv6(prng, 80, number);
+        each(prng, &over_ipv6);
+    }
 }
 
 /// Frames with a transport header, in each way: IPv4 without options, with some and with

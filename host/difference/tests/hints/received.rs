@@ -1,8 +1,11 @@
 //! Refusal 29, and the frames that have both flags set and are not refused with it.
 
-use crate::frames::{frame, ipv4, ipv6, lengths, put, with_transport, without_transport};
+use crate::frames::{
+    every_first_byte, every_protocol, frame, ipv4, ipv6, put, with_transport, without_transport,
+};
 use crate::rules::ID;
 use crate::sides::Sides;
+use difference::orders::ORDERS;
 use vectors::packet::{self, TCP, UDP};
 use vectors::prng::Prng;
 
@@ -17,19 +20,6 @@ fn stt(prng: &mut Prng, flags: u8, inner: &[u8]) -> Vec<u8> {
     }
     stt
 }
-
-const ORDERS: [&[&[usize]]; 3] = [
-    &[&[0]],
-    &[&[0, 1], &[1, 0]],
-    &[
-        &[0, 1, 2],
-        &[0, 2, 1],
-        &[1, 0, 2],
-        &[1, 2, 0],
-        &[2, 0, 1],
-        &[2, 1, 0],
-    ],
-];
 
 /// Cuts that part the flags from the rest, and the fields of the look from each other
 /// and within themselves: the type is at 30 and 31, the first byte of the IP header at
@@ -98,20 +88,10 @@ fn every_flag_byte_in_every_order() {
 fn every_first_byte_of_the_header_at_every_length() {
     let prng = &mut Prng::new(2);
     let mut sides = Sides::new();
-    for length in lengths() {
-        for protocol in [TCP, UDP, 0] {
-            for first in 0..=255 {
-                let mut over_ipv4 = ipv4(prng, length, 0, protocol);
-                put(&mut over_ipv4, 14, &[first]);
-                let mut over_ipv6 = ipv6(prng, length, protocol);
-                put(&mut over_ipv6, 14, &[first]);
-                for inner in [over_ipv4, over_ipv6] {
-                    let stt = stt(prng, BOTH, &inner);
-                    receive_drawn(&mut sides, prng, &stt);
-                }
-            }
-        }
-    }
+    every_first_byte(prng, |prng, inner| {
+        let stt = stt(prng, BOTH, inner);
+        receive_drawn(&mut sides, prng, &stt);
+    });
     sides.check();
     assert_eq!(sides.seen.codes[29], 2 * (275 + 400));
     assert_eq!(
@@ -169,16 +149,10 @@ fn every_fragment_word() {
 fn every_protocol_and_next_header() {
     let prng = &mut Prng::new(5);
     let mut sides = Sides::new();
-    for number in 0..=255 {
-        for words in 5..=15 {
-            let inner = ipv4(prng, 80, words, number);
-            let stt = stt(prng, BOTH, &inner);
-            receive_drawn(&mut sides, prng, &stt);
-        }
-        let inner = ipv6(prng, 80, number);
-        let stt = stt(prng, BOTH, &inner);
+    every_protocol(prng, |prng, inner| {
+        let stt = stt(prng, BOTH, inner);
         receive_drawn(&mut sides, prng, &stt);
-    }
+    });
     sides.check();
     assert_eq!(sides.seen.codes[29], 2 * 12);
     assert_eq!(sides.seen.both_delivered, 254 * 12);

@@ -3,11 +3,8 @@
 use crate::look::look;
 use crate::rules::{answer, is_tagged, stt_frame, ID};
 use difference::answer::Answer;
-use difference::raw::{of_reference, same_numbers};
-use niulassenc::numbers;
-use niulassenc_reference as reference;
+use difference::endpoints::Endpoints;
 use vectors::directed::{ENOUGH, FROM_A, OWN, PORT, STT};
-use vectors::driver::memory_contents;
 use vectors::packet;
 
 /// Bytes of the IPv4 header and of the TCP-shaped one in a packet that is written.
@@ -30,10 +27,7 @@ pub struct Seen {
 }
 
 pub struct Sides {
-    library: numbers::Endpoint,
-    reference: reference::Endpoint,
-    library_memory: Vec<u8>,
-    reference_memory: Vec<u8>,
+    endpoints: Endpoints,
     mtu: u16,
     identifier: u32,
     pub seen: Seen,
@@ -54,18 +48,11 @@ impl Sides {
     }
 
     fn between(own: u32, peer: u32, mtu: u16) -> Sides {
-        let mut library = numbers::Endpoint::start(own, PORT.into(), mtu.into()).0;
-        let mut reference = reference::Endpoint::start(own, PORT.into(), mtu.into()).0;
-        library.add_peer(peer);
-        reference.add_peer(peer);
-        library.add_binding(0, STT.into(), ID, 7);
-        reference.add_binding(0, STT.into(), ID, 7);
-        let memory = memory_contents(ENOUGH, 1);
+        let mut endpoints = Endpoints::start(own, PORT.into(), mtu.into());
+        endpoints.add_peer(peer);
+        endpoints.add_binding(0, STT.into(), ID, 7);
         Sides {
-            library,
-            reference,
-            library_memory: memory.clone(),
-            reference_memory: memory,
+            endpoints,
             mtu,
             identifier: 0,
             seen: Seen::default(),
@@ -76,10 +63,11 @@ impl Sides {
     fn packet(&self, inner: &[u8], segment: u32) -> Result<Vec<u8>, u8> {
         let (mut ours, mut theirs) = ([UNTOUCHED; OUTPUT], [UNTOUCHED; OUTPUT]);
         let identifier = 0xFEDC_BA98;
-        let wrapped = self.library.wrap(0, inner, segment, identifier, &mut ours);
-        let expected = self
-            .reference
-            .wrap(0, inner, segment, identifier, &mut theirs);
+        let Endpoints {
+            library, reference, ..
+        } = &self.endpoints;
+        let wrapped = library.wrap(0, inner, segment, identifier, &mut ours);
+        let expected = reference.wrap(0, inner, segment, identifier, &mut theirs);
         let numbers = (wrapped.code, wrapped.length, wrapped.segments);
         assert_eq!(
             numbers,
@@ -187,7 +175,7 @@ impl Sides {
         );
         if given.code == 0 {
             let place = given.place;
-            let bytes = &self.library_memory[place.start..place.start + place.length];
+            let bytes = self.endpoints.stored(place.start, place.length);
             assert!(bytes == &stt[18..], "delivered {bytes:02x?} of {stt:02x?}");
         }
         self.seen.codes[usize::from(expected.0)] += 1;
@@ -213,18 +201,13 @@ impl Sides {
 
     /// What both answer to a packet.
     fn segment(&mut self, packet: &[u8]) -> Answer {
-        let ours = Answer::from(&self.library.receive(packet, &mut self.library_memory));
-        let answer = self.reference.receive(packet, &mut self.reference_memory);
-        let theirs = Answer::from(&answer);
+        let [ours, theirs] = self.endpoints.receive_in(ENOUGH, packet);
         assert_eq!(ours, theirs, "{packet:02x?}");
         ours
     }
 
     /// The endpoints and the memories are still the same.
     pub fn check(&self) {
-        let expected = of_reference(&self.reference);
-        same_numbers(self.library.raw(), &expected).unwrap_or_else(|why| panic!("{why}"));
-        let same = self.library_memory == self.reference_memory;
-        assert!(same, "the memories differ");
+        self.endpoints.check();
     }
 }

@@ -1,7 +1,8 @@
 //! The STT header that is written, and every byte behind it.
 
 use crate::frames::{
-    frame, ipv4, ipv6, lengths, put, with_transport, without_transport, IPV4, IPV6,
+    every_first_byte, every_protocol, frame, ipv4, ipv6, put, with_transport, without_transport,
+    IPV4, IPV6,
 };
 use crate::sides::Sides;
 use vectors::packet::{TCP, UDP};
@@ -22,18 +23,9 @@ fn each_was_written(sides: &Sides, least: [usize; 5]) {
 fn every_first_byte_of_the_header_at_every_length() {
     let prng = &mut Prng::new(1);
     let mut sides = Sides::new();
-    for length in lengths() {
-        for protocol in [TCP, UDP, 0] {
-            for first in 0..=255 {
-                let mut over_ipv4 = ipv4(prng, length, 0, protocol);
-                put(&mut over_ipv4, 14, &[first]);
-                sides.wrap(&over_ipv4);
-                let mut over_ipv6 = ipv6(prng, length, protocol);
-                put(&mut over_ipv6, 14, &[first]);
-                sides.wrap(&over_ipv6);
-            }
-        }
-    }
+    every_first_byte(prng, |_, frame| {
+        sides.wrap(frame);
+    });
     // A header of 5 to 15 words fits into 45, 41, .. 5 of the 65 lengths; one of IPv6, whose
     // first byte has 16 values, into 25.
     let [over_ipv4, over_ipv6] = [275, 400];
@@ -62,17 +54,16 @@ fn every_fragment_word() {
     assert_eq!(sides.seen.written, [8, 8, 512, 512, none]);
 }
 
-/// Behind headers of every length, and with the other one's place set to TCP.
+/// Behind headers of every length; and IPv6's with TCP where IPv4 has its protocol.
 #[test]
 fn every_protocol_and_next_header() {
     let prng = &mut Prng::new(3);
     let mut sides = Sides::new();
+    every_protocol(prng, |_, frame| {
+        sides.wrap(frame);
+    });
     for number in 0..=255 {
-        for words in 5..=15 {
-            sides.wrap(&ipv4(prng, 80, words, number));
-        }
         let mut over_ipv6 = ipv6(prng, 80, number);
-        sides.wrap(&over_ipv6);
         put(&mut over_ipv6, 23, &[TCP]);
         sides.wrap(&over_ipv6);
     }

@@ -2,11 +2,8 @@
 
 use crate::rules::Verdict;
 use difference::answer::Answer;
-use difference::raw::{of_reference, same_numbers};
-use niulassenc::numbers;
-use niulassenc_reference as reference;
+use difference::endpoints::Endpoints;
 use vectors::directed::{ENOUGH, FROM_A, NVGRE, OWN, PORT, STT, VXLAN};
-use vectors::driver::memory_contents;
 
 /// The network that the peer has of every kind.
 pub const ID: u32 = 0x00C0_FFEE;
@@ -21,30 +18,20 @@ pub const WITH_TCP: [u8; 34] = [
 pub const OPTIONS: std::ops::RangeInclusive<u8> = 0..=10;
 
 pub struct Sides {
-    library: numbers::Endpoint,
-    reference: reference::Endpoint,
-    library_memory: Vec<u8>,
-    reference_memory: Vec<u8>,
+    endpoints: Endpoints,
     /// How often each code came.
     pub codes: [usize; 30],
 }
 
 impl Sides {
     pub fn new() -> Sides {
-        let mut library = numbers::Endpoint::start(OWN, PORT.into(), 1500).0;
-        let mut reference = reference::Endpoint::start(OWN, PORT.into(), 1500).0;
-        library.add_peer(FROM_A.from);
-        reference.add_peer(FROM_A.from);
+        let mut endpoints = Endpoints::start(OWN, PORT.into(), 1500);
+        endpoints.add_peer(FROM_A.from);
         for kind in [VXLAN, NVGRE, STT].map(u32::from) {
-            library.add_binding(0, kind, ID.into(), 100 + kind);
-            reference.add_binding(0, kind, ID.into(), 100 + kind);
+            endpoints.add_binding(0, kind, ID.into(), 100 + kind);
         }
-        let memory = memory_contents(ENOUGH, 1);
         Sides {
-            library,
-            reference,
-            library_memory: memory.clone(),
-            reference_memory: memory,
+            endpoints,
             codes: [0; 30],
         }
     }
@@ -56,10 +43,7 @@ impl Sides {
 
     /// The same with so many bytes of the memory.
     pub fn receive_in(&mut self, length: usize, packet: &[u8], expected: Verdict) {
-        let memory = &mut self.library_memory[..length];
-        let ours = Answer::from(&self.library.receive(packet, memory));
-        let memory = &mut self.reference_memory[..length];
-        let theirs = Answer::from(&self.reference.receive(packet, memory));
+        let [ours, theirs] = self.endpoints.receive_in(length, packet);
         let Answer { code, offset, .. } = ours;
         assert!(
             ours == theirs && Verdict { code, offset } == expected,
@@ -70,14 +54,11 @@ impl Sides {
 
     /// What the library has stored from this place on.
     pub fn stored(&self, start: usize, length: usize) -> &[u8] {
-        &self.library_memory[start..start + length]
+        self.endpoints.stored(start, length)
     }
 
     /// The endpoints and the memories are still the same.
     pub fn check(&self) {
-        let expected = of_reference(&self.reference);
-        same_numbers(self.library.raw(), &expected).unwrap_or_else(|why| panic!("{why}"));
-        let same = self.library_memory == self.reference_memory;
-        assert!(same, "the memories differ");
+        self.endpoints.check();
     }
 }

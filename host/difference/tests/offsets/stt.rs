@@ -3,6 +3,7 @@
 use crate::look::look;
 use crate::rules::{of_frame, Verdict};
 use crate::sides::{Sides, ID, WITH_TCP};
+use difference::orders::ORDERS;
 use vectors::directed::{FROM_A, PORT};
 use vectors::packet::{self, header_length, Label, T};
 
@@ -86,18 +87,9 @@ fn every_pair(slot: usize, frame: &mut [u8], parts: &mut [Segment], otherwise: u
     assert_eq!(sides.codes[usize::from(otherwise)], 256 - refused);
 }
 
-const TWO: [&[usize]; 2] = [&[0, 1], &[1, 0]];
-const THREE: [&[usize]; 6] = [
-    &[0, 1, 2],
-    &[0, 2, 1],
-    &[1, 0, 2],
-    &[1, 2, 0],
-    &[2, 0, 1],
-    &[2, 1, 0],
-];
-
-fn every_pair_cut(cuts: &[usize], orders: &[&[usize]]) {
-    for (number, order) in orders.iter().enumerate() {
+/// The same in every order of the segments that these cuts make.
+fn every_pair_cut(cuts: &[usize]) {
+    for (number, order) in ORDERS[cuts.len()].iter().enumerate() {
         let mut frame = frame(ID.into(), &WITH_TCP);
         let mut parts = segments(7, &frame, cuts, order);
         let slot = (number + cuts[0]) % 4;
@@ -130,20 +122,20 @@ fn every_version_and_flags_in_one_segment() {
 #[test]
 fn every_version_and_flags_in_two_segments() {
     for cut in [1, 2, 17] {
-        every_pair_cut(&[cut], &TWO);
+        every_pair_cut(&[cut]);
     }
 }
 
 #[test]
 fn every_version_and_flags_in_three_segments() {
-    every_pair_cut(&[1, 2], &THREE);
+    every_pair_cut(&[1, 2]);
 }
 
 /// With one of the two bytes behind the other's segment, or both in one.
 #[test]
 fn every_version_and_flags_in_other_three_segments() {
-    every_pair_cut(&[1, 20], &THREE);
-    every_pair_cut(&[2, 31], &THREE);
+    every_pair_cut(&[1, 20]);
+    every_pair_cut(&[2, 31]);
 }
 
 /// What the frames in the four slots have wrong.
@@ -161,7 +153,7 @@ fn frames_beside_each_other() {
         for number in 0..24 {
             let mut sides = Sides::new();
             let parts = [0, 1, 2, 3].map(|slot| {
-                let order = TWO[(number + slot) % 2];
+                let order = ORDERS[1][(number + slot) % 2];
                 segments(slot as u32, &frames[slot], &[cut], order)
             });
             for part in &parts {
