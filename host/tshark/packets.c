@@ -3,7 +3,8 @@
  * on a Context ID of its own, for tshark to read. What tshark must say of each is in packets.expected, in the same order.
  *
  * The inner frames have right lengths and checksums, as draft-davie-stt-06, 3.1, wants them, but for the one that is cut off. No
- * last segment has 20 bytes or fewer: tshark (4.0) counts the TCP header as data, and takes such a frame for complete too early.
+ * last segment has 20 bytes or fewer: with fewer than five, tshark (4.0) was seen to take the frame for complete one segment too
+ * early, as if it counted the TCP header as data.
  */
 #include <stdio.h>
 #include <stdlib.h>
