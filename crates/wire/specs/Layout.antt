@@ -83,7 +83,7 @@ segmentFields source destination from port frameLength offset identifier last by
     ∷ field 38 2 0  -- urgent pointer
     ∷ [])
 
--- An STT frame (draft-davie-stt-06, 3.1); it carries the inner frame. Of the flags, 0x01 and 0x02 are none that is written (`WrittenHints`).
+-- An STT frame (draft-davie-stt-06, 3.1); it carries the inner frame. Neither 0x01 nor 0x02 is among the flags that are written (`WrittenHints`).
 abbrev pub sttFields : (flags l4 context : ℕ) → List Field
 sttFields flags l4 context =
     field 0 1 0  -- version
