@@ -2,20 +2,18 @@
 use Prim.Native.Nat.{ℕ, _+_, _-_, _*_, _/_, _%_, _^_, _<_, _≤_}
 use mathlib.Core.Path.{_≡_, refl, sym, ap, _∙_}
 use mathlib.Core.Logic.{_⊎_, inl, inr, ⊎-elim}
-use mathlib.Core.Bool.{Bool, true, false, _&&_, _||_}
-use mathlib.Core.List.{List, [], _∷_, _++_, append-assoc}
+use mathlib.Core.Bool.{Bool, true, false, _&&_, _||_, true≢false}
+use mathlib.Core.List.{List, [], _∷_, _++_}
 use native.Mathlib.Omega.{arith}
 use borrow.Author.Tests.{eqb-true, leb-true, eq-eqb, ne-eqb, le-leb}
 use lib.ListN.{length, drop, length-append, length-drop}
-use lib.Seq.{drop-at}
 use lib.Dec.{leb, eqb}
 use Rattle.wire.specs.Bytes.{Bytes, be, beAt}
-use Rattle.wire.specs.Laws.Bytes.{caseB, be-length, be-lt, be-one, be-split, be-front, be-drop, be-value, as-fields, bytes-drop}
+use Rattle.wire.specs.Laws.Bytes.{caseB, be-length, be-lt, be-one, be-split, be-front, be-behind, be-drop, be-value, as-fields, bytes-drop}
 use Rattle.wire.specs.Ipv4 as I
 use Rattle.wire.specs.Laws.Ipv4 as IL
 use Rattle.wire.specs.Inner.{CarriesIpv4, CarriesIpv6, OverIpv4, OverIpv6, FoundHints, CarriesTransport, WrittenHints, carriesIpv4, carriesIpv6}
-use Rattle.wire.specs.Inner.{carriesTransport}
-use Rattle.wire.specs.Inner.{transportBy, overIpv4, transportOf, hintsBy, hintsOf, Ipv4Frame, Ipv6Frame, Pictures, Looks}
+use Rattle.wire.specs.Inner.{carriesTransport, transportBy, overIpv4, transportOf, hintsBy, hintsOf, Ipv4Frame, Ipv6Frame, Pictures, Looks}
 use Rattle.wire.specs.declared.inner.Hints.{Hints}
 use Rattle.wire.specs.declared.inner.Transport.{Transport}
 use Rattle.wire.specs.declared.inner.Transport.the-variants as T
@@ -27,10 +25,10 @@ met4 a b c d p q r t = rw (p, q, r, t)
 
 all4 : (a b c d : Bool) → (a && b && c && d) ≡ true → (a ≡ true) × (b ≡ true) × (c ≡ true) × (d ≡ true)
 all4 true true true true e = (refl, refl, refl, refl)
-all4 true true true false e = let z : _≡_ {A = ℕ} 0 1 = cc in absurd (omega arith)
-all4 true true false d e = let z : _≡_ {A = ℕ} 0 1 = cc in absurd (omega arith)
-all4 true false c d e = let z : _≡_ {A = ℕ} 0 1 = cc in absurd (omega arith)
-all4 false b c d e = let z : _≡_ {A = ℕ} 0 1 = cc in absurd (omega arith)
+all4 true true true false e = absurd (true≢false (sym e))
+all4 true true false d e = absurd (true≢false (sym e))
+all4 true false c d e = absurd (true≢false (sym e))
+all4 false b c d e = absurd (true≢false (sym e))
 
 pub ipv4-is : (words : ℕ) (frame : List ℕ) → CarriesIpv4 words frame → carriesIpv4 frame ≡ true
 unfolding carriesIpv4
@@ -141,6 +139,10 @@ transport-is flags l4 frame (inr (inl w)) = over-ipv4-is 17 l4 frame (w .1) ∙ 
 transport-is flags l4 frame (inr (inr (inl w))) = over-ipv6-is 6 l4 frame (w .1) ∙ sym (by-tcp 6 0 l4 flags refl (w .0))
 transport-is flags l4 frame (inr (inr (inr w))) = over-ipv6-is 17 l4 frame (w .1) ∙ rw (w .0) (sym (by-udp 17 0 l4 refl))
 
+-- what is found is not nothing
+never : {C : Type 0} (h : Hints) → T.Nothing ≡ T.Found h → C
+never h e = let z : _≡_ {A = ℕ} 0 1 = cc in absurd (omega arith)
+
 -- what a protocol number says, taken apart
 by-found : (protocol flags l4 : ℕ) (h : Hints) → transportBy protocol flags l4 ≡ T.Found h
     → ((protocol ≡ 6) × (h .flags ≡ flags + 8) × (h .l4 ≡ l4)) ⊎ ((protocol ≡ 17) × (h .flags ≡ flags) × (h .l4 ≡ l4))
@@ -156,7 +158,7 @@ by-found protocol flags l4 h e =
     let q : T.Found (record { flags = flags; l4 = l4 }) ≡ T.Found h = rw (a, b) at e in
     let k : record { flags = flags; l4 = l4 } ≡ h = cc in
     inr (eqb-true _ _ b, ap (λ (x : Hints). x .flags) (sym k), ap (λ (x : Hints). x .l4) (sym k)))
-    (λ b. let q : T.Nothing ≡ T.Found h = rw (a, b) at e in let z : _≡_ {A = ℕ} 0 1 = cc in absurd (omega arith)))
+    (λ b. never h (rw (a, b) at e)))
 
 over-found : (frame : List ℕ) (h : Hints) → overIpv4 frame ≡ T.Found h
     → (beAt frame 20 2 % 2 ^ 13 ≡ 0) × (transportBy (beAt frame 23 1) 4 (14 + 4 * (beAt frame 14 1 % 16)) ≡ T.Found h)
@@ -164,7 +166,7 @@ unfolding overIpv4
 over-found frame h e =
     caseB (eqb (beAt frame 20 2 % 2 ^ 13) 0)
     (λ a. (eqb-true _ _ a, rw a at e))
-    (λ a. let q : T.Nothing ≡ T.Found h = rw a at e in let z : _≡_ {A = ℕ} 0 1 = cc in absurd (omega arith))
+    (λ a. never h (rw a at e))
 
 pub transport-found : (h : Hints) (frame : List ℕ) → transportOf frame ≡ T.Found h → FoundHints (h .flags) (h .l4) frame
 unfolding transportOf
@@ -183,7 +185,7 @@ transport-found h frame e =
     (λ k. inr (inr (inl (k .1, record { ip = w; next-header = k .0; l4-is = k .2 }))))
     (λ k. inr (inr (inr (k .1, record { ip = w; next-header = k .0; l4-is = k .2 }))))
     (by-found (beAt frame 20 1) 0 54 h (rw (a, b) at e)))
-    (λ b. let q : T.Nothing ≡ T.Found h = rw (a, b) at e in let z : _≡_ {A = ℕ} 0 1 = cc in absurd (omega arith)))
+    (λ b. never h (rw (a, b) at e)))
 
 -- ---- the test
 
@@ -226,7 +228,7 @@ test-says frame e = by (transportOf frame) refl
   where
     by : (x : Transport) → transportOf frame ≡ x → CarriesTransport frame
     by (T.Found h) q = record { flags = h .flags; l4 = h .l4; hints = transport-found h frame q }
-    by T.Nothing q = let z : false ≡ true = test-none frame q ∙ e in let y : _≡_ {A = ℕ} 0 1 = cc in absurd (omega arith)
+    by T.Nothing q = absurd (true≢false (sym (test-none frame q ∙ e)))
 
 -- ---- the hints that are written
 
@@ -237,12 +239,7 @@ hints-are frame = by (transportOf frame) refl
     by : (x : Transport) → transportOf frame ≡ x → WrittenHints (hintsBy x .flags) (hintsBy x .l4) frame
     by (T.Found h) q = inl (transport-found h frame q)
     by T.Nothing q =
-        inr (
-          λ w. let z : T.Nothing ≡ T.Found (record { flags = w .flags; l4 = w .l4 }) = sym q ∙ transport-is (w .flags) (w .l4) frame (w .hints) in
-              let y : _≡_ {A = ℕ} 0 1 = cc in omega arith,
-          refl,
-          refl,
-        )
+        inr (λ w. never (record { flags = w .flags; l4 = w .l4 }) (sym q ∙ transport-is (w .flags) (w .l4) frame (w .hints)), refl, refl)
 
 -- they fit their fields, and flags 0x01 and 0x02 are not among them
 pub record HintsFit (h : Hints) : Type 0 where
@@ -274,19 +271,14 @@ hints-fit frame =
 
 -- what lies behind 12 bytes of addresses and a type of 2
 pictured : (addresses packet : List ℕ) (type at n : ℕ) → length addresses ≡ 12 → beAt (addresses ++ (be 2 type ++ packet)) (14 + at) n ≡ beAt packet at n
-unfolding be
 pictured addresses packet type at n l =
-    sym (be-drop (addresses ++ (be 2 type ++ packet)) 14 at n)
-    ∙ ap (λ (s : List ℕ). beAt s at n)
-    (ap (drop 14) (sym (append-assoc addresses (be 2 type) packet))
-    ∙ drop-at (addresses ++ be 2 type) packet 14 (length-append addresses (be 2 type) ∙ ap (λ (x : ℕ). x + 2) l))
+    let z : 14 + at ≡ 12 + (2 + at) = omega arith in
+    ap (λ (i : ℕ). beAt (addresses ++ (be 2 type ++ packet)) i n) z ∙ be-behind addresses (be 2 type ++ packet) 12 (2 + at) n l
+    ∙ be-behind (be 2 type) packet 2 at n (be-length 2 type)
 
 typed : (addresses packet : List ℕ) (type : ℕ) → length addresses ≡ 12 → type < 256 ^ 2 → beAt (addresses ++ (be 2 type ++ packet)) 12 2 ≡ type
 typed addresses packet type l h =
-    sym (be-drop (addresses ++ (be 2 type ++ packet)) 12 0 2)
-    ∙ ap (λ (s : List ℕ). beAt s 0 2) (drop-at addresses (be 2 type ++ packet) 12 l)
-    ∙ be-front (be 2 type) packet 0 2 (omega (arith, be-length 2 type))
-    ∙ be-value 2 type h
+    be-behind addresses (be 2 type ++ packet) 12 0 2 l ∙ be-front (be 2 type) packet 0 2 (omega (arith, be-length 2 type)) ∙ be-value 2 type h
 
 long : (addresses packet : List ℕ) (type : ℕ) → length addresses ≡ 12 → length (addresses ++ (be 2 type ++ packet)) ≡ 14 + length packet
 long addresses packet type l = simp length-append (omega (arith, be-length 2 type))

@@ -1,13 +1,13 @@
 -- Every packet that is written has its layout.
-use Prim.Native.Nat.{ℕ, zero, suc, _+_, _*_, _%_, _^_, _<_, _≤_}
+use Prim.Native.Nat.{ℕ, _+_, _%_, _^_, _<_, _≤_}
 use mathlib.Core.Path.{_≡_, refl, sym, ap, ap₂, _∙_}
 use mathlib.Core.Bool.{Bool, true, false, cond}
 use mathlib.Core.List.{List, [], _∷_, _++_, append-assoc}
 use native.Mathlib.Omega.{arith}
-use lib.ListN.{length, getD, drop, length-append}
-use lib.Seq.{drop-at, getD-append-add}
+use lib.ListN.{length, drop, length-append}
+use lib.Seq.{drop-at}
 use Rattle.wire.specs.Bytes.{be, beAt, part, _then_}
-use Rattle.wire.specs.Laws.Bytes.{be-length, be-front, be-value}
+use Rattle.wire.specs.Laws.Bytes.{be-length, be-front, be-behind, be-value}
 use Rattle.wire.specs.Sum.{total, pseudo, complement}
 use Rattle.wire.specs.Laws.Sum.{complement-fits, total-append, total-be2}
 use Rattle.wire.specs.Ipv4 as I
@@ -26,14 +26,6 @@ use Rattle.wire.specs.Layout.{SegmentLaidOut, Layouts}
 
 -- ---- bytes that were written field by field are laid out so
 
--- what stands behind a list
-be-behind : (a b : List ℕ) (n : ℕ) → beAt (a ++ b) (length a) n ≡ beAt b 0 n
-unfolding beAt
-be-behind a b zero = refl
-be-behind a b (suc n) =
-    let z : 0 + n ≡ n = omega arith in
-    ap₂ (λ (x y : ℕ). x * 256 + y) (be-behind a b n) (getD-append-add a b n 0 ∙ ap (λ (i : ℕ). getD b i 0) (sym z))
-
 abbrev written : List Field → List ℕ → List ℕ
 written [] carried = carried
 written (field place width value ∷ fields) carried = be width value ++ written fields carried
@@ -49,8 +41,9 @@ laid-out [] carried front bytes at n f e =
     (ap length e ∙ length-append front carried ∙ ap (λ (k : ℕ). k + length carried) n, ap (drop at) e ∙ drop-at front carried at n)
 laid-out (field place width value ∷ fields) carried front bytes at n f e =
     let rest : List ℕ = written fields carried in
+    let z : at ≡ at + 0 = omega arith in
     let here : beAt bytes place width ≡ value =
-    ap₂ (λ (x : List ℕ) (i : ℕ). beAt x i width) e (f .0 ∙ sym n) ∙ be-behind front (be width value ++ rest) width
+    ap₂ (λ (x : List ℕ) (i : ℕ). beAt x i width) e (f .0 ∙ z) ∙ be-behind front (be width value ++ rest) at 0 width n
     ∙ be-front (be width value) rest 0 width (omega (arith, be-length width value)) ∙ be-value width value (f .1) in
     let m : length (front ++ be width value) ≡ at + width = length-append front (be width value) ∙ ap₂ (λ (x y : ℕ). x + y) n (be-length width value) in
     (f .0, here, laid-out fields carried (front ++ be width value) bytes (at + width) m (f .2) (e ∙ sym (append-assoc front (be width value) rest)))

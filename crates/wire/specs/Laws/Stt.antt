@@ -2,7 +2,7 @@
 use Prim.Native.Nat.{ℕ, _+_, _%_, _^_, _<_, _≤_}
 use mathlib.Core.Path.{_≡_, refl, sym, ap, _∙_}
 use mathlib.Core.Logic.{_≢_}
-use mathlib.Core.Bool.{true, false, _&&_}
+use mathlib.Core.Bool.{true, false, _&&_, true≢false}
 use mathlib.Core.List.{List, [], _∷_}
 use native.Mathlib.Omega.{arith}
 use borrow.Author.Tests.{le-ltb, eq-eqb, ne-eqb}
@@ -57,9 +57,7 @@ agreed : (s : List ℕ) → contradicts s ≡ false → CarriesTransport (drop 1
 unfolding contradicts
 agreed s e w q =
     let t : (eqb (beAt s 1 1 % 4) 3 && carriesTransport (drop 18 s)) ≡ true = rw (eq-eqb (beAt s 1 1 % 4) 3 q, test-is (drop 18 s) w) in
-    let z : true ≡ false = sym t ∙ e in
-    let y : _≡_ {A = ℕ} 0 1 = cc in
-    omega arith
+    true≢false (sym t ∙ e)
 
 pub complete : {context : ℕ} {frame s : List ℕ} → IsStt context frame s → (sttOf s ≡ T.Header context) × (drop 18 s ≡ frame) × (length s ≡ 18 + length frame)
 unfolding sttOf sttChecks
