@@ -8,6 +8,8 @@
 #include <stdint.h>
 #include <string.h>
 
+#include "bytes.h"
+
 enum { OWN = 0x0a000002, PEER = 0x0a000001, STT_PORT = 7471, STT_HEADER = 18 };
 
 /* The frame T, and T on VNI 22 from 10.0.0.1 to 10.0.0.2, whole: cases 2 and 3 of document 01's bench sheet. */
@@ -22,26 +24,10 @@ static const uint8_t tcp_frame[54] = {
     0x02, 0, 0, 0, 0, 0x02, 0x02, 0, 0, 0, 0, 0x01, 0x08, 0x00, 0x45, 0, 0, 40, 0, 0, 0x40, 0, 64, 6, 0xb9, 0x7c, 192, 168, 0, 1,
     192, 168, 0, 2, 0x9c, 0x40, 0, 80, 0, 0, 0, 1, 0, 0, 0, 0, 0x50, 0x02, 0x10, 0, 0x81, 0xfd, 0, 0};
 
-static inline void put16(uint8_t *at, uint32_t value)
+/* The checksum of RFC 1071 over `length` bytes, on top of a sum. */
+static inline uint16_t checksum(uint32_t from, const uint8_t *bytes, size_t length)
 {
-    at[0] = (uint8_t)(value >> 8);
-    at[1] = (uint8_t)value;
-}
-
-static inline void put32(uint8_t *at, uint32_t value)
-{
-    put16(at, value >> 16);
-    put16(at + 2, value & 0xffff);
-}
-
-/* The checksum of RFC 1071 over `length` bytes, an even number here, on top of `sum`. */
-static inline uint16_t checksum(uint32_t sum, const uint8_t *bytes, size_t length)
-{
-    for (size_t i = 0; i < length; i += 2)
-        sum += (uint32_t)bytes[i] << 8 | bytes[i + 1];
-    while (sum >> 16)
-        sum = (sum & 0xffff) + (sum >> 16);
-    return (uint16_t)~sum;
+    return (uint16_t)~sum(from, bytes, length);
 }
 
 /* Makes the checksum of an IPv4 header without options right. */

@@ -25,6 +25,7 @@
 #include <sys/mman.h>
 #include <unistd.h>
 
+#include "../ctest/bytes.h"
 #include "niulassenc.h"
 
 enum { MEMORY = NIULASSENC_MEMORY_BYTES, LONGEST = 2000, OWN = 0x0a000002, STT_PORT = 7471 };
@@ -152,18 +153,6 @@ static void count_pending(void)
     counters[PENDING + pending]++;
 }
 
-static void put16(uint8_t *at, uint32_t value)
-{
-    at[0] = (uint8_t)(value >> 8);
-    at[1] = (uint8_t)value;
-}
-
-static void put32(uint8_t *at, uint32_t value)
-{
-    put16(at, value >> 16);
-    put16(at + 2, value);
-}
-
 static uint64_t get(const uint8_t *at, size_t bytes)
 {
     uint64_t value = 0;
@@ -171,15 +160,6 @@ static uint64_t get(const uint8_t *at, size_t bytes)
     for (; bytes > 0; bytes--)
         value = value << 8 | *at++;
     return value;
-}
-
-static uint32_t sum(uint32_t from, const uint8_t *data, size_t length)
-{
-    for (size_t i = 0; i < length; i++)
-        from += i % 2 ? data[i] : (uint32_t)data[i] << 8;
-    while (from >> 16)
-        from = (from & 0xffff) + (from >> 16);
-    return from;
 }
 
 /* Makes some fields right, as `which` says: the header's length fields, the addresses, the checksums. */

@@ -10,6 +10,7 @@
 #include <stdlib.h>
 #include <string.h>
 
+#include "../ctest/bytes.h"
 #include "niulassenc.h"
 
 enum { OWN = 0x0a000001, PEER = 0x0a000002, STT_PORT = 7471, MTU = 576, ETHERNET = 14, LINKTYPE_IPV4 = 228 };
@@ -49,28 +50,6 @@ static const struct inner frames[] = {
     {IPV6, 1300, 0, 0, TCP},
     {EXPERIMENTAL, 600, 0, 0, 0},
 };
-
-static void put16(uint8_t *at, size_t value)
-{
-    at[0] = (uint8_t)(value >> 8);
-    at[1] = (uint8_t)value;
-}
-
-static void put32(uint8_t *at, uint32_t value)
-{
-    put16(at, value >> 16);
-    put16(at + 2, value & 0xffff);
-}
-
-/* The sum of RFC 1071 over some bytes, on top of `from`. */
-static uint32_t sum(uint32_t from, const uint8_t *bytes, size_t length)
-{
-    for (size_t i = 0; i < length; i++)
-        from += i % 2 ? bytes[i] : (uint32_t)bytes[i] << 8;
-    while (from >> 16)
-        from = (from & 0xffff) + (from >> 16);
-    return from;
-}
 
 /* A header of TCP, UDP, ICMP or ICMPv6 in the first of `length` bytes, with a checksum over all of them. `pseudo` is the sum of the
  * two addresses. */
