@@ -33,3 +33,4 @@ pub mod Mixed
 pub mod HandBack
 pub mod Carried
 pub mod MadeUp
+pub mod Account

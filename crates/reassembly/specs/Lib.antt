@@ -9,4 +9,5 @@ pub mod Mix
 pub mod Claim
 pub mod History
 pub mod EveryRun
+pub mod Account
 pub mod Laws

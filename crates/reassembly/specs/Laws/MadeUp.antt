@@ -31,7 +31,7 @@ pub record Coverer (gs : List Seg) (i : ℕ) : Type 0 where
   pub is-one : which < length gs
   pub covering : carries (getD gs which noSeg) i ≡ true
 
-coverer : (gs : List Seg) (i : ℕ) → covered gs i ≡ true → Coverer gs i
+pub coverer : (gs : List Seg) (i : ℕ) → covered gs i ≡ true → Coverer gs i
 coverer [] i e = clash (cc)
 coverer (g ∷ gs) i e =
     caseB (carries g i)

@@ -196,11 +196,11 @@ pub under-young : (gs : List Seg) (t : ℕ) → framePending gs t ≡ true → t
 unfolding framePending
 under-young gs t e = ltb-true t 4 (and-l (ltb t 4) (not (frameComplete gs)) e)
 
-under-is : (gs : List Seg) (t : ℕ) → t < 4 → frameComplete gs ≡ false → framePending gs t ≡ true
+pub under-is : (gs : List Seg) (t : ℕ) → t < 4 → frameComplete gs ≡ false → framePending gs t ≡ true
 unfolding framePending
 under-is gs t l e = rw (lt-ltb t 4 l, e)
 
-under-whole : (gs : List Seg) (t : ℕ) → frameComplete gs ≡ true → framePending gs t ≡ false
+pub under-whole : (gs : List Seg) (t : ℕ) → frameComplete gs ≡ true → framePending gs t ≡ false
 unfolding framePending
 under-whole gs t e = caseB (ltb t 4) (λ q. rw (q, e)) (λ q. rw q)
 
