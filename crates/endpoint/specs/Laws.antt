@@ -32,3 +32,4 @@ pub mod Table
 pub mod Offset
 pub mod Promises
 pub mod Demands
+pub mod Account

@@ -18,4 +18,5 @@ pub mod WorkedCases
 pub mod Table
 pub mod Offset
 pub mod Demands
+pub mod Account
 pub mod Laws

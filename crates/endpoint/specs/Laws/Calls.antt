@@ -76,7 +76,7 @@ tick-is e m = rw (config-tick e, rows-tick e, next-tick answers Config layers (w
 
 -- ---- a run
 
-called-is : (w : Left) (e : Event) → worldOf (called w e .endpoint) (called w e .mem) ≡ next answers Config layers (worldOf (w .endpoint) (w .mem)) e
+pub called-is : (w : Left) (e : Event) → worldOf (called w e .endpoint) (called w e .mem) ≡ next answers Config layers (worldOf (w .endpoint) (w .mem)) e
 called-is w tick = tick-is (w .endpoint) (w .mem)
 called-is w (receive k) =
     ap (λ (s : Replied answers Config layers). s .world) (receive-is (w .endpoint) (w .mem) k)

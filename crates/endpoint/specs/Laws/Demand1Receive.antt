@@ -105,7 +105,7 @@ unfolding innerFrom
 inner-bad networks kinds owners tenants n peer kind network frame d e =
     bound-bad tenants (lowest (binds networks kinds owners peer kind network) n) frame (frameOf frame) refl d e
 
-judge-bad : (c : Config) (p : ℕ) (note : Note) (frame : List ℕ) (d : Drop) → 18 ≤ length frame → judgeOf c p note frame ≡ bad d
+pub judge-bad : (c : Config) (p : ℕ) (note : Note) (frame : List ℕ) (d : Drop) → 18 ≤ length frame → judgeOf c p note frame ≡ bad d
     → dropCode d among (28 ∷ 29 ∷ 12 ∷ 13 ∷ []) ≡ true
 unfolding judgeOf sttFrom
 judge-bad c p note frame d l e = by (sttOf frame) refl e

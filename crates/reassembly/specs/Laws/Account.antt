@@ -8,7 +8,7 @@ use Prim.Native.Nat.{ℕ, zero, suc, _+_, _-_, _*_, _/_, _≤_, _<_}
 use native.Mathlib.Omega.{arith}
 use lib.ListN.{length, getD}
 use lib.Dec.{ltb, eqb, leb}
-use borrow.Author.Tests.{ltb-true, ltb-false, leb-true, leb-false, eqb-true, eqb-false, lt-ltb, le-leb, ne-eqb}
+use borrow.Author.Tests.{ltb-true, ltb-false, leb-true, leb-false, eqb-true, eqb-false, lt-ltb, le-leb, lt-leb, ne-eqb}
 use Rattle.reassembly.specs.Base.{within, allBelow}
 use Rattle.reassembly.specs.Laws.Base.{caseB, either, clash, below-suc, same-test, and-l, and-r, allBelow-at}
 use Rattle.reassembly.specs.Laws.Memory.{within-low, within-high, within-is}
@@ -205,6 +205,15 @@ takes-rejected r =
 completes-takes : (n : ℕ) → completes n ≡ true → takes n ≡ true
 unfolding completes
 completes-takes n e = and-l (takes n) (not (eqb n 1)) e
+
+-- any other number completes
+pub completes-other : (n : ℕ) → n ≢ 1 → n ≢ 2 → (n < 14) ⊎ (17 < n) → completes n ≡ true
+unfolding completes takes
+completes-other n a b c = rw (ne-eqb n 1 a, ne-eqb n 2 b) (either c (λ l. rw (lt-leb 14 n l) refl) (λ l. rw (lt-leb n 17 l) (not-and (leb 14 n))))
+  where
+    not-and : (b : Bool) → (not (b && false) && true) ≡ true
+    not-and true = refl
+    not-and false = refl
 
 completes-zero : completes 0 ≡ true
 unfolding completes takes
