@@ -61,5 +61,5 @@ module _ (e : Endpoint) (m : List ℕ) (es : List Event) where
   pendingNow = bytesPending (isPending (left e m es)) (left e m es .mem)
 
 -- ---- THE STATEMENT, of an endpoint that is a set-up: over every memory that is large enough, and every run
-unfoldable pub Accounts : Endpoint → Type 0
-Accounts e = (m : List ℕ) → 55296 ≤ length m → (es : List Event) → taken e m es ≡ completed e m es + agedOut e m es + pendingNow e m es
+pub record Accounts (e : Endpoint) : Type 0 where
+  pub balance : (m : List ℕ) → 55296 ≤ length m → (es : List Event) → taken e m es ≡ completed e m es + agedOut e m es + pendingNow e m es

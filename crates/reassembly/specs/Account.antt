@@ -4,12 +4,12 @@
 use mathlib.Core.Path.{_≡_}
 use mathlib.Core.Bool.{Bool, cond, not, _&&_, _||_}
 use mathlib.Core.List.{List, [], _∷_}
-use Prim.Native.Nat.{ℕ, zero, suc, _+_, _≤_}
+use Prim.Native.Nat.{ℕ, zero, suc, _+_}
 use lib.ListN.{length, getD}
 use lib.Dec.{eqb, leb}
 use Rattle.reassembly.specs.Slots.{noRow, free}
 use Rattle.reassembly.specs.Receive.{Answers, Reading, otherSender, direct, segment, Event, receive, tick}
-use Rattle.reassembly.specs.SetUp.{Layers, Endpoint, World, receives, next, runs}
+use Rattle.reassembly.specs.SetUp.{Layers, World, receives, next, runs}
 use Rattle.reassembly.specs.Mix.{howMany}
 use Rattle.reassembly.specs.EveryRun.{mapAt, bitOf}
 
@@ -62,28 +62,31 @@ bytesPending pending m = overSlots (λ p s. cond (pending p s) (marked m p s) 0)
 unfoldable pub bytesAged : (before after : ℕ → ℕ → Bool) → List ℕ → ℕ
 bytesAged before after m = overSlots (λ p s. cond (before p s && not (after p s)) (marked m p s) 0)
 
--- ---- need not be believed: the accounts of the runs of SetUp.antt, for any numbering of the answers. The crate above says it of its own calls
+-- ---- need not be believed: the account of a run of SetUp.antt, for any numbering of the answers. The crate above has its own, of its calls
+
+-- Open: a field of a record
+abbrev pub isPending : {Config : Type 0} → World Config → (p s : ℕ) → Bool
+isPending w p s = getD (getD (w .ends .peers) p noRow .slots) s free .pending
 
 module _ (W : Answers) (Config : Type 0) (U : Layers W Config) (number : W .A → ℕ) (c : Config) where
-  abbrev pub pendingIn : World Config → (p s : ℕ) → Bool
-  pendingIn w p s = getD (getD (w .ends .peers) p noRow .slots) s free .pending
-
+  -- Open: two cases, which the crate above has alike
   abbrev pub takenAt : World Config → Event → ℕ
   takenAt w tick = 0
   takenAt w (receive k) = bytesTaken W (number (receives W Config U w k .reply)) (U .header c k)
 
+  -- Open: likewise
   abbrev pub completedAt : World Config → Event → ℕ
   completedAt w tick = 0
   completedAt w (receive k) = bytesCompleted W (number (receives W Config U w k .reply)) (U .header c k)
 
+  -- Open: likewise
   abbrev pub agedAt : World Config → Event → ℕ
-  agedAt w tick = bytesAged (pendingIn w) (pendingIn (next W Config U w tick)) (w .mem)
+  agedAt w tick = bytesAged (isPending w) (isPending (next W Config U w tick)) (w .mem)
   agedAt w (receive k) = 0
 
-  abbrev pub pendingNow : World Config → ℕ
-  pendingNow w = bytesPending (pendingIn w) (w .mem)
-
+  -- Open: an equation of sums
   abbrev pub Account : World Config → List Event → Type 0
   Account w es =
       along (next W Config U) takenAt w es
-      ≡ along (next W Config U) completedAt w es + along (next W Config U) agedAt w es + pendingNow (runs W Config U w es)
+      ≡ along (next W Config U) completedAt w es + along (next W Config U) agedAt w es
+      + bytesPending (isPending (runs W Config U w es)) (runs W Config U w es .mem)

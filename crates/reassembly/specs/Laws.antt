@@ -33,4 +33,5 @@ pub mod Mixed
 pub mod HandBack
 pub mod Carried
 pub mod MadeUp
+pub mod Sums
 pub mod Account

@@ -1,6 +1,6 @@
 -- The accounting of every run of the calls from a set-up: the calls are the steps of the theory of runs, and their numbers tell what became of a segment.
 use Prim.Native.Nat.{ℕ, _+_, _≤_, _<_}
-use mathlib.Core.Path.{_≡_, refl, sym, ap, subst, _∙_}
+use mathlib.Core.Path.{_≡_, refl, ap}
 use mathlib.Core.Logic.{_⊎_, inl, inr}
 use mathlib.Core.Bool.{true, false, _||_}
 use mathlib.Core.List.{List, [], _∷_}
@@ -9,21 +9,20 @@ use borrow.Author.Tests.{eqb-true}
 use lib.ListN.{length}
 use lib.Dec.{eqb}
 use Rattle.reassembly.specs.Laws.Base.{either, clash, or-cases}
-use Rattle.reassembly.specs.Slots.{Note}
-use Rattle.reassembly.specs.Receive.{Event, receive, tick, bad}
+use Rattle.reassembly.specs.Receive.{Event, receive, tick}
 use Rattle.reassembly.specs.SetUp.{World, Replied, receives, next}
 use Rattle.reassembly.specs.Account as A
-use Rattle.reassembly.specs.Account.{completes, bytesTaken, bytesCompleted, bytesAged}
-use Rattle.reassembly.specs.Laws.Account.{completes-other, Numbered, along-by, accounting}
+use Rattle.reassembly.specs.Account.{completes, bytesTaken, bytesCompleted, bytesPending, bytesAged}
+use Rattle.reassembly.specs.Laws.Account as L
+use Rattle.reassembly.specs.Laws.Sums.{along-by}
 use Rattle.endpoint.specs.Answer.{dropCode, valuesOf}
 use Rattle.endpoint.specs.Config.{Config, configOf, Adding, setUp}
-use Rattle.endpoint.specs.Receive.{answers, layers, headerOf, judgeOf, worldOf}
+use Rattle.endpoint.specs.Receive.{answers, layers, headerOf, worldOf}
 use Rattle.endpoint.specs.Laws.Calls.{receive-is, tick-is, called-is, calls-are, promised}
 use Rattle.endpoint.specs.Laws.Demand1Receive.{judge-bad}
 use Rattle.endpoint.specs.Laws.Demand3.{set-up-every}
-use Rattle.endpoint.specs.Run.{Left, called, calls, endsOf}
+use Rattle.endpoint.specs.Run.{Left, called, endsOf}
 use Rattle.endpoint.specs.Demand1.{_among_}
-use Rattle.endpoint.specs.declared.answer.Drop.{Drop}
 use Rattle.endpoint.specs.declared.answer.Received.{Received}
 use Rattle.endpoint.specs.declared.config.Endpoint.{Endpoint}
 use Rattle.endpoint.specs.Account.{numberOf, isPending, takenBy, completedBy, agedOutBy, taken, completed, agedOut, pendingNow, Accounts}
@@ -44,10 +43,10 @@ bad-completes n e =
     (λ e. either (or-cases (eqb n 13) false e) (λ q. is (inl (omega (arith, eqb-true n 13 q), omega (arith, eqb-true n 13 q)))) (λ q. clash (cc (q))))))
   where
     is : ((12 ≤ n) × (n < 14)) ⊎ (17 < n) → completes n ≡ true
-    is (inl l) = completes-other n (λ z. omega (arith, l .0)) (λ z. omega (arith, l .0)) (inl (l .1))
-    is (inr l) = completes-other n (λ z. omega arith) (λ z. omega arith) (inr l)
+    is (inl l) = L.completes-other n (λ z. omega (arith, l .0)) (λ z. omega (arith, l .0)) (inl (l .1))
+    is (inr l) = L.completes-other n (λ z. omega arith) (λ z. omega arith) (inr l)
 
-numbered : (c : Config) → Numbered answers Config layers number c
+numbered : (c : Config) → L.Numbered answers Config layers number c
 numbered c = record {
   rejected = λ r. refl;
   pending = refl;
@@ -69,7 +68,7 @@ completed-is c w tick = refl
 completed-is c w (receive k) = ap (λ (n : ℕ). bytesCompleted answers n (headerOf c k)) (number-is w k)
 
 aged-is : (c : Config) (w : Left) (v : Event) → agedOutBy w v ≡ A.agedAt answers Config layers number c (world w) v
-aged-is c w tick = ap (λ (x : World Config). bytesAged (isPending w) (A.pendingIn answers Config layers number c x) (w .mem)) (tick-is (w .endpoint) (w .mem))
+aged-is c w tick = ap (λ (x : World Config). bytesAged (isPending w) (A.isPending x) (w .mem)) (tick-is (w .endpoint) (w .mem))
 aged-is c w (receive k) = refl
 
 -- ---- the proof
@@ -88,10 +87,10 @@ module _ (own port mtu : ℕ) (adds : List Adding) (m : List ℕ) (enough : 5529
         along-by called (next answers Config layers) world (takenBy c) (A.takenAt answers Config layers number c) called-is (taken-is c) es began,
         along-by called (next answers Config layers) world (completedBy c) (A.completedAt answers Config layers number c) called-is (completed-is c) es began,
         along-by called (next answers Config layers) world agedOutBy (A.agedAt answers Config layers number c) called-is (aged-is c) es began,
-        ap (A.pendingNow answers Config layers number c) (calls-are began es),
+        ap (λ (x : World Config). bytesPending (A.isPending x) (x .mem)) (calls-are began es),
       )
-      (accounting answers Config layers number (endsOf e) (set-up-every own port mtu adds) (promised e .kept) (numbered c) m enough es)
+      (L.accounting answers Config layers number (endsOf e) (set-up-every own port mtu adds) (promised e .kept) (numbered c) m enough es)
 
-pub set-up-accounts : (own port mtu : ℕ) (adds : List Adding) → Accounts (setUp own port mtu adds)
-unfolding Accounts
-set-up-accounts own port mtu adds m enough es = account own port mtu adds m enough es
+-- ---- of every set-up
+pub accounting : (own port mtu : ℕ) (adds : List Adding) → Accounts (setUp own port mtu adds)
+accounting own port mtu adds = record { balance = account own port mtu adds }

@@ -3,148 +3,35 @@
 use mathlib.Core.Path.{_≡_, refl, sym, ap, subst, _∙_}
 use mathlib.Core.Logic.{_⊎_, inl, inr, _≢_}
 use mathlib.Core.Bool.{Bool, true, false, cond, not, _&&_, _||_}
-use mathlib.Core.List.{List, [], _∷_, _++_, append-assoc, append-nil}
-use Prim.Native.Nat.{ℕ, zero, suc, _+_, _-_, _*_, _/_, _≤_, _<_}
+use mathlib.Core.List.{List, [], _∷_, _++_}
+use Prim.Native.Nat.{ℕ, _+_, _*_, _/_, _≤_, _<_}
 use native.Mathlib.Omega.{arith}
 use lib.ListN.{length, getD}
 use lib.Dec.{ltb, eqb, leb}
 use borrow.Author.Tests.{ltb-true, ltb-false, leb-true, leb-false, eqb-true, eqb-false, lt-ltb, le-leb, lt-leb, ne-eqb}
-use Rattle.reassembly.specs.Base.{within, allBelow}
-use Rattle.reassembly.specs.Laws.Base.{caseB, either, clash, below-suc, same-test, and-l, and-r, allBelow-at}
-use Rattle.reassembly.specs.Laws.Memory.{within-low, within-high, within-is}
+use Rattle.reassembly.specs.Base.{within}
+use Rattle.reassembly.specs.Laws.Base.{caseB, either, clash, same-test, and-l, and-r, allBelow-at}
+use Rattle.reassembly.specs.Laws.Memory.{within-high, within-is}
 use Rattle.reassembly.specs.Slots.{Note}
-use Rattle.reassembly.specs.Take.{Seg, Fits, Rejection, rejectionCode, Outcome, Rejected, Pending, Complete, NoMemory, slotNo, frameIn, Effect}
-use Rattle.reassembly.specs.Take.{LengthDiffers, AlreadyReceived, NoSlot}
+use Rattle.reassembly.specs.Take.{Seg, Fits, Rejection, rejectionCode, Outcome, Rejected, Pending, Complete, slotNo, frameIn, Effect}
+use Rattle.reassembly.specs.Take.{Empty, FrameLength, PastEnd, LengthDiffers, AlreadyReceived, NoSlot}
 use Rattle.reassembly.specs.Laws.TakeFacts.{rejection-codes, length-frame}
 use Rattle.reassembly.specs.Store.{bytesOf}
-use Rattle.reassembly.specs.Receive.{Answers, Verdict, bad, good, Reading, otherSender, direct, segment, Event, receive, tick, Answer, frameAnswer, takeAnswer}
+use Rattle.reassembly.specs.Receive.{Answers, Verdict, bad, good, Reading, otherSender, direct, segment, Event, receive, tick, Answer, frameAnswer}
+use Rattle.reassembly.specs.Receive.{takeAnswer}
 use Rattle.reassembly.specs.Laws.Answers.{bad-reply, good-reply, rejected-reply, pending-reply, complete-reply}
 use Rattle.reassembly.specs.SetUp.{Layers, Kept, Endpoint, World, receives, next, runs}
 use Rattle.reassembly.specs.Mix.{howMany}
-use Rattle.reassembly.specs.History.{carries, noSeg, covered, lengthOf, frameComplete, framePending, OfFrame, History, taking, Fifteen, Sixteen, Seventeen}
+use Rattle.reassembly.specs.History.{carries, noSeg, covered, frameComplete, framePending, OfFrame, History, taking}
 use Rattle.reassembly.specs.History.{Further, Opens}
-use Rattle.reassembly.specs.EveryRun.{frameAt, mapAt, bitOf, Off, Touches, TakenFor, NothingMoves, Ruled, EveryRun, after, history}
+use Rattle.reassembly.specs.EveryRun.{frameAt, mapAt, bitOf, Off, Touches, TakenFor, NothingMoves, EveryRun, after, history}
 use Rattle.reassembly.specs.Laws.EveryRun.{runs-snoc}
 use Rattle.reassembly.specs.Laws.SetUp.{runs-none, runs-more}
-use Rattle.reassembly.specs.Laws.RulesTake.{under-young, under-is, under-whole}
+use Rattle.reassembly.specs.Laws.RulesTake.{under-young, under-is, under-whole, nothing-pending}
 use Rattle.reassembly.specs.Laws.MadeUp.{Coverer, coverer}
-use Rattle.reassembly.specs.Account.{sumBelow, overSlots, along, takes, completes, bytesTaken, bytesCompleted, marked, bytesPending, bytesAged}
-use Rattle.reassembly.specs.Account.{pendingIn, takenAt, completedAt, agedAt, pendingNow, Account}
-
--- ---- sums
-
-sum-ext : (n : ℕ) (f g : ℕ → ℕ) → ((t : ℕ) → t < n → f t ≡ g t) → sumBelow n f ≡ sumBelow n g
-unfolding sumBelow
-sum-ext zero f g h = refl
-sum-ext (suc n) f g h = omega (arith, h n (omega arith), sum-ext n f g (λ t l. h t (omega arith)))
-
--- one place changes
-sum-one : (n : ℕ) (f g : ℕ → ℕ) (s : ℕ) → s < n → ((t : ℕ) → t < n → t ≢ s → f t ≡ g t) → sumBelow n f + g s ≡ sumBelow n g + f s
-unfolding sumBelow
-sum-one zero f g s l h = absurd (omega arith)
-sum-one (suc n) f g s l h =
-    either (below-suc l)
-    (λ k. omega (arith, h n (omega arith) (λ z. omega arith), sum-one n f g s k (λ t lt d. h t (omega arith) d)))
-    (λ z. rw z (omega (arith, sum-ext n f g (λ t lt. h t (omega arith) (λ y. omega arith)))))
-
-sum-add : (n : ℕ) (f g h : ℕ → ℕ) → ((t : ℕ) → t < n → f t + g t ≡ h t) → sumBelow n f + sumBelow n g ≡ sumBelow n h
-unfolding sumBelow
-sum-add zero f g h e = refl
-sum-add (suc n) f g h e = omega (arith, e n (omega arith), sum-add n f g h (λ t l. e t (omega arith)))
-
-sum-none : (n : ℕ) (f : ℕ → ℕ) → ((t : ℕ) → t < n → f t ≡ 0) → sumBelow n f ≡ 0
-unfolding sumBelow
-sum-none zero f h = refl
-sum-none (suc n) f h = omega (arith, h n (omega arith), sum-none n f (λ t l. h t (omega arith)))
-
-pub slots-ext : (f g : ℕ → ℕ → ℕ) → ((p s : ℕ) → p < 8 → s < 4 → f p s ≡ g p s) → overSlots f ≡ overSlots g
-unfolding overSlots
-slots-ext f g h = sum-ext 8 (λ p. sumBelow 4 (λ s. f p s)) (λ p. sumBelow 4 (λ s. g p s)) (λ p lp. sum-ext 4 (λ s. f p s) (λ s. g p s) (λ s ls. h p s lp ls))
-
-slots-none : (f : ℕ → ℕ → ℕ) → ((p s : ℕ) → p < 8 → s < 4 → f p s ≡ 0) → overSlots f ≡ 0
-unfolding overSlots
-slots-none f h = sum-none 8 (λ p. sumBelow 4 (λ s. f p s)) (λ p lp. sum-none 4 (λ s. f p s) (λ s ls. h p s lp ls))
-
-slots-add : (f g h : ℕ → ℕ → ℕ) → ((p s : ℕ) → p < 8 → s < 4 → f p s + g p s ≡ h p s) → overSlots f + overSlots g ≡ overSlots h
-unfolding overSlots
-slots-add f g h e =
-    sum-add 8 (λ p. sumBelow 4 (λ s. f p s)) (λ p. sumBelow 4 (λ s. g p s)) (λ p. sumBelow 4 (λ s. h p s))
-    (λ p lp. sum-add 4 (λ s. f p s) (λ s. g p s) (λ s. h p s) (λ s ls. e p s lp ls))
-
--- what one slot gains all of them gain
-gained : (a b x y f g f′ g′ : ℕ) → x + g ≡ y + f → f + g′ ≡ g + f′ → a + g′ ≡ b + f′ → a + y ≡ b + x
-gained a b x y f g f′ g′ h k l = omega arith
-
-slots-one : (f g : ℕ → ℕ → ℕ) (q s a b : ℕ) → q < 8 → s < 4 → ((p t : ℕ) → p < 8 → t < 4 → (p ≢ q) ⊎ (t ≢ s) → f p t ≡ g p t)
-    → a + g q s ≡ b + f q s → a + overSlots g ≡ b + overSlots f
-unfolding overSlots
-slots-one f g q s a b lq ls h e =
-    gained a b (sumBelow 8 (λ p. sumBelow 4 (λ t. f p t))) (sumBelow 8 (λ p. sumBelow 4 (λ t. g p t))) (sumBelow 4 (λ t. f q t)) (sumBelow 4 (λ t. g q t))
-    (f q s) (g q s)
-    (sum-one 8 (λ p. sumBelow 4 (λ t. f p t)) (λ p. sumBelow 4 (λ t. g p t)) q lq
-    (λ p lp d. sum-ext 4 (λ t. f p t) (λ t. g p t) (λ t lt. h p t lp lt (inl d))))
-    (sum-one 4 (λ t. f q t) (λ t. g q t) s ls (λ t lt d. h q t lq lt (inr d)))
-    e
-
--- ---- sums along a run
-
-pub along-by : {S T : Type 0} (next : S → Event → S) (next′ : T → Event → T) (to : S → T) (f : S → Event → ℕ) (g : T → Event → ℕ)
-    → ((w : S) (e : Event) → to (next w e) ≡ next′ (to w) e) → ((w : S) (e : Event) → f w e ≡ g (to w) e)
-    → (es : List Event) (w : S) → along next f w es ≡ along next′ g (to w) es
-unfolding along
-along-by next next′ to f g n h [] w = refl
-along-by {T = T} next next′ to f g n h (e ∷ es) w =
-    ap (λ (x : ℕ). x + along next f (next w e) es) (h w e)
-    ∙ ap (λ (x : ℕ). g (to w) e + x) (along-by next next′ to f g n h es (next w e) ∙ ap (λ (x : T). along next′ g x es) (n w e))
-
--- one event more
-along-snoc : {S : Type 0} (next : S → Event → S) (run : S → List Event → S) (f : S → Event → ℕ) → ((w : S) → run w [] ≡ w)
-    → ((w : S) (e : Event) (es : List Event) → run w (e ∷ es) ≡ run (next w e) es)
-    → (es : List Event) (w : S) (v : Event) → along next f w (es ++ (v ∷ [])) ≡ along next f w es + f (run w es) v
-unfolding along
-along-snoc {S} next run f none more [] w v = ap (λ (x : S). f x v + 0) (sym (none w)) ∙ omega arith
-along-snoc {S} next run f none more (e ∷ es) w v =
-    ap (λ (x : ℕ). f w e + x) (along-snoc next run f none more es (next w e) v ∙ ap (λ (x : S). along next f (next w e) es + f x v) (sym (more w e es)))
-    ∙ omega arith
-
--- what holds at first, and of a list with one event more if it does of the list, holds of every list
-from-past : (P : List Event → Type 0) → ((es : List Event) (v : Event) → P es → P (es ++ (v ∷ []))) → (es past : List Event) → P past → P (past ++ es)
-from-past P step [] past h = subst P (sym (append-nil past)) h
-from-past P step (v ∷ es) past h = subst P (append-assoc past (v ∷ []) es) (from-past P step es (past ++ (v ∷ [])) (step past v h))
-
--- ---- counts
-
-count-ext : (n : ℕ) (f g : ℕ → Bool) → ((i : ℕ) → i < n → f i ≡ g i) → howMany n f ≡ howMany n g
-count-ext zero f g h = refl
-count-ext (suc n) f g h = rw (h n (omega arith)) (omega (arith, count-ext n f g (λ i l. h i (omega arith))))
-
-count-none : (n : ℕ) → howMany n (λ i. false) ≡ 0
-count-none zero = refl
-count-none (suc n) = omega (arith, count-none n)
-
--- two tests that never pass together
-count-or : (n : ℕ) (f g : ℕ → Bool) → ((i : ℕ) → f i ≡ true → g i ≡ false) → howMany n (λ i. f i || g i) ≡ howMany n f + howMany n g
-count-or zero f g h = refl
-count-or (suc n) f g h =
-    let ih : howMany n (λ i. f i || g i) ≡ howMany n f + howMany n g = count-or n f g h in
-    caseB (f n)
-    (λ e. rw (e, h n e) (omega (arith, ih)))
-    (λ e. rw e (omega (arith, ih)))
-
-count-within : (n a l : ℕ) → howMany n (within a l) ≡ (n - a) - (n - (a + l))
-count-within zero a l = omega arith
-count-within (suc n) a l =
-    caseB (within a l n)
-    (λ e. rw e (omega (arith, count-within n a l, within-low a l n e, within-high a l n e)))
-    (λ e. rw e (either (outside e) (λ q. omega (arith, count-within n a l)) (λ q. omega (arith, count-within n a l))))
-  where
-    outside : within a l n ≡ false → (n < a) ⊎ (a + l ≤ n)
-    outside e =
-        caseB (ltb n a)
-        (λ q. inl (ltb-true n a q))
-        (λ q. caseB (ltb n (a + l))
-        (λ r. clash (cc (within-is a l n (omega (arith, ltb-false n a q)) (ltb-true n (a + l) r))))
-        (λ r. inr (omega (arith, ltb-false n (a + l) r))))
+use Rattle.reassembly.specs.Account.{overSlots, along, takes, completes, bytesTaken, bytesCompleted, marked, bytesPending, bytesAged}
+use Rattle.reassembly.specs.Account.{isPending, takenAt, completedAt, agedAt, Account}
+use Rattle.reassembly.specs.Laws.Sums.{slots-ext, slots-none, slots-add, slots-one, along-snoc, from-past, count-ext, count-none, count-or, count-within}
 
 -- ---- the bytes that segments cover
 
@@ -153,7 +40,7 @@ bytesCovered gs = howMany 1536 (covered gs)
 
 covered-none : bytesCovered [] ≡ 0
 unfolding bytesCovered
-covered-none = count-none 1536
+covered-none = count-none 1536 (covered []) (λ i l. refl)
 
 covered-more : (g : Seg) (gs : List Seg) → Fits g → ((i : ℕ) → carries g i ≡ true → covered gs i ≡ false)
     → bytesCovered (g ∷ gs) ≡ length (g .bytes) + bytesCovered gs
@@ -197,10 +84,13 @@ one-more t c a n t₁ c₁ a₁ n₁ h k = omega arith
 -- ---- the numbers
 
 takes-rejected : (r : Rejection) → takes (rejectionCode r) ≡ false
-unfolding takes
-takes-rejected r =
-    let c = rejection-codes r in
-    rw (ne-eqb (rejectionCode r) 2 (λ z. omega (arith, c .0)), le-leb 14 (rejectionCode r) (c .0), le-leb (rejectionCode r) 17 (c .1)) refl
+unfolding takes rejectionCode
+takes-rejected Empty = refl
+takes-rejected FrameLength = refl
+takes-rejected PastEnd = refl
+takes-rejected LengthDiffers = refl
+takes-rejected AlreadyReceived = refl
+takes-rejected NoSlot = refl
 
 completes-takes : (n : ℕ) → completes n ≡ true → takes n ≡ true
 unfolding completes
@@ -242,10 +132,6 @@ unfolding framePending
 younger gs t e =
     let l : t + 1 < 4 = under-young gs (t + 1) e in
     rw (lt-ltb t 4 (omega arith)) (and-r (ltb (t + 1) 4) (not (frameComplete gs)) e)
-
-nothing-pending : (t : ℕ) → framePending [] t ≡ false
-unfolding frameComplete allBelow
-nothing-pending t = under-whole [] t refl
 
 -- where another slot's map lies: neither in this slot's frame nor in its map
 apart-maps : (p t q s i : ℕ) (g : Seg) → t < 4 → s < 4 → Fits g → (p ≢ q) ⊎ (t ≢ s) → i < 1536
@@ -301,9 +187,6 @@ module _ (W : Answers) (Config : Type 0) (U : Layers W Config) (number : W .A �
   abbrev histories : ℕ → List Event → History
   histories p es = history W Config U p e m es
 
-  abbrev isPending : World Config → ℕ → ℕ → Bool
-  isPending w p s = pendingIn W Config U number (e .config) w p s
-
   abbrev slotBytes : World Config → ℕ → ℕ → ℕ
   slotBytes w p s = cond (isPending w p s) (marked (w .mem) p s) 0
 
@@ -342,12 +225,12 @@ module _ (W : Answers) (Config : Type 0) (U : Layers W Config) (number : W .A �
       ∙ ap (λ (x : ℕ). cond (isPending (at es) p s) x 0) (marked-ext (at es .mem) (at es′ .mem) p s (h .bits))
 
   -- one event: the bits are still those of the bytes covered, and what came in is what went out and what is marked now
-  record Kept1 (es : List Event) (v : Event) (came went : ℕ) : Type 0 where
+  record Balances (es : List Event) (v : Event) (came went : ℕ) : Type 0 where
     marks : Marks (es ++ (v ∷ []))
     balance : came + overSlots (slotBytes (at es)) ≡ went + overSlots (slotBytes (at (es ++ (v ∷ []))))
 
   -- nothing moves
-  all-same : (es : List Event) (v : Event) → Marks es → ((p s : ℕ) → p < 8 → s < 4 → Same es (es ++ (v ∷ [])) p s) → Kept1 es v 0 0
+  all-same : (es : List Event) (v : Event) → Marks es → ((p s : ℕ) → p < 8 → s < 4 → Same es (es ++ (v ∷ [])) p s) → Balances es v 0 0
   all-same es v k h = record {
     marks = λ p s lp ls. same-marks es (es ++ (v ∷ [])) p s lp ls (h p s lp ls) k;
     balance = ap (λ (x : ℕ). 0 + x)
@@ -388,7 +271,7 @@ module _ (W : Answers) (Config : Type 0) (U : Layers W Config) (number : W .A �
           ∙ ap (λ (x : Outcome). number (takeAnswer W (U .judge (e .config)) bytesOf q g (taking W Config U q (at es) g) x .reply)) h
 
       abbrev Balanced : Type 0
-      Balanced = Kept1 es (receive k) (cond (takes n) (length (g .bytes)) 0) (cond (completes n) (g .frame-length) 0)
+      Balanced = Balances es (receive k) (cond (takes n) (length (g .bytes)) 0) (cond (completes n) (g .frame-length) 0)
 
       -- rejected
       rejected : (r : Rejection) → outcome ≡ Rejected r → NothingMoves (histories q es) (histories q es′) (at es .mem) (at es′ .mem) → Balanced
@@ -501,14 +384,14 @@ module _ (W : Answers) (Config : Type 0) (U : Layers W Config) (number : W .A �
           refused f r o = rejected r o (rules q lq .ruled m enough es k g sound f .rejected r o)
 
     -- what the layers make of the packet
-    no-segment : ((q : ℕ) (g : Seg) → U .header (e .config) k ≡ segment q g → ⊥) → Kept1 es (receive k) 0 0
+    no-segment : ((q : ℕ) (g : Seg) → U .header (e .config) k ≡ segment q g → ⊥) → Balances es (receive k) 0 0
     no-segment none =
         all-same es (receive k) marks
         (λ p s lp ls. let h = rules p lp .no-segment m enough es k none in
         record { taken = h .taken s; ticks = h .ticks s; bits = λ i l. ap (λ (x : List ℕ). bitOf x (mapAt p s) i) (h .memory) })
 
     reading-kept : (x : Reading W) → U .header (e .config) k ≡ x → Kept W x
-        → Kept1 es (receive k) (bytesTaken W (numberOf es k) x) (bytesCompleted W (numberOf es k) x)
+        → Balances es (receive k) (bytesTaken W (numberOf es k) x) (bytesCompleted W (numberOf es k) x)
     unfolding bytesTaken bytesCompleted
     reading-kept (otherSender a) h l = no-segment (λ q g c. clash (cc (sym h ∙ c)))
     reading-kept (direct q a) h l = no-segment (λ p g c. clash (cc (sym h ∙ c)))
@@ -540,7 +423,7 @@ module _ (W : Answers) (Config : Type 0) (U : Layers W Config) (number : W .A �
         (λ z. rw (z, was p s lp ls z, memory-left) (omega arith))
         (λ z. caseB (isPending (at es) p s) (λ y. rw (z, y) (omega arith)) (λ y. rw (z, y) refl))
 
-    tick-kept : Kept1 es tick 0 (bytesAged (isPending (at es)) (isPending (at later)) (at es .mem))
+    tick-kept : Balances es tick 0 (bytesAged (isPending (at es)) (isPending (at later)) (at es .mem))
     unfolding bytesAged
     tick-kept =
         record {
@@ -564,13 +447,13 @@ module _ (W : Answers) (Config : Type 0) (U : Layers W Config) (number : W .A �
   abbrev aged-at : World Config → Event → ℕ
   aged-at = agedAt W Config U number (e .config)
 
-  event-kept : (es : List Event) (v : Event) → Marks es → Kept1 es v (taken-at (at es) v) (completed-at (at es) v + aged-at (at es) v)
+  event-kept : (es : List Event) (v : Event) → Marks es → Balances es v (taken-at (at es) v) (completed-at (at es) v + aged-at (at es) v)
   event-kept es tick k =
-      subst (λ (w : World Config). Kept1 es tick 0 (0 + bytesAged (isPending (at es)) (isPending w) (at es .mem)))
+      subst (λ (w : World Config). Balances es tick 0 (0 + bytesAged (isPending (at es)) (isPending w) (at es .mem)))
       (runs-snoc W Config U es (record { ends = e; mem = m }) tick)
-      (subst (λ (x : ℕ). Kept1 es tick 0 x) (omega arith) (tick-kept es k))
+      (subst (λ (x : ℕ). Balances es tick 0 x) (omega arith) (tick-kept es k))
   event-kept es (receive k) marks =
-      subst (λ (x : ℕ). Kept1 es (receive k) (taken-at (at es) (receive k)) x) (omega arith) (reading-kept es k marks (U .header (e .config) k) refl (kept k))
+      subst (λ (x : ℕ). Balances es (receive k) (taken-at (at es) (receive k)) x) (omega arith) (reading-kept es k marks (U .header (e .config) k) refl (kept k))
 
   record Accounted (es : List Event) : Type 0 where
     marks : Marks es

@@ -1,6 +1,6 @@
 -- One after another (document 01, "Whose packet it is"): a run of the same segment packets alone, whole frame by whole frame. It is a mixing.
 use mathlib.Core.Path.{_≡_, refl, ap}
-use mathlib.Core.Bool.{Bool, true, false}
+use mathlib.Core.Bool.{Bool, true}
 use mathlib.Core.List.{List, [], _∷_, _++_}
 use Prim.Native.Nat.{ℕ, zero, suc, _≤_, _<_}
 use native.Mathlib.Omega.{arith}
@@ -9,18 +9,15 @@ use Rattle.reassembly.specs.Laws.Base.{caseB}
 use Rattle.reassembly.specs.Receive.{Answers, Reading}
 use Rattle.reassembly.specs.Mix.{Frame, Item, given, other, ticks, pendingAt, howMany, AllFree, Mixing, InTurn, Only}
 use Rattle.reassembly.specs.Laws.MixFacts.{ticks-append}
+use Rattle.reassembly.specs.Laws.Sums.{count-none}
 
 -- a test that holds at one number below n at most
 at-most-one : (n : ℕ) (t : ℕ → Bool) → ((f g : ℕ) → f < n → g < n → t f ≡ true → t g ≡ true → f ≡ g) → howMany n t ≤ 1
 at-most-one zero t u = omega arith
 at-most-one (suc n) t u =
     caseB (t n)
-    (λ e. rw e (omega (arith, none-below n t (λ f l. caseB (t f) (λ q. absurd (omega (arith, u f n (omega arith) (omega arith) q e))) (λ q. q)))))
+    (λ e. rw e (omega (arith, count-none n t (λ f l. caseB (t f) (λ q. absurd (omega (arith, u f n (omega arith) (omega arith) q e))) (λ q. q)))))
     (λ e. rw e (omega (arith, at-most-one n t (λ f g lf lg. u f g (omega arith) (omega arith)))))
-  where
-    none-below : (n : ℕ) (t : ℕ → Bool) → ((f : ℕ) → f < n → t f ≡ false) → howMany n t ≡ 0
-    none-below zero t h = refl
-    none-below (suc n) t h = rw (h n (omega arith)) (omega (arith, none-below n t (λ f l. h f (omega arith))))
 
 only-ticks : (xs : List Item) → Only xs → ticks xs ≡ 0
 only-ticks [] o = refl

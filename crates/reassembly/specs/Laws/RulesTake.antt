@@ -11,7 +11,7 @@ use lib.ListN.{length, getD, set, length-set, length-map}
 use lib.Seq.{set-set}
 use lib.Dec.{ltb, eqb}
 use borrow.Author.Tests.{ltb-true, ltb-false, lt-ltb, le-ltb, eqb-true, eqb-false, eq-eqb, ne-eqb}
-use Rattle.reassembly.specs.Base.{someBelow}
+use Rattle.reassembly.specs.Base.{allBelow, someBelow}
 use Rattle.reassembly.specs.Laws.Base.{caseB, caseO, either, clash, allBelow-ext, someBelow-some, someBelow-none, or-false-l, or-false-r, and-l, and-r}
 use Rattle.reassembly.specs.Slots.{Slot, Peer, Note, noNote, noteOf, free, first, bears, isFree, older, lifetime, mostSlots}
 use Rattle.reassembly.specs.Laws.Slots.{First, first-some, first-none, first-is, first-not, older-pending}
@@ -203,6 +203,10 @@ under-is gs t l e = rw (lt-ltb t 4 l, e)
 pub under-whole : (gs : List Seg) (t : ℕ) → frameComplete gs ≡ true → framePending gs t ≡ false
 unfolding framePending
 under-whole gs t e = caseB (ltb t 4) (λ q. rw (q, e)) (λ q. rw q)
+
+pub nothing-pending : (t : ℕ) → framePending [] t ≡ false
+unfolding frameComplete allBelow
+nothing-pending t = under-whole [] t refl
 
 free-stands : (gs : List Seg) (t : ℕ) → framePending gs t ≡ false → Stands free gs t
 free-stands gs t e = record { pending = sym e; identifier = λ q. clash (cc); size = λ q. clash (cc); age = λ q. clash (cc) }

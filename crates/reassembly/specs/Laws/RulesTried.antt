@@ -6,9 +6,8 @@ use mathlib.Core.List.{List, [], _∷_}
 use Prim.Native.Nat.{ℕ, zero, suc, _≤_, _<_}
 use native.Mathlib.Omega.{arith}
 use lib.ListN.{length}
-use lib.Dec.{ltb, eqb}
+use lib.Dec.{eqb}
 use borrow.Author.Tests.{eqb-true, eqb-false}
-use Rattle.reassembly.specs.Base.{allBelow}
 use Rattle.reassembly.specs.Laws.Base.{caseB, clash}
 use Rattle.reassembly.specs.Take.{Seg, Outcome, Rejected, Pending, AlreadyReceived, Fits}
 use Rattle.reassembly.specs.Laws.Memory.{within-is}
@@ -16,6 +15,7 @@ use Rattle.reassembly.specs.Receive.{Answers, segment, Event, receive, t
 use Rattle.reassembly.specs.SetUp.{Layers, Endpoint, World, runs}
 use Rattle.reassembly.specs.History.{carries, taking, frameComplete, framePending, History, pendingIn, Opens, historyOf}
 use Rattle.reassembly.specs.EveryRun.{EveryRun}
+use Rattle.reassembly.specs.Laws.RulesTake.{nothing-pending}
 use Rattle.reassembly.specs.Slots.{mostSlots}
 
 -- segments alone, t ticks after the first
@@ -26,10 +26,6 @@ alone g (suc zero) e l = rw e
 alone g (suc (suc zero)) e l = rw e
 alone g (suc (suc (suc zero))) e l = rw e
 alone g (suc (suc (suc (suc t)))) e l = absurd (omega arith)
-
-nothing : (t : ℕ) → framePending [] t ≡ false
-unfolding framePending frameComplete allBelow
-nothing t = caseB (ltb t 4) (λ e. rw e) (λ e. rw e)
 
 too-old : (gs : List Seg) → framePending gs 4 ≡ false
 unfolding framePending
@@ -51,8 +47,8 @@ module _ (W : Answers) (Config : Type 0) (U : Layers W Config) (p : ℕ) (e : En
   pub opens-first : Opens (takeAnswer []) g 0
   opens-first =
       record {
-        none-bears = λ s w. clash (cc (nothing 0, w .pending));
-        lowest = record { is-slot = omega arith; idle = nothing 0; below = λ t l. absurd (omega arith) };
+        none-bears = λ s w. clash (cc (nothing-pending 0, w .pending));
+        lowest = record { is-slot = omega arith; idle = nothing-pending 0; below = λ t l. absurd (omega arith) };
       }
 
   pub first : (outcome [] ≡ Pending) × ((takeAnswer (receive k ∷ []) .taken 0 ≡ g ∷ []) × (takeAnswer (receive k ∷ []) .ticks 0 ≡ 0))
@@ -94,4 +90,4 @@ module _ (W : Answers) (Config : Type 0) (U : Layers W Config) (p : ℕ) (e : En
           let t = rules .ruled m enough [] k g sound f .opens 0 opens-first in
           caseB (eqb s 0)
           (λ q. rw (eqb-true s 0 q) fourth)
-          (λ q. let o = t .others s (eqb-false s 0 q) in rw (o .0) (nothing (takeAnswer (receive k ∷ tick ∷ tick ∷ tick ∷ tick ∷ []) .ticks s)))
+          (λ q. let o = t .others s (eqb-false s 0 q) in rw (o .0) (nothing-pending (takeAnswer (receive k ∷ tick ∷ tick ∷ tick ∷ tick ∷ []) .ticks s)))
