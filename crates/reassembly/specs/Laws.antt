@@ -35,3 +35,4 @@ pub mod Carried
 pub mod MadeUp
 pub mod Sums
 pub mod Account
+pub mod AccountTried

@@ -8,14 +8,14 @@ use Prim.Native.Nat.{ℕ, _+_, _*_, _/_, _≤_, _<_}
 use native.Mathlib.Omega.{arith}
 use lib.ListN.{length, getD}
 use lib.Dec.{ltb, eqb, leb}
-use borrow.Author.Tests.{ltb-true, ltb-false, leb-true, leb-false, eqb-true, eqb-false, lt-ltb, le-leb, lt-leb, ne-eqb}
+use borrow.Author.Tests.{ltb-true, ltb-false, leb-true, leb-false, eqb-true, eqb-false, lt-ltb, lt-leb, ne-eqb}
 use Rattle.reassembly.specs.Base.{within}
 use Rattle.reassembly.specs.Laws.Base.{caseB, either, clash, same-test, and-l, and-r, allBelow-at}
 use Rattle.reassembly.specs.Laws.Memory.{within-high, within-is}
 use Rattle.reassembly.specs.Slots.{Note}
 use Rattle.reassembly.specs.Take.{Seg, Fits, Rejection, rejectionCode, Outcome, Rejected, Pending, Complete, slotNo, frameIn, Effect}
 use Rattle.reassembly.specs.Take.{Empty, FrameLength, PastEnd, LengthDiffers, AlreadyReceived, NoSlot}
-use Rattle.reassembly.specs.Laws.TakeFacts.{rejection-codes, length-frame}
+use Rattle.reassembly.specs.Laws.TakeFacts.{length-frame}
 use Rattle.reassembly.specs.Store.{bytesOf}
 use Rattle.reassembly.specs.Receive.{Answers, Verdict, bad, good, Reading, otherSender, direct, segment, Event, receive, tick, Answer, frameAnswer}
 use Rattle.reassembly.specs.Receive.{takeAnswer}
@@ -92,7 +92,7 @@ takes-rejected LengthDiffers = refl
 takes-rejected AlreadyReceived = refl
 takes-rejected NoSlot = refl
 
-completes-takes : (n : ℕ) → completes n ≡ true → takes n ≡ true
+pub completes-takes : (n : ℕ) → completes n ≡ true → takes n ≡ true
 unfolding completes
 completes-takes n e = and-l (takes n) (not (eqb n 1)) e
 
@@ -109,7 +109,7 @@ completes-zero : completes 0 ≡ true
 unfolding completes takes
 completes-zero = refl
 
-pending-takes : (takes 1 ≡ true) × (completes 1 ≡ false)
+pub pending-takes : (takes 1 ≡ true) × (completes 1 ≡ false)
 unfolding completes takes
 pending-takes = (refl, refl)
 
@@ -239,13 +239,13 @@ module _ (W : Answers) (Config : Type 0) (U : Layers W Config) (number : W .A �
 
   -- ---- a receive
 
-  module _ (es : List Event) (k : List ℕ) (marks : Marks es) where
+  module _ (es : List Event) (k : List ℕ) where
     abbrev es′ : List Event
     es′ = es ++ (receive k ∷ [])
 
     -- neither a segment of peer q's that is rejected nor a packet without one moves anything
-    unmoved : (q : ℕ) → ((p : ℕ) → p < 8 → p ≢ q → histories p es′ ≡ histories p es) → NothingMoves (histories q es) (histories q es′) (at es .mem) (at es′ .mem)
-        → (p s : ℕ) → p < 8 → s < 4 → Same es es′ p s
+    unmoved : (q : ℕ) → ((p : ℕ) → p < 8 → p ≢ q → histories p es′ ≡ histories p es)
+        → NothingMoves (histories q es) (histories q es′) (at es .mem) (at es′ .mem) → (p s : ℕ) → p < 8 → s < 4 → Same es es′ p s
     unmoved q others h p s lp ls =
         let bits : (i : ℕ) → i < 1536 → bitOf (at es′ .mem) (mapAt p s) i ≡ bitOf (at es .mem) (mapAt p s) i =
         λ i l. ap (λ (x : List ℕ). bitOf x (mapAt p s) i) (h .memory) in
@@ -270,22 +270,10 @@ module _ (W : Answers) (Config : Type 0) (U : Layers W Config) (number : W .A �
           ap number (rules q lq .answered m enough es k g sound)
           ∙ ap (λ (x : Outcome). number (takeAnswer W (U .judge (e .config)) bytesOf q g (taking W Config U q (at es) g) x .reply)) h
 
-      abbrev Balanced : Type 0
-      Balanced = Balances es (receive k) (cond (takes n) (length (g .bytes)) 0) (cond (completes n) (g .frame-length) 0)
+      pub pending-number : outcome ≡ Pending → n ≡ 1
+      pending-number o =
+          answer-is Pending o ∙ ap number (pending-reply W (U .judge (e .config)) bytesOf q g (taking W Config U q (at es) g)) ∙ numbered .pending
 
-      -- rejected
-      rejected : (r : Rejection) → outcome ≡ Rejected r → NothingMoves (histories q es) (histories q es′) (at es .mem) (at es′ .mem) → Balanced
-      rejected r o h =
-          let a : n ≡ rejectionCode r =
-          answer-is (Rejected r) o ∙ ap number (rejected-reply W (U .judge (e .config)) bytesOf q g (taking W Config U q (at es) g) r) ∙ numbered .rejected r in
-          let t : takes n ≡ false = ap takes a ∙ takes-rejected r in
-          rw (t, rejected-counts n t) (all-same es (receive k) marks (unmoved q others h))
-
-      -- pending
-      pending-number : outcome ≡ Pending → n ≡ 1
-      pending-number o = answer-is Pending o ∙ ap number (pending-reply W (U .judge (e .config)) bytesOf q g (taking W Config U q (at es) g)) ∙ numbered .pending
-
-      -- complete
       verdict-number : (x : Verdict W) (note : Note) (frame : List ℕ) (i size : ℕ) → 32 ≤ length frame → U .judge (e .config) q note frame ≡ x
           → completes (number (frameAnswer W x i size frame .reply)) ≡ true
       verdict-number (bad b) note frame i size l h =
@@ -293,7 +281,7 @@ module _ (W : Answers) (Config : Type 0) (U : Layers W Config) (number : W .A �
       verdict-number (good v) note frame i size l h =
           ap (λ (y : W .A). completes (number y)) (good-reply W v i size frame) ∙ ap completes (numbered .delivered v _ _) ∙ completes-zero
 
-      complete-number : (s : ℕ) → Fits g → outcome ≡ Complete s → completes n ≡ true
+      pub complete-number : (s : ℕ) → Fits g → outcome ≡ Complete s → completes n ≡ true
       complete-number s f o =
           let x : Effect bytesOf = taking W Config U q (at es) g in
           let frame : List ℕ = frameIn bytesOf (x .mem) (slotNo q s) (g .frame-length) in
@@ -301,101 +289,115 @@ module _ (W : Answers) (Config : Type 0) (U : Layers W Config) (number : W .A �
           ∙ verdict-number (U .judge (e .config) q (x .note) frame) (x .note) frame (slotNo q s) (g .frame-length)
           (omega (arith, length-frame bytesOf (x .mem) (slotNo q s) (g .frame-length), f .least)) refl
 
-      -- taken for slot s, whose frame has the segments gs
-      module _ (s : ℕ) (ls : s < 4) (f : Fits g) (new : Bool) (gs : List Seg) (ticks : ℕ)
-          (t : TakenFor q s new g (g ∷ gs) ticks (histories q es) (histories q es′) outcome (at es .mem) (at es′ .mem))
-          (young : ticks < 4) (apart : (i : ℕ) → carries g i ≡ true → covered gs i ≡ false) (before : slotBytes (at es) q s ≡ bytesCovered gs)
-          (bits : (i : ℕ) → i < 1536 → bitOf (at es′ .mem) (mapAt q s) i ≡ covered (g ∷ gs) i) where
-        elsewhere : (p u : ℕ) → p < 8 → u < 4 → (p ≢ q) ⊎ (u ≢ s) → Same es es′ p u
-        elsewhere p u lp lu d =
-            let marked-same : (i : ℕ) → i < 1536 → bitOf (at es′ .mem) (mapAt p u) i ≡ bitOf (at es .mem) (mapAt p u) i =
-            λ i l. touches-other p u q s i new g (at es .mem) (at es′ .mem) (t .touches) lu ls f d l in
-            caseB (eqb p q)
-            (λ c. let z : p ≡ q = eqb-true p q c in
-            let o = t .others u (either d (λ x. absurd (x z)) (λ x. x)) in
-            rw z (record { taken = o .0; ticks = o .1; bits = rw z at marked-same }))
-            (λ c. let z : histories p es′ ≡ histories p es = others p lp (eqb-false p q c) in
-            record { taken = ap (λ (x : History). x .taken u) z; ticks = ap (λ (x : History). x .ticks u) z; bits = marked-same })
+      module _ (marks : Marks es) where
+        abbrev Balanced : Type 0
+        Balanced = Balances es (receive k) (cond (takes n) (length (g .bytes)) 0) (cond (completes n) (g .frame-length) 0)
 
-        now-pending : isPending (at es′) q s ≡ framePending (g ∷ gs) ticks
-        now-pending =
-            pending-is es′ q s lq ls
-            ∙ ap (λ (x : List Seg). framePending x (histories q es′ .ticks s)) (t .segments)
-            ∙ ap (λ (x : ℕ). framePending (g ∷ gs) x) (t .clock)
+        -- rejected
+        rejected : (r : Rejection) → outcome ≡ Rejected r → NothingMoves (histories q es) (histories q es′) (at es .mem) (at es′ .mem) → Balanced
+        rejected r o h =
+            let a : n ≡ rejectionCode r =
+            answer-is (Rejected r) o ∙ ap number (rejected-reply W (U .judge (e .config)) bytesOf q g (taking W Config U q (at es) g) r)
+            ∙ numbered .rejected r in
+            let t : takes n ≡ false = ap takes a ∙ takes-rejected r in
+            rw (t, rejected-counts n t) (all-same es (receive k) marks (unmoved q others h))
 
-        now-marked : marked (at es′ .mem) q s ≡ length (g .bytes) + bytesCovered gs
-        now-marked = marked-covered (at es′ .mem) q s (g ∷ gs) bits ∙ covered-more g gs f apart
-
-        -- the slot: what the segment brought is marked in it, or its frame is complete
-        here : cond (takes n) (length (g .bytes)) 0 + slotBytes (at es) q s ≡ cond (completes n) (g .frame-length) 0 + slotBytes (at es′) q s
-        here =
-            caseB (frameComplete (g ∷ gs))
-            (λ c. let o : outcome ≡ Complete s = t .outcome ∙ rw c in
-            let w : completes n ≡ true = complete-number s f o in
-            let z : isPending (at es′) q s ≡ false = now-pending ∙ under-whole (g ∷ gs) ticks c in
-            rw (w, completes-takes n w, z) (omega (arith, before, covered-more g gs f apart, covered-complete g gs (t .of-frame) c)))
-            (λ c. let o : outcome ≡ Pending = t .outcome ∙ rw c in
-            let w : n ≡ 1 = pending-number o in
-            let z : isPending (at es′) q s ≡ true = now-pending ∙ under-is (g ∷ gs) ticks young c in
-            rw (ap takes w ∙ pending-takes .0, ap completes w ∙ pending-takes .1, z) (omega (arith, before, now-marked)))
-
-        taken : Balanced
-        taken = record {
-          marks = λ p u lp lu.
+        -- taken for slot s, whose frame has the segments gs
+        module _ (s : ℕ) (ls : s < 4) (f : Fits g) (new : Bool) (gs : List Seg) (ticks : ℕ)
+            (t : TakenFor q s new g (g ∷ gs) ticks (histories q es) (histories q es′) outcome (at es .mem) (at es′ .mem))
+            (young : ticks < 4) (apart : (i : ℕ) → carries g i ≡ true → covered gs i ≡ false) (before : slotBytes (at es) q s ≡ bytesCovered gs)
+            (bits : (i : ℕ) → i < 1536 → bitOf (at es′ .mem) (mapAt q s) i ≡ covered (g ∷ gs) i) where
+          elsewhere : (p u : ℕ) → p < 8 → u < 4 → (p ≢ q) ⊎ (u ≢ s) → Same es es′ p u
+          elsewhere p u lp lu d =
+              let marked-same : (i : ℕ) → i < 1536 → bitOf (at es′ .mem) (mapAt p u) i ≡ bitOf (at es .mem) (mapAt p u) i =
+              λ i l. touches-other p u q s i new g (at es .mem) (at es′ .mem) (t .touches) lu ls f d l in
               caseB (eqb p q)
-              (λ c. caseB (eqb u s)
-              (λ d. rw (eqb-true p q c, eqb-true u s d) (λ z i l. bits i l ∙ ap (λ (x : List Seg). covered x i) (sym (t .segments))))
-              (λ d. same-marks es es′ p u lp lu (elsewhere p u lp lu (inr (eqb-false u s d))) marks))
-              (λ c. same-marks es es′ p u lp lu (elsewhere p u lp lu (inl (eqb-false p q c))) marks);
-          balance =
-              slots-one (slotBytes (at es′)) (slotBytes (at es)) q s (cond (takes n) (length (g .bytes)) 0) (cond (completes n) (g .frame-length) 0) lq ls
-              (λ p u lp lu d. same-bytes es es′ p u lp lu (elsewhere p u lp lu d)) here;
-        }
+              (λ c. let z : p ≡ q = eqb-true p q c in
+              let o = t .others u (either d (λ x. absurd (x z)) (λ x. x)) in
+              rw z (record { taken = o .0; ticks = o .1; bits = rw z at marked-same }))
+              (λ c. let z : histories p es′ ≡ histories p es = others p lp (eqb-false p q c) in
+              record { taken = ap (λ (x : History). x .taken u) z; ticks = ap (λ (x : History). x .ticks u) z; bits = marked-same })
 
-      -- each case of the rules
-      further : (f : Fits g) (s : ℕ) → Further (histories q es) g s → Balanced
-      further f s w =
-          let ls : s < 4 = w .bears .is-slot in
-          let t = rules q lq .ruled m enough es k g sound f .further s w in
-          let z : isPending (at es) q s ≡ true = pending-is es q s lq ls ∙ w .bears .pending in
-          taken s ls f false (histories q es .taken s) (histories q es .ticks s) t
-          (under-young (histories q es .taken s) (histories q es .ticks s) (w .bears .pending)) (w .apart)
-          (rw z (marked-covered (at es .mem) q s (histories q es .taken s) (marks q s lq ls z)))
-          (λ i l. t .touches .bits i l ∙ ap (λ (b : Bool). carries g i || b) (marks q s lq ls z i l))
+          now-pending : isPending (at es′) q s ≡ framePending (g ∷ gs) ticks
+          now-pending =
+              pending-is es′ q s lq ls
+              ∙ ap (λ (x : List Seg). framePending x (histories q es′ .ticks s)) (t .segments)
+              ∙ ap (λ (x : ℕ). framePending (g ∷ gs) x) (t .clock)
 
-      opens : (f : Fits g) (s : ℕ) → Opens (histories q es) g s → Balanced
-      opens f s w =
-          let ls : s < 4 = w .lowest .is-slot in
-          let t = rules q lq .ruled m enough es k g sound f .opens s w in
-          let z : isPending (at es) q s ≡ false = pending-is es q s lq ls ∙ w .lowest .idle in
-          taken s ls f true [] 0 t (omega arith) (λ i c. refl) (rw z (sym covered-none)) (t .touches .bits)
+          now-marked : marked (at es′ .mem) q s ≡ length (g .bytes) + bytesCovered gs
+          now-marked = marked-covered (at es′ .mem) q s (g ∷ gs) bits ∙ covered-more g gs f apart
 
-      segment-kept : Balanced
-      segment-kept =
-          either (fits-or-not g)
-          (λ f. let r = rules q lq .ruled m enough es k g sound f in
-          either (r .one-of) (λ w. refused f LengthDiffers (r .fifteen .all w))
-          (λ y. either y (λ w. refused f AlreadyReceived (r .sixteen .all w))
-          (λ y. either y (λ w. refused f NoSlot (r .seventeen .all w))
-          (λ y. either y (λ w. further f (w .0) (w .1)) (λ w. opens f (w .0) (w .1))))))
-          (λ f. let r = rules q lq .fourteen m enough es k g sound f in rejected (r .cause) (r .rejected) (r .unchanged))
-        where
-          refused : (f : Fits g) (r : Rejection) → outcome ≡ Rejected r → Balanced
-          refused f r o = rejected r o (rules q lq .ruled m enough es k g sound f .rejected r o)
+          -- the slot: what the segment brought is marked in it, or its frame is complete
+          here : cond (takes n) (length (g .bytes)) 0 + slotBytes (at es) q s ≡ cond (completes n) (g .frame-length) 0 + slotBytes (at es′) q s
+          here =
+              caseB (frameComplete (g ∷ gs))
+              (λ c. let o : outcome ≡ Complete s = t .outcome ∙ rw c in
+              let w : completes n ≡ true = complete-number s f o in
+              let z : isPending (at es′) q s ≡ false = now-pending ∙ under-whole (g ∷ gs) ticks c in
+              rw (w, completes-takes n w, z) (omega (arith, before, covered-more g gs f apart, covered-complete g gs (t .of-frame) c)))
+              (λ c. let o : outcome ≡ Pending = t .outcome ∙ rw c in
+              let w : n ≡ 1 = pending-number o in
+              let z : isPending (at es′) q s ≡ true = now-pending ∙ under-is (g ∷ gs) ticks young c in
+              rw (ap takes w ∙ pending-takes .0, ap completes w ∙ pending-takes .1, z) (omega (arith, before, now-marked)))
 
-    -- what the layers make of the packet
-    no-segment : ((q : ℕ) (g : Seg) → U .header (e .config) k ≡ segment q g → ⊥) → Balances es (receive k) 0 0
-    no-segment none =
-        all-same es (receive k) marks
-        (λ p s lp ls. let h = rules p lp .no-segment m enough es k none in
-        record { taken = h .taken s; ticks = h .ticks s; bits = λ i l. ap (λ (x : List ℕ). bitOf x (mapAt p s) i) (h .memory) })
+          taken : Balanced
+          taken = record {
+            marks = λ p u lp lu.
+                caseB (eqb p q)
+                (λ c. caseB (eqb u s)
+                (λ d. rw (eqb-true p q c, eqb-true u s d) (λ z i l. bits i l ∙ ap (λ (x : List Seg). covered x i) (sym (t .segments))))
+                (λ d. same-marks es es′ p u lp lu (elsewhere p u lp lu (inr (eqb-false u s d))) marks))
+                (λ c. same-marks es es′ p u lp lu (elsewhere p u lp lu (inl (eqb-false p q c))) marks);
+            balance =
+                slots-one (slotBytes (at es′)) (slotBytes (at es)) q s (cond (takes n) (length (g .bytes)) 0) (cond (completes n) (g .frame-length) 0) lq ls
+                (λ p u lp lu d. same-bytes es es′ p u lp lu (elsewhere p u lp lu d)) here;
+          }
 
-    reading-kept : (x : Reading W) → U .header (e .config) k ≡ x → Kept W x
-        → Balances es (receive k) (bytesTaken W (numberOf es k) x) (bytesCompleted W (numberOf es k) x)
-    unfolding bytesTaken bytesCompleted
-    reading-kept (otherSender a) h l = no-segment (λ q g c. clash (cc (sym h ∙ c)))
-    reading-kept (direct q a) h l = no-segment (λ p g c. clash (cc (sym h ∙ c)))
-    reading-kept (segment q g) h l = segment-kept q l g h
+        -- each case of the rules
+        further : (f : Fits g) (s : ℕ) → Further (histories q es) g s → Balanced
+        further f s w =
+            let ls : s < 4 = w .bears .is-slot in
+            let t = rules q lq .ruled m enough es k g sound f .further s w in
+            let z : isPending (at es) q s ≡ true = pending-is es q s lq ls ∙ w .bears .pending in
+            taken s ls f false (histories q es .taken s) (histories q es .ticks s) t
+            (under-young (histories q es .taken s) (histories q es .ticks s) (w .bears .pending)) (w .apart)
+            (rw z (marked-covered (at es .mem) q s (histories q es .taken s) (marks q s lq ls z)))
+            (λ i l. t .touches .bits i l ∙ ap (λ (b : Bool). carries g i || b) (marks q s lq ls z i l))
+
+        opens : (f : Fits g) (s : ℕ) → Opens (histories q es) g s → Balanced
+        opens f s w =
+            let ls : s < 4 = w .lowest .is-slot in
+            let t = rules q lq .ruled m enough es k g sound f .opens s w in
+            let z : isPending (at es) q s ≡ false = pending-is es q s lq ls ∙ w .lowest .idle in
+            taken s ls f true [] 0 t (omega arith) (λ i c. refl) (rw z (sym covered-none)) (t .touches .bits)
+
+        segment-kept : Balanced
+        segment-kept =
+            either (fits-or-not g)
+            (λ f. let r = rules q lq .ruled m enough es k g sound f in
+            either (r .one-of) (λ w. refused f LengthDiffers (r .fifteen .all w))
+            (λ y. either y (λ w. refused f AlreadyReceived (r .sixteen .all w))
+            (λ y. either y (λ w. refused f NoSlot (r .seventeen .all w))
+            (λ y. either y (λ w. further f (w .0) (w .1)) (λ w. opens f (w .0) (w .1))))))
+            (λ f. let r = rules q lq .fourteen m enough es k g sound f in rejected (r .cause) (r .rejected) (r .unchanged))
+          where
+            refused : (f : Fits g) (r : Rejection) → outcome ≡ Rejected r → Balanced
+            refused f r o = rejected r o (rules q lq .ruled m enough es k g sound f .rejected r o)
+
+    module _ (marks : Marks es) where
+      -- what the layers make of the packet
+      no-segment : ((q : ℕ) (g : Seg) → U .header (e .config) k ≡ segment q g → ⊥) → Balances es (receive k) 0 0
+      no-segment none =
+          all-same es (receive k) marks
+          (λ p s lp ls. let h = rules p lp .no-segment m enough es k none in
+          record { taken = h .taken s; ticks = h .ticks s; bits = λ i l. ap (λ (x : List ℕ). bitOf x (mapAt p s) i) (h .memory) })
+
+      reading-kept : (x : Reading W) → U .header (e .config) k ≡ x → Kept W x
+          → Balances es (receive k) (bytesTaken W (numberOf es k) x) (bytesCompleted W (numberOf es k) x)
+      unfolding bytesTaken bytesCompleted
+      reading-kept (otherSender a) h l = no-segment (λ q g c. clash (cc (sym h ∙ c)))
+      reading-kept (direct q a) h l = no-segment (λ p g c. clash (cc (sym h ∙ c)))
+      reading-kept (segment q g) h l = segment-kept q l g h marks
 
   -- ---- a tick
 
@@ -453,7 +455,8 @@ module _ (W : Answers) (Config : Type 0) (U : Layers W Config) (number : W .A �
       (runs-snoc W Config U es (record { ends = e; mem = m }) tick)
       (subst (λ (x : ℕ). Balances es tick 0 x) (omega arith) (tick-kept es k))
   event-kept es (receive k) marks =
-      subst (λ (x : ℕ). Balances es (receive k) (taken-at (at es) (receive k)) x) (omega arith) (reading-kept es k marks (U .header (e .config) k) refl (kept k))
+      subst (λ (x : ℕ). Balances es (receive k) (taken-at (at es) (receive k)) x) (omega arith)
+      (reading-kept es k marks (U .header (e .config) k) refl (kept k))
 
   record Accounted (es : List Event) : Type 0 where
     marks : Marks es
