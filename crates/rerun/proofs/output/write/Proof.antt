@@ -1,0 +1,85 @@
+-- `rerun::output::write` ends: each turn leaves less to write.
+use Prim.Native.Nat.{_-_, _≤_}
+use mathlib.Core.Path.{_≡_}
+use native.Mathlib.Omega.{arith}
+use lib.ListN.{length}
+use borrow.Author.Needs.{needs}
+use Rattle.rerun.proofs.output.write.Statement.{statement}
+use Rattle.rerun.proofs.output.write.Tie as tie
+use Rattle.rerun.proofs.output.write.Reads as reads
+use Rattle.rerun.proofs.output.write.Lts as lts
+use Rattle.os.proofs.fail.Reads as fail-reads
+use Rattle.rerun.proofs.output.write_some.Reads as write-some-reads
+
+abbrev Inv-loop : tie.InvT-loop
+Inv-loop text done₀ t4 done = done ≤ length text
+
+abbrev μ-loop : tie.MeasureT-loop
+μ-loop text done₀ t4 done = length text - done
+
+-- src/output.rt:24:5
+loop-holds : tie.Need-loop-holds Inv-loop μ-loop
+loop-holds c = search needs
+
+-- src/output.rt:25:28
+sub-write-some : tie.Need-sub-write-some Inv-loop μ-loop
+sub-write-some c = search needs
+
+-- src/output.rt:25:28
+part-write-some-start : tie.Need-part-write-some-start Inv-loop μ-loop
+part-write-some-start c = search needs
+
+-- src/output.rt:25:28
+part-write-some-end : tie.Need-part-write-some-end Inv-loop μ-loop
+part-write-some-end c = search needs
+
+-- src/output.rt:25:13
+write-some-requires : tie.Need-write-some-requires Inv-loop μ-loop
+write-some-requires c κs = search needs
+
+-- src/output.rt:27:22
+slice-aggregate-fail : tie.Need-slice-aggregate-fail Inv-loop μ-loop
+slice-aggregate-fail c = search needs
+
+-- src/output.rt:27:13
+fail-requires : tie.Need-fail-requires Inv-loop μ-loop
+fail-requires c κs = search needs
+
+-- src/output.rt:28:13
+returns : tie.Need-returns Inv-loop μ-loop
+returns c = search needs
+
+-- src/output.rt:30:9
+add-done : tie.Need-add-done Inv-loop μ-loop
+add-done c = search needs
+
+-- src/output.rt:24:5
+loop-less : tie.Need-loop-less Inv-loop μ-loop
+loop-less c = search needs
+
+-- src/output.rt:24:5
+loop-again : tie.Need-loop-again Inv-loop μ-loop
+loop-again c = search needs
+
+-- src/output.rt:22:1
+returns-2 : tie.Need-returns-2 Inv-loop μ-loop
+returns-2 c = search needs
+
+pub write-spec : {M : Type 1} → statement M
+write-spec =
+    tie.close
+    (tie.spec
+    Inv-loop
+    μ-loop
+    loop-holds
+    sub-write-some
+    part-write-some-start
+    part-write-some-end
+    write-some-requires
+    slice-aggregate-fail
+    fail-requires
+    returns
+    add-done
+    loop-less
+    loop-again
+    returns-2)

@@ -1,0 +1,4 @@
+-- What stands here is there for proofs.
+pub mod Decimal
+pub mod Line
+pub mod Standing

@@ -1,0 +1,3 @@
+pub mod Rerun
+pub mod Standing
+pub mod Laws

@@ -1,0 +1,62 @@
+-- How the program comes to what it writes: where a run stands in its trace, and what it will still write.
+use Prim.Native.Nat.{ℕ, _+_, _*_, _<_, _≤_}
+use mathlib.Core.Bool.{true, false}
+use mathlib.Core.Path.{_≡_}
+use mathlib.Core.List.{List, [], _∷_, _++_}
+use lib.ListN.{length, take, drop}
+use Rattle.wire.specs.Bytes.{_then_}
+use Rattle.wire.specs.Checks.{pick, _is_}
+use Rattle.endpoint.specs.Run.{Left}
+use Rattle.trace.specs.Reader.{Reading, beginsTrace, readOf, HeaderWaits, Waits}
+use Rattle.rerun.specs.Rerun.{linesOf, badTrace}
+use Rattle.rerun.specs.declared.run.Run.{Run}
+
+-- ---- need not be believed: Reruns.antt says what is written
+
+-- behind the records there is nothing, or a broken one
+unfoldable pub ending : List ℕ → List ℕ
+ending [] = []
+ending (x ∷ rest) = badTrace
+
+-- what is written of records, n of them told already; and of a trace
+unfoldable pub recordsText : Left → (n : ℕ) → Reading → List ℕ
+recordsText w n x = linesOf w n (x .records) then ending (x .rest)
+
+unfoldable pub traceText : Left → (n : ℕ) → List ℕ → List ℕ
+traceText w n s = pick (beginsTrace s) (recordsText w n (readOf (drop 5 s))) badTrace
+
+-- where a run stands: in the header, behind it, or at a broken record; the bytes held of what is not complete yet; how many records are told; the
+-- endpoint and its memory
+pub record Standing : Type 0 where
+  pub phase : ℕ
+  pub held : List ℕ
+  pub number : ℕ
+  pub left : Left
+
+unfoldable pub standing : Run → (held mem : List ℕ) → Standing
+standing r held mem = record { phase = r .phase; held = take (r .count) held; number = r .number; left = record { endpoint = r .endpoint; mem = mem } }
+
+-- what it will write yet, where these bytes are still to come
+unfoldable pub goesOn : Standing → List ℕ → List ℕ
+goesOn x t =
+    pick (x .phase is 0) (traceText (x .left) (x .number) (x .held ++ t))
+    (pick (x .phase is 1) (recordsText (x .left) (x .number) (readOf (x .held ++ t))) badTrace)
+
+-- what is held is not complete yet
+unfoldable pub Ready : Standing → Type 0
+Ready x = (x .phase ≡ 0 → HeaderWaits (x .held)) × (x .phase ≡ 1 → Waits (x .held))
+
+-- one step through a piece: what was written, and what will be, is together the same. `at` and `end` are how much of the output is text
+pub record Turned (x : Standing) (piece : List ℕ) (at : ℕ) (out : List ℕ) (used : ℕ) (x′ : Standing) (end : ℕ) (out′ : List ℕ) : Type 0 where
+  pub goes : (t : List ℕ) → take at out ++ goesOn x (piece ++ t) ≡ take end out′ ++ goesOn x′ (drop used piece ++ t)
+  pub some : 0 < used
+  pub fits : used ≤ length piece
+  pub room : end ≤ at + 64 * used
+  pub told : x′ .number ≤ x .number + used
+  pub ready : Ready x′
+
+-- a piece, all of it: what it makes the run write, and then what the run will write yet
+pub record Fed (x : Standing) (piece : List ℕ) (x′ : Standing) (text : List ℕ) : Type 0 where
+  pub goes : (t : List ℕ) → goesOn x (piece ++ t) ≡ text ++ goesOn x′ t
+  pub told : x′ .number ≤ x .number + length piece
+  pub ready : Ready x′
