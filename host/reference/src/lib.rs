@@ -5,13 +5,16 @@
 //! An [`Endpoint`] is started with a [`Config`], gets peers and bindings, then
 //! takes outer IPv4 packets ([`Endpoint::receive`]) and ticks, and wraps inner
 //! frames ([`Endpoint::wrap`]). A delivered frame is named by a [`Place`];
-//! [`view`] hands its bytes back. Nothing is ever allocated.
+//! [`view`] hands its bytes back. None of these calls allocates anything.
 //!
 //! [`Endpoint::save`] writes settings and listing to bytes, the settings image, and
 //! [`Endpoint::load`] makes an endpoint of such bytes.
 //!
 //! A [`Detector`] tells the addresses that several peers show to one tenant. What
 //! it asks of a delivered frame is given by [`Endpoint::owner`] and [`source`].
+//!
+//! [`trace`] reads and writes traces, lists of packets and ticks, and tells line by
+//! line what an endpoint answers to one.
 //!
 //! The field's words are used here: a *tenant* is the paper's bench, the
 //! *received map* its map of held bytes, a *pending* frame one under way, a
@@ -30,6 +33,7 @@ mod inner;
 mod listing;
 mod reassembly;
 mod received_map;
+pub mod trace;
 mod wrap;
 
 pub use answer::{cut, view, Added, Answer, Code, Place, Refusal, Wrapped, DONE, PENDING};

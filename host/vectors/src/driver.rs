@@ -49,7 +49,7 @@ pub fn memory_contents(length: usize, seed: u32) -> Vec<u8> {
         .collect()
 }
 
-fn or_dash(number: Option<u16>) -> String {
+pub fn or_dash(number: Option<u16>) -> String {
     number.map_or_else(|| "-".to_string(), |number| number.to_string())
 }
 
@@ -293,6 +293,12 @@ impl Driver {
     /// The offset that the last receive named.
     pub fn offset(&self) -> usize {
         self.last_answer.map_or(0, |answer| answer.offset)
+    }
+
+    /// The tenant that the last receive delivered a frame to; none after another
+    /// answer.
+    pub fn tenant(&self) -> Option<u16> {
+        self.last_answer?.tenant
     }
 
     /// Where the frame lies that the last receive delivered; the empty place after

@@ -13,6 +13,7 @@ pub mod random;
 pub mod record;
 pub mod recorder;
 pub mod round_trip;
+pub mod traces;
 
 use prng::Prng;
 use recorder::Recorder;

@@ -14,6 +14,7 @@ mod offsets;
 mod order;
 mod outer;
 mod segments;
+mod trace;
 mod tunnels;
 mod view;
 mod worked_cases;
