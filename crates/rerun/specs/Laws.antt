@@ -2,3 +2,5 @@
 pub mod Decimal
 pub mod Line
 pub mod Standing
+pub mod WorkedRerun
+pub mod Reruns

@@ -2,7 +2,7 @@
 use Prim.Native.Nat.{ℕ, zero, suc, _+_, _/_, _%_}
 use mathlib.Core.List.{List, [], _∷_}
 use mathlib.Core.Option.{Option, none, some}
-use lib.ListN.{drop, replicate}
+use lib.ListN.{replicate}
 use Rattle.wire.specs.Bytes.{_then_}
 use Rattle.wire.specs.Checks.{pick, _is_, _below_}
 use Rattle.reassembly.specs.Receive.{Event, receive}
@@ -10,6 +10,7 @@ use Rattle.reassembly.specs.Receive as E
 use Rattle.endpoint.specs.Answer.{Values, valuesOf}
 use Rattle.endpoint.specs.Receive.{stepOf}
 use Rattle.endpoint.specs.Run.{Left, called}
+use Rattle.image.specs.Load.{loadOf}
 use Rattle.trace.specs.Trace.{Record, tick, packet}
 
 -- ---- a line as text (ASCII)
@@ -45,6 +46,10 @@ unfoldable pub lineText : (number : ℕ) → Said → List ℕ
 lineText number said = decimal number then space then saidText said then newline
 
 -- ---- the lines of a run: records count from 1
+
+-- the endpoint of a settings image, and the memory that it is lent, at first all 0
+unfoldable pub loaded : (settings : List ℕ) → Left
+loaded settings = record { endpoint = loadOf settings .endpoint; mem = replicate 55296 0 }
 
 -- the call that a record stands for
 unfoldable pub eventOf : Record → Event

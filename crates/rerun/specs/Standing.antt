@@ -7,8 +7,10 @@ use lib.ListN.{length, take, drop}
 use Rattle.wire.specs.Bytes.{_then_}
 use Rattle.wire.specs.Checks.{pick, _is_}
 use Rattle.endpoint.specs.Run.{Left}
+use Rattle.image.specs.Answer.{loadCode}
+use Rattle.image.specs.Load.{loadOf}
 use Rattle.trace.specs.Reader.{Reading, beginsTrace, readOf, HeaderWaits, Waits}
-use Rattle.rerun.specs.Rerun.{linesOf, badTrace}
+use Rattle.rerun.specs.Rerun.{loaded, linesOf, badTrace, badSettings}
 use Rattle.rerun.specs.declared.run.Run.{Run}
 
 -- ---- need not be believed: Reruns.antt says what is written
@@ -24,6 +26,10 @@ recordsText w n x = linesOf w n (x .records) then ending (x .rest)
 
 unfoldable pub traceText : Left → (n : ℕ) → List ℕ → List ℕ
 traceText w n s = pick (beginsTrace s) (recordsText w n (readOf (drop 5 s))) badTrace
+
+-- and of a settings image and a trace
+unfoldable pub outputOf : (settings trace : List ℕ) → List ℕ
+outputOf settings s = pick (loadCode (loadOf settings .answer) is 0) (traceText (loaded settings) 0 s) badSettings
 
 -- where a run stands: in the header, behind it, or at a broken record; the bytes held of what is not complete yet; how many records are told; the
 -- endpoint and its memory

@@ -69,13 +69,7 @@ fn finish(run: Run) {
 }
 
 // Reads a piece of the trace, feeds it to the run, and writes its lines. A trace that cannot be read on is a bad one.
-fn feed(
-    fd: i32,
-    run: Run,
-    held: &mut [u8; RECORD_MAX],
-    memory: &mut [u8],
-    out: &mut [u8],
-) -> Next
+fn feed(fd: i32, run: Run, held: &mut [u8; RECORD_MAX], memory: &mut [u8], out: &mut [u8]) -> Next
     requires { ⌜ ((m : List ℕ) → Ready (standing run (now held) m)) ⌝ }
     requires { ⌜ length (take (run .count) (now held)) ≡ run .count ⌝ }
     requires { ⌜ run .number + 8192 < 2 ^ 64 ⌝ }

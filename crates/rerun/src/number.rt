@@ -1,6 +1,8 @@
 // Sizes. A record has at least one byte and a line at most 64, so the lines that end in a piece have room.
 pub(crate) const PIECE: usize = 8192;
+
 pub(crate) const LINE: usize = 64;
+
 pub(crate) const OUT: usize = 524288;
 
 // An image has at most 815 bytes: of a longer file these are enough to refuse it.
@@ -8,7 +10,9 @@ pub(crate) const SETTINGS: usize = 1024;
 
 // Where a run stands in its trace.
 pub(crate) const IN_HEADER: u8 = 0;
+
 pub(crate) const IN_RECORDS: u8 = 1;
+
 pub(crate) const AT_BROKEN: u8 = 2;
 
 // More pieces than any file has; and the records in so many stay below 2^64.

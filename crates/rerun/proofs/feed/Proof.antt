@@ -100,8 +100,7 @@ returns-3 c =
     let f = c .before .before .before .before .before .before .before .advance in
     let r = c .before .before .before .before .before .before .before .before .before .before .before .before .before .before .before .read-some in
     let a = c .before .before .before .before .before .before .before .before .before .before .before .before .before .before .before .before .before .before .before .args in
-    let long : length (r .last .1 .0) ≡ 8192 = search needs in
-    (
+    let long : length (r .last .1 .0) ≡ 8192 = search needs in (
       λ m. ready-any (f .result .run) _ _ m (f .ensures .0 .ready),
       (f .ensures .1 .0, omega (arith, fed-told (a .run) (f .result .run) _ _ _ _ _ _ (f .ensures .0), r .ensures .0, r .ensures .1, long)),
     )

@@ -87,8 +87,7 @@ loop-again c =
     let some : 0 < l .pieces = c .before .before .before .before .before .before .before .before .before .before .before .before .before .loop-test .taken in
     let room : f .result .run .number + 8192 * (l .pieces - 1) ≤ 8192 * 0x0001000000000000 = omega (arith, told, l .inv .2, some) in
     let kept-memory : length (f .last .1 .1 .1 .0) ≡ length (l .memory) = search needs in
-    let kept-out : length (f .last .1 .1 .1 .1 .0) ≡ length (l .out) = search needs in
-    (
+    let kept-out : length (f .last .1 .1 .1 .1 .0) ≡ length (l .out) = search needs in (
       f .ensures .0,
       f .ensures .1 .0,
       room,

@@ -65,8 +65,8 @@ module _ (h piece : List ℕ) (c : ℕ) (size : length h ≡ c) (waits : Waits h
       let one : 0 < recordEnd (h ++ piece) - c = used-some h piece c size waits some in
       record {
         goes = λ t. later at out end out′ (lineText (n + 1) (saidOf w r)) _ _
-        (ap (recordsText w n) (reads t)
-        ∙ append-assoc (lineText (n + 1) (saidOf w r)) _ _) text;
+            (ap (recordsText w n) (reads t)
+            ∙ append-assoc (lineText (n + 1) (saidOf w r)) _ _) text;
         some = one;
         fits = used-fits h piece c size waits;
         room = omega arith;
@@ -82,7 +82,7 @@ module _ (h piece : List ℕ) (c : ℕ) (size : length h ≡ c) (waits : Waits h
       let held : h ++ take (recordEnd (h ++ piece) - c) piece ≡ h ++ piece = more-held h piece c size waits m in
       record {
         goes = λ t. ap (λ (s : List ℕ). take at out ++ recordsText w n (readOf s))
-        (sym (append-assoc h piece t) ∙ ap₂ (λ (a b : List ℕ). a ++ (b ++ t)) (sym held) (sym (more-left h piece c size waits m)));
+            (sym (append-assoc h piece t) ∙ ap₂ (λ (a b : List ℕ). a ++ (b ++ t)) (sym held) (sym (more-left h piece c size waits m)));
         some = used-some h piece c size waits some;
         fits = used-fits h piece c size waits;
         room = omega arith;
@@ -96,7 +96,7 @@ module _ (h piece : List ℕ) (c : ℕ) (size : length h ≡ c) (waits : Waits h
   unfolding goesOn recordsText linesOf Ready
   turned-broken b held = record {
     goes = λ t. ap (λ (l : List ℕ). take at out ++ l)
-    (ap (recordsText w n) (broken-read h piece c size waits t b) ∙ ending-some (h ++ (piece ++ t)) (broken-some h piece c size waits t b));
+        (ap (recordsText w n) (broken-read h piece c size waits t b) ∙ ending-some (h ++ (piece ++ t)) (broken-some h piece c size waits t b));
     some = used-some h piece c size waits some;
     fits = used-fits h piece c size waits;
     room = omega arith;
@@ -112,8 +112,8 @@ module _ (h piece : List ℕ) (c : ℕ) (size : length h ≡ c) (waits : HeaderW
   unfolding goesOn traceText Ready
   turned-header e = record {
     goes = λ t. ap (λ (l : List ℕ). take at out ++ l)
-    (ap (λ (b : Bool). pick b (recordsText w n (readOf (drop 5 (h ++ (piece ++ t))))) badTrace) (header-read h piece c size waits t e)
-    ∙ ap (λ (s : List ℕ). recordsText w n (readOf s)) (header-behind h piece c size waits t e));
+        (ap (λ (b : Bool). pick b (recordsText w n (readOf (drop 5 (h ++ (piece ++ t))))) badTrace) (header-read h piece c size waits t e)
+        ∙ ap (λ (s : List ℕ). recordsText w n (readOf s)) (header-behind h piece c size waits t e));
     some = header-used-some h piece c size waits some;
     fits = header-used-fits h piece c size waits;
     room = omega arith;
@@ -128,7 +128,7 @@ module _ (h piece : List ℕ) (c : ℕ) (size : length h ≡ c) (waits : HeaderW
       let held : h ++ take (headerEnd (h ++ piece) - c) piece ≡ h ++ piece = header-more-held h piece c size waits m in
       record {
         goes = λ t. ap (λ (s : List ℕ). take at out ++ traceText w n s)
-        (sym (append-assoc h piece t) ∙ ap₂ (λ (a b : List ℕ). a ++ (b ++ t)) (sym held) (sym (header-more-left h piece c size waits m)));
+            (sym (append-assoc h piece t) ∙ ap₂ (λ (a b : List ℕ). a ++ (b ++ t)) (sym held) (sym (header-more-left h piece c size waits m)));
         some = header-used-some h piece c size waits some;
         fits = header-used-fits h piece c size waits;
         room = omega arith;
@@ -141,7 +141,7 @@ module _ (h piece : List ℕ) (c : ℕ) (size : length h ≡ c) (waits : HeaderW
   unfolding goesOn traceText Ready
   turned-header-broken b held = record {
     goes = λ t. ap (λ (l : List ℕ). take at out ++ l)
-    (ap (λ (b : Bool). pick b (recordsText w n (readOf (drop 5 (h ++ (piece ++ t))))) badTrace) (header-broken h piece c size waits t b));
+        (ap (λ (b : Bool). pick b (recordsText w n (readOf (drop 5 (h ++ (piece ++ t))))) badTrace) (header-broken h piece c size waits t b));
     some = header-used-some h piece c size waits some;
     fits = header-used-fits h piece c size waits;
     room = omega arith;
@@ -257,9 +257,13 @@ module _ (run : Run) (held piece m : List ℕ) (ready : Ready (standing run held
           let its : k ≡ drop 3 (take (run .count) held ++ take u piece) = is-k ∙ ap (λ (x : ℕ). drop 3 (take (run .count) held ++ take x piece)) is-used in
           let line : take end out′ ≡ take at out ++ lineText (run .number + 1) (answered (valuesOf (s .answer) .number) (valuesOf (s .answer) .tenant)) =
           text ∙ ap (λ (x : Received). take at out ++ lineText (run .number + 1) (answered (valuesOf x .number) (valuesOf x .tenant))) is-a in
-          rw (is-used, is-m, at-records,
-          same-standing next held′ (s .mem) 1 [] (run .number + 1) (withRow (run .endpoint) (s .peer) (s .row)) phase (rw count refl) number
-          (left ∙ receipt-left (run .endpoint) s))
+          rw (
+            is-used,
+            is-m,
+            at-records,
+            same-standing next held′ (s .mem) 1 [] (run .number + 1) (withRow (run .endpoint) (s .peer) (s .row)) phase (rw count refl) number
+                (left ∙ receipt-left (run .endpoint) s),
+          )
           (turned-record (take (run .count) held) piece (run .count) size records-wait some (run .number) (record { endpoint = run .endpoint; mem = m }) at out (packet k)
           end out′
           (λ t. packet-read (take (run .count) held) piece (run .count) size records-wait t e

@@ -64,8 +64,7 @@ returns c =
     let p = c .before .before .before .before .before .before .before .before .put in
     let n = c .before .before .before .before .before .before .before .before .before .before .before .before .before .before .before .before .put-number in
     let a = c .before .before .before .before .before .before .before .before .before .before .before .before .before .before .before .before .before .before .before .before .args in
-    let told = c .before .before .before .before .before .before .before .before .before .before .before .before .answer .given in
-    (
+    let told = c .before .before .before .before .before .before .before .before .before .before .before .before .answer .given in (
       omega (arith, w .ensures .0, p .ensures .0, n .ensures .0),
       rw (told .1) (delivered-line (take (a .at) (a .out .now)) (a .number) _ (n .ensures .1) _ _ _ (p .ensures .1) (w .ensures .1)),
     )
@@ -92,8 +91,7 @@ returns-2 c =
     let w = c .before .before .put2 in
     let n = c .before .before .before .before .before .before .before .before .before .put-number in
     let a = c .before .before .before .before .before .before .before .before .before .before .before .before .before .args in
-    let told = c .before .before .before .before .before .enum-told .given in
-    (
+    let told = c .before .before .before .before .before .enum-told .given in (
       omega (arith, w .ensures .0, n .ensures .0),
       rw (told .1) (pending-line (take (a .at) (a .out .now)) (a .number) _ (n .ensures .1) _ (w .ensures .1)),
     )
@@ -133,12 +131,11 @@ returns-3 c =
     let n = c .before .before .before .before .before .before .before .before .before .before .before .put-number in
     let a = c .before .before .before .before .before .before .before .before .before .before .before .before .before .before .before .args in
     let code = c .before .before .before .before .drop-code in
-    let told = c .before .before .before .before .before .before .before .answer2 .given in
-    (
+    let told = c .before .before .before .before .before .before .before .answer2 .given in (
       omega (arith, w .ensures .0, n .ensures .0),
       rw (told .1)
-      (dropped-line (take (a .at) (a .out .now)) (a .number) _ (n .ensures .1) _ _ (w .ensures .1)
-      ∙ ap (λ (k : ℕ). take (a .at) (a .out .now) ++ lineText (a .number) (answered k none)) (code .ensures)),
+          (dropped-line (take (a .at) (a .out .now)) (a .number) _ (n .ensures .1) _ _ (w .ensures .1)
+          ∙ ap (λ (k : ℕ). take (a .at) (a .out .now) ++ lineText (a .number) (answered k none)) (code .ensures)),
     )
 
 pub put-answer-spec : {M : Type 1} → statement M

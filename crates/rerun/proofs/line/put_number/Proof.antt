@@ -57,12 +57,11 @@ returns c =
     let p = c .before .before .before .before .before .before .put in
     let d = c .before .before .before .before .before .before .before .before .before .decimal in
     let a = c .before .before .before .before .before .before .before .before .before .before .before .before .before .args in
-    let z = spelt (c .before .before .before .before .before .before .before .before .before) in
-    (
+    let z = spelt (c .before .before .before .before .before .before .before .before .before) in (
       omega (arith, w .ensures .0, p .ensures .0, d .ensures .0 .1, z .0),
       w .ensures .1
-      ∙ ap (λ (l : List ℕ). l ++ a .word .now) (p .ensures .1 ∙ ap (λ (l : List ℕ). take (a .at) (a .out .now) ++ l) (d .ensures .1 .1 ∙ z .1))
-      ∙ append-assoc (take (a .at) (a .out .now)) (decimal (a .n)) (a .word .now),
+          ∙ ap (λ (l : List ℕ). l ++ a .word .now) (p .ensures .1 ∙ ap (λ (l : List ℕ). take (a .at) (a .out .now) ++ l) (d .ensures .1 .1 ∙ z .1))
+          ∙ append-assoc (take (a .at) (a .out .now)) (decimal (a .n)) (a .word .now),
     )
 
 pub put-number-spec : {M : Type 1} → statement M

@@ -82,10 +82,9 @@ loop-again c =
     let w = t .ensures .0 in
     let fits : t .result .used ≤ length (a .piece .now) - l .used = omega (arith, w .fits, left-is (a .piece .now) (l .used)) in
     let kept-memory : length (t .last .1 .1 .0) ≡ length (l .memory) = search needs in
-    let kept-out : length (t .last .1 .1 .1 .1 .0) ≡ length (l .out) = search needs in
-    (
+    let kept-out : length (t .last .1 .1 .1 .1 .0) ≡ length (l .out) = search needs in (
       on (standing (a .run) (a .held .now) (a .memory .now)) (standing (l .at) (l .held) (l .memory)) _ (a .piece .now) (l .used) (t .result .used) (l .end)
-      (t .result .end) (l .out) _ (l .inv .0) w,
+          (t .result .end) (l .out) _ (l .inv .0) w,
       λ m. ready-any (t .result .run) _ _ m (w .ready),
       t .ensures .1,
       omega (arith, l .inv .3),
@@ -116,11 +115,10 @@ returns c =
     let t = c .turned in
     let all : length (a .piece .now) ≤ l .used = omega arith in
     let used : l .used ≡ length (a .piece .now) = omega (arith, l .inv .3) in
-    rw (t .ensures .0, t .ensures .1 .1)
-    (
+    rw (t .ensures .0, t .ensures .1 .1) (
       fed-by (a .run) (l .at) (a .held .now) (l .held) (a .memory .now) (l .memory) (a .piece .now) (take (l .end) (l .out))
-      (through (standing (a .run) (a .held .now) (a .memory .now)) (standing (l .at) (l .held) (l .memory)) (a .piece .now) (l .used) (l .end) (l .out) all (l .inv .0))
-      (omega (arith, l .inv .5)) (l .inv .1 (l .memory)),
+          (through (standing (a .run) (a .held .now) (a .memory .now)) (standing (l .at) (l .held) (l .memory)) (a .piece .now) (l .used) (l .end) (l .out) all (l .inv .0))
+          (omega (arith, l .inv .5)) (l .inv .1 (l .memory)),
       (l .inv .2, omega (arith, l .inv .4, l .inv .7, p .1 .1 .1)),
     )
 

@@ -52,14 +52,13 @@ returns c =
     let v = c .before .moved in
     let f = c .before .before .before .before .read-header in
     let told = c .before .before .enum-told .given in
-    let a = c .before .before .before .before .before .before .before .args in
-    (
+    let a = c .before .before .before .before .before .before .before .args in (
       λ m o. rw (t .ensures .1 .1)
-      (header-exit (a .run) (a .held .now) (a .piece .now) m (ready (c .before .before .before .before) m) (size (c .before .before .before .before))
-      (some (c .before .before .before .before)) (a .end) o (t .result .run) _ (t .result .used)
-      (here (c .before .before .before .before)) (t .ensures .1 .0 ∙ f .ensures .1 .0)
-      (ap (λ (r : Run). r .endpoint) (t .ensures .0) ∙ v .ensures .0) (ap (λ (r : Run). r .number) (t .ensures .0) ∙ v .ensures .1 .0)
-      (sym (f .ensures .0) ∙ told .1) (ap (λ (r : Run). r .count) (t .ensures .0) ∙ v .ensures .1 .1 .0) (ap (λ (r : Run). r .phase) (t .ensures .0) ∙ v .ensures .1 .1 .1)),
+          (header-exit (a .run) (a .held .now) (a .piece .now) m (ready (c .before .before .before .before) m) (size (c .before .before .before .before))
+          (some (c .before .before .before .before)) (a .end) o (t .result .run) _ (t .result .used)
+          (here (c .before .before .before .before)) (t .ensures .1 .0 ∙ f .ensures .1 .0)
+          (ap (λ (r : Run). r .endpoint) (t .ensures .0) ∙ v .ensures .0) (ap (λ (r : Run). r .number) (t .ensures .0) ∙ v .ensures .1 .0)
+          (sym (f .ensures .0) ∙ told .1) (ap (λ (r : Run). r .count) (t .ensures .0) ∙ v .ensures .1 .1 .0) (ap (λ (r : Run). r .phase) (t .ensures .0) ∙ v .ensures .1 .1 .1)),
       none-held (t .result .run) _ (ap (λ (r : Run). r .count) (t .ensures .0) ∙ v .ensures .1 .1 .0),
     )
 
@@ -88,15 +87,14 @@ returns-2 c =
     ap (λ (k : ℕ). take k (f .last .0)) count ∙ f .ensures .1 .1 .1 in
     let fits : f .result .used ≤ length (a .piece .now) =
     subst (λ (k : ℕ). k ≤ length (a .piece .now)) (sym (f .ensures .1 .0))
-    (header-used-fits (take (a .run .count) (a .held .now)) (a .piece .now) (a .run .count) (size (c .before .before .before .before)) (ready-header (a .run) (a .held .now) [] (ready (c .before .before .before .before) []) (here (c .before .before .before .before)))) in
-    (
+    (header-used-fits (take (a .run .count) (a .held .now)) (a .piece .now) (a .run .count) (size (c .before .before .before .before)) (ready-header (a .run) (a .held .now) [] (ready (c .before .before .before .before) []) (here (c .before .before .before .before)))) in (
       λ m o. rw (t .ensures .1 .1)
-      (header-more-exit (a .run) (a .held .now) (a .piece .now) m (ready (c .before .before .before .before) m) (size (c .before .before .before .before)) (some (c .before .before .before .before)) (a .end) o (t .result .run) _ (t .result .used)
-      (here (c .before .before .before .before)) (t .ensures .1 .0 ∙ f .ensures .1 .0)
-      (ap (λ (r : Run). r .endpoint) (t .ensures .0) ∙ v .ensures .0) (ap (λ (r : Run). r .number) (t .ensures .0) ∙ v .ensures .1 .0)
-      (sym (f .ensures .0) ∙ told .1) (held ∙ ap (λ (k : ℕ). take (a .run .count) (a .held .now) ++ take k (a .piece .now)) (sym (t .ensures .1 .0))) (ap (λ (r : Run). r .phase) (t .ensures .0) ∙ v .ensures .1 .1 .1)),
+          (header-more-exit (a .run) (a .held .now) (a .piece .now) m (ready (c .before .before .before .before) m) (size (c .before .before .before .before)) (some (c .before .before .before .before)) (a .end) o (t .result .run) _ (t .result .used)
+          (here (c .before .before .before .before)) (t .ensures .1 .0 ∙ f .ensures .1 .0)
+          (ap (λ (r : Run). r .endpoint) (t .ensures .0) ∙ v .ensures .0) (ap (λ (r : Run). r .number) (t .ensures .0) ∙ v .ensures .1 .0)
+          (sym (f .ensures .0) ∙ told .1) (held ∙ ap (λ (k : ℕ). take (a .run .count) (a .held .now) ++ take k (a .piece .now)) (sym (t .ensures .1 .0))) (ap (λ (r : Run). r .phase) (t .ensures .0) ∙ v .ensures .1 .1 .1)),
       more-are-held (t .result .run) _ (take (a .run .count) (a .held .now)) (a .piece .now) (a .run .count) (f .result .used) (size (c .before .before .before .before)) fits
-      (count ∙ f .ensures .1 .1 .0) held,
+          (count ∙ f .ensures .1 .1 .0) held,
     )
 
 -- src/run.rt:110:27
@@ -118,14 +116,13 @@ returns-3 c =
     let v = c .before .moved3 in
     let f = c .before .before .before .before .read-header in
     let told = c .before .before .enum-told3 .given in
-    let a = c .before .before .before .before .before .before .before .args in
-    (
+    let a = c .before .before .before .before .before .before .before .args in (
       λ m o. rw (t .ensures .1 .1)
-      (header-broken-exit (a .run) (a .held .now) (a .piece .now) m (ready (c .before .before .before .before) m) (size (c .before .before .before .before))
-      (some (c .before .before .before .before)) (a .end) o (t .result .run) _ (t .result .used)
-      (here (c .before .before .before .before)) (t .ensures .1 .0 ∙ f .ensures .1 .0)
-      (ap (λ (r : Run). r .endpoint) (t .ensures .0) ∙ v .ensures .0) (ap (λ (r : Run). r .number) (t .ensures .0) ∙ v .ensures .1 .0)
-      (sym (f .ensures .0) ∙ told .1) (ap (λ (r : Run). r .phase) (t .ensures .0) ∙ v .ensures .1 .1 .1)),
+          (header-broken-exit (a .run) (a .held .now) (a .piece .now) m (ready (c .before .before .before .before) m) (size (c .before .before .before .before))
+          (some (c .before .before .before .before)) (a .end) o (t .result .run) _ (t .result .used)
+          (here (c .before .before .before .before)) (t .ensures .1 .0 ∙ f .ensures .1 .0)
+          (ap (λ (r : Run). r .endpoint) (t .ensures .0) ∙ v .ensures .0) (ap (λ (r : Run). r .number) (t .ensures .0) ∙ v .ensures .1 .0)
+          (sym (f .ensures .0) ∙ told .1) (ap (λ (r : Run). r .phase) (t .ensures .0) ∙ v .ensures .1 .1 .1)),
       none-held (t .result .run) _ (ap (λ (r : Run). r .count) (t .ensures .0) ∙ v .ensures .1 .1 .0),
     )
 

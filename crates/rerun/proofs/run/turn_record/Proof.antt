@@ -75,14 +75,13 @@ returns c =
     let told = c .before .before .enum-told .given in
     let count : t .result .run .count ≡ f .result .count = ap (λ (r : Run). r .count) (t .ensures .0) ∙ v .ensures .1 .1 .0 in
     let held : take (t .result .run .count) (f .last .0) ≡ take (a .run .count) (a .held .now) ++ take (f .result .used) (a .piece .now) =
-    ap (λ (k : ℕ). take k (f .last .0)) count ∙ f .ensures .1 .1 .1 in
-    (
+    ap (λ (k : ℕ). take k (f .last .0)) count ∙ f .ensures .1 .1 .1 in (
       rw (t .ensures .1 .0, t .ensures .1 .1)
-      (more-exit (a .run) (a .held .now) (a .piece .now) (a .memory .now) (ready x) (size x) (some x) (a .end) (a .out .now) (t .result .run) (f .last .0) (f .result .used)
-      (here x) (f .ensures .1 .0)
-      (sym (f .ensures .0) ∙ told .1) held (ap (λ (r : Run). r .phase) (t .ensures .0) ∙ v .ensures .1 .1 .1) (ap (λ (r : Run). r .endpoint) (t .ensures .0) ∙ v .ensures .0) (ap (λ (r : Run). r .number) (t .ensures .0) ∙ v .ensures .1 .0)),
+          (more-exit (a .run) (a .held .now) (a .piece .now) (a .memory .now) (ready x) (size x) (some x) (a .end) (a .out .now) (t .result .run) (f .last .0) (f .result .used)
+          (here x) (f .ensures .1 .0)
+          (sym (f .ensures .0) ∙ told .1) held (ap (λ (r : Run). r .phase) (t .ensures .0) ∙ v .ensures .1 .1 .1) (ap (λ (r : Run). r .endpoint) (t .ensures .0) ∙ v .ensures .0) (ap (λ (r : Run). r .number) (t .ensures .0) ∙ v .ensures .1 .0)),
       more-are-held (t .result .run) (f .last .0) (take (a .run .count) (a .held .now)) (a .piece .now) (a .run .count) (f .result .used) (size x) (fits x)
-      (count ∙ f .ensures .1 .1 .0) held,
+          (count ∙ f .ensures .1 .1 .0) held,
     )
 
 -- src/run.rt:161:17
@@ -123,13 +122,12 @@ returns-2 c =
     let a = x .before .before .before .before .before .args in
     let told = c .before .before .before .before .before .before .before .before .before .enum-told2 .given in
     let line = c .before .before .before .before .put-tick in
-    let ticked = c .before .before .before .before .before .before .before .before .tick in
-    (
+    let ticked = c .before .before .before .before .before .before .before .before .tick in (
       rw (t .ensures .1 .0, t .ensures .1 .1)
-      (tick-exit (a .run) (a .held .now) (a .piece .now) (a .memory .now) (ready x) (size x) (some x) (a .end) (a .out .now) (t .result .run) (f .last .0) (f .result .used)
-      (here x) (f .ensures .1 .0)
-      (line .result) (line .last .0) (line .ensures .0) (ap (λ (r : Run). r .number) (t .ensures .0) ∙ v .ensures .1 .0) (ap (λ (r : Run). r .count) (t .ensures .0) ∙ v .ensures .1 .1 .0) (ap (λ (r : Run). r .phase) (t .ensures .0) ∙ v .ensures .1 .1 .1)
-      (sym (f .ensures .0) ∙ told .1) (line .ensures .1) (ap (λ (r : Run). r .endpoint) (t .ensures .0) ∙ v .ensures .0 ∙ ap (λ (r : TickResult). r .endpoint) (ticked .ensures .0))),
+          (tick-exit (a .run) (a .held .now) (a .piece .now) (a .memory .now) (ready x) (size x) (some x) (a .end) (a .out .now) (t .result .run) (f .last .0) (f .result .used)
+          (here x) (f .ensures .1 .0)
+          (line .result) (line .last .0) (line .ensures .0) (ap (λ (r : Run). r .number) (t .ensures .0) ∙ v .ensures .1 .0) (ap (λ (r : Run). r .count) (t .ensures .0) ∙ v .ensures .1 .1 .0) (ap (λ (r : Run). r .phase) (t .ensures .0) ∙ v .ensures .1 .1 .1)
+          (sym (f .ensures .0) ∙ told .1) (line .ensures .1) (ap (λ (r : Run). r .endpoint) (t .ensures .0) ∙ v .ensures .0 ∙ ap (λ (r : TickResult). r .endpoint) (ticked .ensures .0))),
       none-held (t .result .run) (f .last .0) (ap (λ (r : Run). r .count) (t .ensures .0) ∙ v .ensures .1 .1 .0),
     )
 
@@ -183,15 +181,14 @@ returns-3 c =
     let told = c .before .before .before .before .before .before .before .before .before .before .before .before .before .before .enum-told3 .given in
     let line = c .before .before .before .before .put-answer in
     let receipt = c .before .before .before .before .before .before .before .before .before .before .receive-held in
-    let packet : List ℕ = drop 3 (take (f .result .count) (f .last .0)) in
-    (
+    let packet : List ℕ = drop 3 (take (f .result .count) (f .last .0)) in (
       rw (t .ensures .1 .0, t .ensures .1 .1)
-      (packet-exit (a .run) (a .held .now) (a .piece .now) (a .memory .now) (ready x) (size x) (some x) (a .end) (a .out .now) (t .result .run) (f .last .0) (f .result .used)
-      (here x) (f .ensures .1 .0)
-      (line .result) (line .last .0) (line .ensures .0) (ap (λ (r : Run). r .number) (t .ensures .0) ∙ v .ensures .1 .0) (ap (λ (r : Run). r .count) (t .ensures .0) ∙ v .ensures .1 .1 .0) (ap (λ (r : Run). r .phase) (t .ensures .0) ∙ v .ensures .1 .1 .1)
-      (sym (f .ensures .0) ∙ told .1) packet (ap (drop 3) (f .ensures .1 .1 .1)) (receipt .last .1 .1 .1 .0) (receipt .ensures .1)
-      (receipt .result .answer) (ap (λ (r : ReceiveResult). r .answer) (receipt .ensures .0) ∙ receipt-answer _ _)
-      (line .ensures .1) (ap (λ (r : Run). r .endpoint) (t .ensures .0) ∙ v .ensures .0 ∙ ap (λ (r : ReceiveResult). r .endpoint) (receipt .ensures .0))),
+          (packet-exit (a .run) (a .held .now) (a .piece .now) (a .memory .now) (ready x) (size x) (some x) (a .end) (a .out .now) (t .result .run) (f .last .0) (f .result .used)
+          (here x) (f .ensures .1 .0)
+          (line .result) (line .last .0) (line .ensures .0) (ap (λ (r : Run). r .number) (t .ensures .0) ∙ v .ensures .1 .0) (ap (λ (r : Run). r .count) (t .ensures .0) ∙ v .ensures .1 .1 .0) (ap (λ (r : Run). r .phase) (t .ensures .0) ∙ v .ensures .1 .1 .1)
+          (sym (f .ensures .0) ∙ told .1) packet (ap (drop 3) (f .ensures .1 .1 .1)) (receipt .last .1 .1 .1 .0) (receipt .ensures .1)
+          (receipt .result .answer) (ap (λ (r : ReceiveResult). r .answer) (receipt .ensures .0) ∙ receipt-answer _ _)
+          (line .ensures .1) (ap (λ (r : Run). r .endpoint) (t .ensures .0) ∙ v .ensures .0 ∙ ap (λ (r : ReceiveResult). r .endpoint) (receipt .ensures .0))),
       none-held (t .result .run) (f .last .0) (ap (λ (r : Run). r .count) (t .ensures .0) ∙ v .ensures .1 .1 .0),
     )
 
@@ -215,12 +212,11 @@ returns-4 c =
     let x = c .before .before .before .before in
     let f = x .read-record in
     let a = x .before .before .before .before .before .args in
-    let told = c .before .before .enum-told4 .given in
-    (
+    let told = c .before .before .enum-told4 .given in (
       rw (t .ensures .1 .0, t .ensures .1 .1)
-      (broken-exit (a .run) (a .held .now) (a .piece .now) (a .memory .now) (ready x) (size x) (some x) (a .end) (a .out .now) (t .result .run) (f .last .0) (f .result .used)
-      (here x) (f .ensures .1 .0)
-      (sym (f .ensures .0) ∙ told .1) (ap (λ (r : Run). r .phase) (t .ensures .0) ∙ v .ensures .1 .1 .1) (ap (λ (r : Run). r .endpoint) (t .ensures .0) ∙ v .ensures .0) (ap (λ (r : Run). r .number) (t .ensures .0) ∙ v .ensures .1 .0)),
+          (broken-exit (a .run) (a .held .now) (a .piece .now) (a .memory .now) (ready x) (size x) (some x) (a .end) (a .out .now) (t .result .run) (f .last .0) (f .result .used)
+          (here x) (f .ensures .1 .0)
+          (sym (f .ensures .0) ∙ told .1) (ap (λ (r : Run). r .phase) (t .ensures .0) ∙ v .ensures .1 .1 .1) (ap (λ (r : Run). r .endpoint) (t .ensures .0) ∙ v .ensures .0) (ap (λ (r : Run). r .number) (t .ensures .0) ∙ v .ensures .1 .0)),
       none-held (t .result .run) (f .last .0) (ap (λ (r : Run). r .count) (t .ensures .0) ∙ v .ensures .1 .1 .0),
     )
 

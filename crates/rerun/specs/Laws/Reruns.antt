@@ -1,0 +1,111 @@
+-- What rerun promises (Reruns.antt), proved.
+use Prim.Native.Nat.{ℕ, _+_, _≤_, _<_}
+use mathlib.Core.Path.{_≡_, refl, sym, ap, subst, _∙_}
+use mathlib.Core.Bool.{Bool, true, false}
+use mathlib.Core.Logic.{_≢_}
+use mathlib.Core.List.{List, [], _∷_, _++_, append-assoc, append-nil}
+use native.Mathlib.Omega.{arith}
+use lib.Dec.{eqb, ltb}
+use borrow.Author.Tests.{eq-eqb, ne-eqb, eqb-true, eqb-false, ltb-true, ltb-false}
+use lib.ListN.{length, take, drop}
+use lib.Seq.{take-all, length-take-le}
+use Rattle.wire.specs.Bytes.{Bytes}
+use Rattle.wire.specs.Checks.{pick}
+use Rattle.wire.specs.Laws.Bytes.{caseB, bytes-drop, bytes-take}
+use Rattle.endpoint.specs.Config.{setUp}
+use Rattle.endpoint.specs.Account.{Accounts}
+use Rattle.endpoint.specs.Laws.Account.{accounting}
+use Rattle.image.specs.Answer.{loadCode}
+use Rattle.image.specs.Images.{SavedFrom, LoadRule}
+use Rattle.image.specs.Load.{loadOf}
+use Rattle.image.specs.Laws.Images.{images}
+use Rattle.trace.specs.Trace.{Record, noTrace, read, ReadsAs}
+use Rattle.trace.specs.Traces.{joined}
+use Rattle.trace.specs.Reader.{Reading, beginsTrace, readOf}
+use Rattle.trace.specs.Laws.Reads.{header-body}
+use Rattle.trace.specs.Laws.Traces.{traces}
+use Rattle.rerun.specs.Rerun.{loaded, linesOf, badTrace, badSettings}
+use Rattle.rerun.specs.Standing.{ending, recordsText, traceText, outputOf, Standing, goesOn, Fed}
+use Rattle.rerun.specs.Reruns.{Call, Calls, pieces, written, last, Begun, Writes, Reruns}
+use Rattle.rerun.specs.Laws.WorkedRerun.{worked-rerun}
+
+-- ---- what is written
+
+module _ (settings trace : List ℕ) where
+  good : loadCode (loadOf settings .answer) ≡ 0 → outputOf settings trace ≡ traceText (loaded settings) 0 trace
+  unfolding outputOf
+  good g = ap (λ (b : Bool). pick b (traceText (loaded settings) 0 trace) badSettings) (eq-eqb (loadCode (loadOf settings .answer)) 0 g)
+
+  bad : loadCode (loadOf settings .answer) ≢ 0 → outputOf settings trace ≡ badSettings
+  unfolding outputOf
+  bad g = ap (λ (b : Bool). pick b (traceText (loaded settings) 0 trace) badSettings) (ne-eqb (loadCode (loadOf settings .answer)) 0 g)
+
+module _ (settings trace : List ℕ) (bytes : Bytes trace) where
+  none : ReadsAs trace noTrace → traceText (loaded settings) 0 trace ≡ badTrace
+  unfolding traceText
+  none n = caseB (beginsTrace trace) (λ e. let t = traces .begins trace bytes .0 e in absurd (n (t .0) (t .1))) (λ e. rw e refl)
+
+  some : (rs : List Record) (rest : List ℕ) → ReadsAs trace (read rs rest) → traceText (loaded settings) 0 trace ≡ linesOf (loaded settings) 0 rs ++ ending rest
+  unfolding traceText recordsText
+  some rs rest r =
+      let b : beginsTrace trace ≡ true = traces .begins trace bytes .1 (r .0, r .1) in
+      let d : drop 5 trace ≡ r .0 = header-body trace (r .0) (r .1) in
+      let only = traces .only (r .0) rs rest (subst Bytes d (bytes-drop trace bytes 5)) (r .2) in
+      rw (b, d, only .0, only .1) refl
+
+  pub writes : Writes settings trace (outputOf settings trace)
+  unfolding ending
+  writes = record {
+    bad-settings = bad settings trace;
+    no-trace = λ g n. good settings trace g ∙ none n;
+    lines = λ g rs r. good settings trace g ∙ some rs [] r ∙ append-nil (linesOf (loaded settings) 0 rs);
+    broken = λ g rs rest d r. good settings trace g ∙ some rs rest r ∙ ap (λ (l : List ℕ). linesOf (loaded settings) 0 rs ++ l) (ends rest d);
+  }
+    where
+      ends : (rest : List ℕ) → rest ≢ [] → ending rest ≡ badTrace
+      ends [] d = absurd (d refl)
+      ends (x ∷ rest) d = refl
+
+-- ---- piece by piece
+
+calls-go : (x : Standing) (cs : List Call) → Calls x cs → (t : List ℕ) → goesOn x (joined (pieces cs) ++ t) ≡ written cs ++ goesOn (last x cs) t
+calls-go x [] c t = refl
+calls-go x (k ∷ cs) c t =
+    ap (goesOn x) (append-assoc (k .piece) (joined (pieces cs)) t)
+    ∙ c .0 .goes (joined (pieces cs) ++ t)
+    ∙ ap (λ (l : List ℕ). k .text ++ l) (calls-go (k .after) cs (c .1) t)
+    ∙ sym (append-assoc (k .text) (written cs) (goesOn (last (k .after) cs) t))
+
+-- ---- the settings
+
+-- no image has more than 815 bytes
+long-bad : (s : List ℕ) → Bytes s → 815 < length s → loadCode (loadOf s .answer) ≢ 0
+long-bad s b l g =
+    let f : SavedFrom s = images .load s b .exact .only g in
+    let n : length s ≤ 815 = subst (λ (x : List ℕ). length x ≤ 815) (f .is) (images .most (setUp (f .own) (f .port) (f .mtu) (f .adds))) in
+    absurd (omega arith)
+
+front-enough : (settings trace : List ℕ) → Bytes settings → outputOf (take 1024 settings) trace ≡ outputOf settings trace
+front-enough settings trace b =
+    caseB (ltb 1024 (length settings))
+    (λ e.
+    let l : 1024 < length settings = ltb-true 1024 (length settings) e in
+    let n : length (take 1024 settings) ≡ 1024 = length-take-le 1024 settings (omega arith) in
+    bad (take 1024 settings) trace (long-bad (take 1024 settings) (bytes-take settings b 1024) (omega arith))
+    ∙ sym (bad settings trace (long-bad settings b (omega arith))))
+    (λ e. ap (λ (s : List ℕ). outputOf s trace) (take-all 1024 settings (ltb-false 1024 (length settings) e)))
+
+accounted : (settings : List ℕ) → Bytes settings → loadCode (loadOf settings .answer) ≡ 0 → Accounts (loadOf settings .endpoint)
+accounted settings b g =
+    let f : SavedFrom settings = images .load settings b .exact .only g in
+    subst Accounts (sym (images .load settings b .set-up f)) (accounting (f .own) (f .port) (f .mtu) (f .adds))
+
+pub reruns : Reruns
+reruns = record {
+  writes = writes;
+  in-pieces = λ settings x b cs c. sym (calls-go x cs c []) ∙ ap (goesOn x) (append-nil (joined (pieces cs))) ∙ b .goes (joined (pieces cs))
+      ∙ sym (good settings (joined (pieces cs)) (b .good));
+  front = front-enough;
+  accounts = accounted;
+  worked = worked-rerun;
+}
