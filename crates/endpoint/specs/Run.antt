@@ -13,6 +13,8 @@ pub record Left : Type 0 where
   pub endpoint : Endpoint
   pub mem : List ℕ
 
+-- what one call leaves
+-- Open: a record of what `stepOf` and `tickOf` give, which are shut
 abbrev pub called : Left → Event → Left
 called w tick = record { endpoint = tickOf (w .endpoint) .endpoint; mem = w .mem }
 called w (receive k) =

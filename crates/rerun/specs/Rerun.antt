@@ -4,7 +4,7 @@ use mathlib.Core.List.{List, [], _∷_}
 use mathlib.Core.Option.{Option, none, some}
 use lib.ListN.{replicate}
 use Rattle.wire.specs.Bytes.{_then_}
-use Rattle.wire.specs.Checks.{pick, _is_, _below_}
+use Rattle.wire.specs.Checks.{pick, _below_}
 use Rattle.reassembly.specs.Receive.{Event, receive}
 use Rattle.reassembly.specs.Receive as E
 use Rattle.endpoint.specs.Answer.{Values, valuesOf}

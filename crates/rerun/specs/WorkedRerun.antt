@@ -1,7 +1,7 @@
 -- Worked lines: document 02's own, and numbers of every width. Only definitions; computed in Laws/WorkedRerun.
-use Prim.Native.Nat.{ℕ, _≤_}
+use Prim.Native.Nat.{_≤_}
 use mathlib.Core.Path.{_≡_}
-use mathlib.Core.List.{List, [], _∷_}
+use mathlib.Core.List.{[], _∷_}
 use mathlib.Core.Option.{none, some}
 use lib.ListN.{length}
 use Rattle.endpoint.specs.Run.{Left}

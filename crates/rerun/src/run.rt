@@ -1,6 +1,6 @@
 // A run of a trace that is fed in pieces: the endpoint goes from record to record, and each leaves a line.
 ghost use mathlib.Core.Path.{_≡_};
-ghost use mathlib.Core.List.{List, [], _++_};
+ghost use mathlib.Core.List.{List, []};
 ghost use Prim.Native.Nat.{ℕ, _+_, _*_, _^_, _≤_, _<_};
 ghost use lib.ListN.{length, take, drop};
 ghost use Rattle.endpoint.specs.Receive.{stepOf, receiptOf};
@@ -12,7 +12,6 @@ use crate::line::put_tick;
 use crate::number::AT_BROKEN;
 use crate::number::IN_HEADER;
 use crate::number::IN_RECORDS;
-use crate::number::LINE;
 use endpoint::config::Endpoint;
 use endpoint::receive::ReceiveResult;
 use endpoint::receive::receive;

@@ -32,11 +32,9 @@ beginsTrace s = leb 5 (length s) && headed s
 unfoldable pub packetLength : List ℕ → ℕ
 packetLength s = beAt s 1 2
 
--- Open: a numeral
 abbrev pub packetMost : ℕ
 packetMost = 1600
 
--- Open: a numeral
 abbrev pub recordMost : ℕ
 recordMost = 3 + packetMost
 

@@ -1,20 +1,12 @@
 -- `rerun::feed` meets its contract.
-use Prim.Native.Nat.{ℕ, _+_, _*_, _^_, _≤_, _<_}
 use mathlib.Core.Path.{_≡_, sym}
 use native.Mathlib.Omega.{arith}
-use lib.ListN.{length, take}
+use lib.ListN.{length}
 use lib.Seq.{length-take-le}
 use Rattle.rerun.specs.Laws.Standing.{ready-any, fed-told}
 use borrow.Author.Needs.{needs}
 use Rattle.rerun.proofs.feed.Statement.{statement}
 use Rattle.rerun.proofs.feed.Tie as tie
-use Rattle.rerun.proofs.feed.Reads as reads
-use Rattle.rerun.proofs.feed.Lts as lts
-use Rattle.os.proofs.fail.Reads as fail-reads
-use Rattle.rerun.proofs.files.read_some.Reads as read-some-reads
-use Rattle.rerun.proofs.finish.Reads as finish-reads
-use Rattle.rerun.proofs.output.write.Reads as write-reads
-use Rattle.rerun.proofs.run.advance.Reads as advance-reads
 
 -- src/main.rt:88:29
 slice-aggregate-read-some : tie.Need-slice-aggregate-read-some

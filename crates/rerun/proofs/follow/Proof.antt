@@ -9,11 +9,6 @@ use Rattle.rerun.specs.Standing.{standing, Ready}
 use Rattle.rerun.specs.Laws.Standing.{none-held}
 use Rattle.rerun.proofs.follow.Statement.{statement}
 use Rattle.rerun.proofs.follow.Tie as tie
-use Rattle.rerun.proofs.follow.Reads as reads
-use Rattle.rerun.proofs.follow.Lts as lts
-use Rattle.rerun.proofs.feed.Reads as feed-reads
-use Rattle.rerun.proofs.finish.Reads as finish-reads
-use Rattle.rerun.proofs.run.begin.Reads as begin-reads
 
 abbrev Inv-loop : tie.InvT-loop
 Inv-loop fd held₀ memory₀ out₀ at₀ pieces₀ held memory out at pieces =

@@ -1,9 +1,8 @@
 -- Text put behind text.
-use Prim.Native.Nat.{ℕ, _+_, _-_, _≤_}
-use mathlib.Core.Path.{_≡_, refl, sym, ap, ap₂, _∙_}
+use Prim.Native.Nat.{ℕ, _+_, _≤_}
+use mathlib.Core.Path.{_≡_, sym, ap, _∙_}
 use mathlib.Core.List.{List, [], _∷_, _++_, append-assoc}
-use native.Mathlib.Omega.{arith}
-use lib.ListN.{length, take, drop, length-append}
+use lib.ListN.{length, take, length-append}
 use mathlib.Core.Option.{none, some}
 use Rattle.io.specs.Counts.{Counts}
 use Rattle.rerun.specs.Rerun.{decimalIn, decimal, space, newline, ticked, answered, tenantText, saidText, lineText}

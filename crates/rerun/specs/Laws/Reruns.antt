@@ -1,12 +1,12 @@
 -- What rerun promises (Reruns.antt), proved.
-use Prim.Native.Nat.{ℕ, _+_, _≤_, _<_}
+use Prim.Native.Nat.{ℕ, _≤_, _<_}
 use mathlib.Core.Path.{_≡_, refl, sym, ap, subst, _∙_}
-use mathlib.Core.Bool.{Bool, true, false}
+use mathlib.Core.Bool.{Bool, true}
 use mathlib.Core.Logic.{_≢_}
 use mathlib.Core.List.{List, [], _∷_, _++_, append-assoc, append-nil}
 use native.Mathlib.Omega.{arith}
-use lib.Dec.{eqb, ltb}
-use borrow.Author.Tests.{eq-eqb, ne-eqb, eqb-true, eqb-false, ltb-true, ltb-false}
+use lib.Dec.{ltb}
+use borrow.Author.Tests.{eq-eqb, ne-eqb, ltb-true, ltb-false}
 use lib.ListN.{length, take, drop}
 use lib.Seq.{take-all, length-take-le}
 use Rattle.wire.specs.Bytes.{Bytes}
@@ -16,17 +16,17 @@ use Rattle.endpoint.specs.Config.{setUp}
 use Rattle.endpoint.specs.Account.{Accounts}
 use Rattle.endpoint.specs.Laws.Account.{accounting}
 use Rattle.image.specs.Answer.{loadCode}
-use Rattle.image.specs.Images.{SavedFrom, LoadRule}
+use Rattle.image.specs.Images.{SavedFrom}
 use Rattle.image.specs.Load.{loadOf}
 use Rattle.image.specs.Laws.Images.{images}
 use Rattle.trace.specs.Trace.{Record, noTrace, read, ReadsAs}
 use Rattle.trace.specs.Traces.{joined}
-use Rattle.trace.specs.Reader.{Reading, beginsTrace, readOf}
+use Rattle.trace.specs.Reader.{beginsTrace}
 use Rattle.trace.specs.Laws.Reads.{header-body}
 use Rattle.trace.specs.Laws.Traces.{traces}
 use Rattle.rerun.specs.Rerun.{loaded, linesOf, badTrace, badSettings}
-use Rattle.rerun.specs.Standing.{ending, recordsText, traceText, outputOf, Standing, goesOn, Fed}
-use Rattle.rerun.specs.Reruns.{Call, Calls, pieces, written, last, Begun, Writes, Reruns}
+use Rattle.rerun.specs.Standing.{ending, recordsText, traceText, outputOf, Standing, goesOn}
+use Rattle.rerun.specs.Reruns.{Call, Calls, pieces, written, last, Writes, Reruns}
 use Rattle.rerun.specs.Laws.WorkedRerun.{worked-rerun}
 
 -- ---- what is written

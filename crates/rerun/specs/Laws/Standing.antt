@@ -1,10 +1,9 @@
 -- What a run will still write: at each event of its reader, what was written and what will be is together the same.
-use Prim.Native.Nat.{ℕ, _+_, _-_, _*_, _≤_, _<_}
-use mathlib.Core.Path.{_≡_, refl, sym, ap, ap₂, subst, _∙_}
-use mathlib.Core.Bool.{Bool, true, false}
+use Prim.Native.Nat.{ℕ, _+_, _-_, _≤_, _<_}
+use mathlib.Core.Path.{_≡_, refl, sym, ap, ap₂, _∙_}
+use mathlib.Core.Bool.{Bool, false}
 use mathlib.Core.List.{List, [], _∷_, _++_, append-assoc, append-nil}
 use native.Mathlib.Omega.{arith}
-use native.Mathlib.Nat.{zero-add}
 use lib.ListN.{length, take, drop, length-append, length-drop, drop-of-length-le}
 use lib.Seq.{length-take-le, take-all, drop-drop}
 use lib.Dec.{eqb}
@@ -19,10 +18,11 @@ use Rattle.endpoint.specs.Receive.{Step, stepOf, withRow, receiptOf}
 use Rattle.endpoint.specs.Laws.Calls.{receipt-left}
 use Rattle.endpoint.specs.declared.answer.Received.{Received}
 use Rattle.trace.specs.Trace.{Record, tick, packet}
-use Rattle.trace.specs.Reader.{Reading, behind, stopped, beginsTrace, recordAt, recordEnd, headerAt, headerEnd, readOf, HeaderWaits, Waits}
+use Rattle.trace.specs.Reader.{behind, stopped, beginsTrace, recordAt, recordEnd, headerAt, headerEnd, readOf, HeaderWaits, Waits}
 use Rattle.trace.specs.declared.reader.Event.the-variants as E
-use Rattle.trace.specs.Laws.Reader.{empty-waits, empty-header-waits, waits-read, used-fits, used-some, tick-read, packet-read, packet-held, broken-read, broken-some, more-used, more-held, more-left}
-use Rattle.trace.specs.Laws.Reader.{header-read, header-behind, header-broken, header-more-used, header-more-held, header-more-left, header-used-fits}
+use Rattle.trace.specs.Laws.Reader.{empty-waits, empty-header-waits, waits-read, used-fits, used-some, tick-read, packet-read, packet-held, broken-read}
+use Rattle.trace.specs.Laws.Reader.{broken-some, more-held, more-left}
+use Rattle.trace.specs.Laws.Reader.{header-read, header-behind, header-broken, header-more-held, header-more-left, header-used-fits}
 use Rattle.trace.specs.Laws.Reader.{header-used-some, header-waits-read}
 use Rattle.rerun.specs.Rerun.{ticked, answered, lineText, eventOf, saidOf, linesOf, badTrace}
 use Rattle.rerun.specs.Standing.{ending, recordsText, traceText, Standing, standing, goesOn, Ready, Turned, Fed}

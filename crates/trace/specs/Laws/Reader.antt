@@ -188,14 +188,6 @@ pub empty-header-waits : HeaderWaits []
 unfolding headerAt
 empty-header-waits = refl
 
-pub waits-short : (h : List ℕ) → Waits h → length h < recordMost
-waits-short h w = by (lacks h w)
-  where
-    by : Lacks h → length h < recordMost
-    by (all-of-it a) = omega arith
-    by (its-length a b c) = omega arith
-    by (its-bytes a b c d) = omega arith
-
 -- where it ends there are bytes
 pub ends-within : (s : List ℕ) → recordEnd s ≤ length s
 ends-within s = by (front s)

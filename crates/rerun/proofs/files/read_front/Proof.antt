@@ -7,9 +7,6 @@ use borrow.Author.Needs.{needs}
 use Rattle.rerun.specs.Laws.Line.{counts}
 use Rattle.rerun.proofs.files.read_front.Statement.{statement}
 use Rattle.rerun.proofs.files.read_front.Tie as tie
-use Rattle.rerun.proofs.files.read_front.Reads as reads
-use Rattle.rerun.proofs.files.read_front.Lts as lts
-use Rattle.rerun.proofs.files.read_some.Reads as read-some-reads
 
 abbrev Inv-loop : tie.InvT-loop
 Inv-loop fd buf₀ done₀ buf done = (length buf ≡ length buf₀) × (done ≤ length buf)

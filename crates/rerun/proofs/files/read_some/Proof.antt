@@ -1,13 +1,9 @@
 -- `rerun::files::read_some` ends: the measure is the number of tries that are left.
 use mathlib.Core.Path.{_≡_}
-use native.Mathlib.Omega.{arith}
 use lib.ListN.{length}
 use borrow.Author.Needs.{needs}
 use Rattle.rerun.proofs.files.read_some.Statement.{statement}
 use Rattle.rerun.proofs.files.read_some.Tie as tie
-use Rattle.rerun.proofs.files.read_some.Reads as reads
-use Rattle.rerun.proofs.files.read_some.Lts as lts
-use Rattle.rerun.proofs.files.read_once.Reads as read-once-reads
 
 abbrev Inv-loop : tie.InvT-loop
 Inv-loop fd buf₀ tries₀ buf tries = length buf ≡ length buf₀

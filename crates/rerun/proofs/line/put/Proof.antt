@@ -5,9 +5,6 @@ use Rattle.rerun.specs.Laws.Line.{put-text}
 use borrow.Author.Needs.{needs}
 use Rattle.rerun.proofs.line.put.Statement.{statement}
 use Rattle.rerun.proofs.line.put.Tie as tie
-use Rattle.rerun.proofs.line.put.Reads as reads
-use Rattle.rerun.proofs.line.put.Lts as lts
-use Rattle.bytes.proofs.copy.Reads as copy-reads
 
 -- src/line.rt:16:23
 sub-copy : tie.Need-sub-copy

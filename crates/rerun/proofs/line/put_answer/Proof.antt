@@ -1,5 +1,5 @@
 -- `rerun::line::put_answer` meets its contract.
-use Prim.Native.Nat.{ℕ, _+_, _≤_}
+use Prim.Native.Nat.{ℕ}
 use mathlib.Core.Path.{_≡_, ap, _∙_}
 use mathlib.Core.List.{_++_}
 use mathlib.Core.Option.{none}
@@ -10,11 +10,6 @@ use Rattle.rerun.specs.Laws.Line.{delivered-line, pending-line, dropped-
 use borrow.Author.Needs.{needs}
 use Rattle.rerun.proofs.line.put_answer.Statement.{statement}
 use Rattle.rerun.proofs.line.put_answer.Tie as tie
-use Rattle.rerun.proofs.line.put_answer.Reads as reads
-use Rattle.rerun.proofs.line.put_answer.Lts as lts
-use Rattle.endpoint.proofs.code.drop_code.Reads as drop-code-reads
-use Rattle.rerun.proofs.line.put.Reads as put-reads
-use Rattle.rerun.proofs.line.put_number.Reads as put-number-reads
 
 -- src/line.rt:47:44
 slice-aggregate-put-number : tie.Need-slice-aggregate-put-number

@@ -1,6 +1,6 @@
 -- `rerun::line::put_number` meets its contract.
-use Prim.Native.Nat.{ℕ, _+_, _≤_}
-use mathlib.Core.Path.{_≡_, refl, sym, ap, _∙_}
+use Prim.Native.Nat.{ℕ, _≤_}
+use mathlib.Core.Path.{_≡_, ap, _∙_}
 use mathlib.Core.List.{List, _++_, append-assoc}
 use native.Mathlib.Omega.{arith}
 use lib.ListN.{length, take}
@@ -10,10 +10,6 @@ use Rattle.rerun.specs.Laws.Decimal.{decimal-is}
 use borrow.Author.Needs.{needs}
 use Rattle.rerun.proofs.line.put_number.Statement.{statement}
 use Rattle.rerun.proofs.line.put_number.Tie as tie
-use Rattle.rerun.proofs.line.put_number.Reads as reads
-use Rattle.rerun.proofs.line.put_number.Lts as lts
-use Rattle.io.proofs.decimal.Reads as decimal-reads
-use Rattle.rerun.proofs.line.put.Reads as put-reads
 
 -- src/line.rt:27:9
 decimal-requires : tie.Need-decimal-requires

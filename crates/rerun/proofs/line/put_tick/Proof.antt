@@ -5,9 +5,6 @@ use Rattle.rerun.specs.Laws.Line.{tick-line}
 use borrow.Author.Needs.{needs}
 use Rattle.rerun.proofs.line.put_tick.Statement.{statement}
 use Rattle.rerun.proofs.line.put_tick.Tie as tie
-use Rattle.rerun.proofs.line.put_tick.Reads as reads
-use Rattle.rerun.proofs.line.put_tick.Lts as lts
-use Rattle.rerun.proofs.line.put_number.Reads as put-number-reads
 
 -- src/line.rt:38:33
 slice-aggregate-put-number : tie.Need-slice-aggregate-put-number

@@ -1,15 +1,9 @@
 -- `rerun::output::write` ends: each turn leaves less to write.
 use Prim.Native.Nat.{_-_, _≤_}
-use mathlib.Core.Path.{_≡_}
-use native.Mathlib.Omega.{arith}
 use lib.ListN.{length}
 use borrow.Author.Needs.{needs}
 use Rattle.rerun.proofs.output.write.Statement.{statement}
 use Rattle.rerun.proofs.output.write.Tie as tie
-use Rattle.rerun.proofs.output.write.Reads as reads
-use Rattle.rerun.proofs.output.write.Lts as lts
-use Rattle.os.proofs.fail.Reads as fail-reads
-use Rattle.rerun.proofs.output.write_some.Reads as write-some-reads
 
 abbrev Inv-loop : tie.InvT-loop
 Inv-loop text done₀ t4 done = done ≤ length text

@@ -1,17 +1,7 @@
 -- `rerun::output::write_some` ends: the measure is the number of tries that are left.
-use mathlib.Core.Path.{_≡_}
-use native.Mathlib.Omega.{arith}
-use lib.ListN.{length}
 use borrow.Author.Needs.{needs}
 use Rattle.rerun.proofs.output.write_some.Statement.{statement}
 use Rattle.rerun.proofs.output.write_some.Tie as tie
-use Rattle.rerun.proofs.output.write_some.Reads as reads
-use Rattle.rerun.proofs.output.write_some.Lts as lts
-use Rattle.io.proofs.count.Reads as count-reads
-use Rattle.libc.proofs.sched_yield.Reads as sched-yield-reads
-use Rattle.libc.proofs.write.Reads as write-reads
-use Rattle.os.proofs.errno.Reads as errno-reads
-use Rattle.rerun.proofs.files.is_passing.Reads as is-passing-reads
 
 abbrev Inv-loop : tie.InvT-loop
 Inv-loop text tries₀ tries = Unit {0}

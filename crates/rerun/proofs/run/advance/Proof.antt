@@ -1,19 +1,14 @@
 -- `rerun::run::advance` meets its contract: what was written and what will be is together the same at every turn, and each turn uses some of the piece.
 use Prim.Native.Nat.{ℕ, _+_, _-_, _*_, _^_, _≤_, _<_}
-use mathlib.Core.Path.{_≡_, refl, ap, _∙_}
+use mathlib.Core.Path.{_≡_, refl, _∙_}
 use mathlib.Core.List.{List, _++_}
 use native.Mathlib.Omega.{arith}
 use lib.ListN.{length, take, drop}
 use borrow.Author.Needs.{needs}
 use Rattle.rerun.specs.Standing.{standing, goesOn, Ready}
-use Rattle.rerun.specs.declared.run.Run.{Run}
 use Rattle.rerun.specs.Laws.Standing.{ready-any, left-is, left, told-is, on, through, fed-by}
 use Rattle.rerun.proofs.run.advance.Statement.{statement}
 use Rattle.rerun.proofs.run.advance.Tie as tie
-use Rattle.rerun.proofs.run.advance.Reads as reads
-use Rattle.rerun.proofs.run.advance.Lts as lts
-use Rattle.rerun.proofs.run.turn.Reads as turn-reads
-use Rattle.rerun.proofs.run.turned.Reads as turned-reads
 
 abbrev Inv-loop : tie.InvT-loop
 Inv-loop held₀ memory₀ piece out₀ at₀ used₀ end₀ held memory out at used end =

@@ -3,8 +3,6 @@ use mathlib.Core.Path.{refl}
 use Rattle.rerun.specs.Laws.Standing.{begin-ready, begin-goes}
 use Rattle.rerun.proofs.run.begin.Statement.{statement}
 use Rattle.rerun.proofs.run.begin.Tie as tie
-use Rattle.rerun.proofs.run.begin.Reads as reads
-use Rattle.rerun.proofs.run.begin.Lts as lts
 
 -- src/run.rt:38:1
 returns : tie.Need-returns

@@ -1,5 +1,4 @@
 -- `rerun::run::ends_badly` meets its contract.
-use Prim.Native.Nat.{ℕ}
 use mathlib.Core.Path.{_≡_}
 use native.Mathlib.Omega.{arith}
 use borrow.Author.Tests.{eqb-true, eqb-false}
@@ -8,8 +7,6 @@ use lib.Dec.{eqb}
 use Rattle.rerun.specs.Laws.Standing.{ends-elsewhere, ends-between, ends-within}
 use Rattle.rerun.proofs.run.ends_badly.Statement.{statement}
 use Rattle.rerun.proofs.run.ends_badly.Tie as tie
-use Rattle.rerun.proofs.run.ends_badly.Reads as reads
-use Rattle.rerun.proofs.run.ends_badly.Lts as lts
 
 -- src/run.rt:245:9
 returns : tie.Need-returns

@@ -1,13 +1,8 @@
 -- `rerun::run::receive_held` meets its contract.
-use mathlib.Core.List.{List}
-use Prim.Native.Nat.{ℕ}
 use Rattle.wire.specs.Laws.Bytes.{drop-take}
 use borrow.Author.Needs.{needs}
 use Rattle.rerun.proofs.run.receive_held.Statement.{statement}
 use Rattle.rerun.proofs.run.receive_held.Tie as tie
-use Rattle.rerun.proofs.run.receive_held.Reads as reads
-use Rattle.rerun.proofs.run.receive_held.Lts as lts
-use Rattle.endpoint.proofs.receive.receive.Reads as receive-reads
 
 -- src/run.rt:132:16
 sub-receive : tie.Need-sub-receive

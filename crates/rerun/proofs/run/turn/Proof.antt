@@ -1,18 +1,10 @@
 -- `rerun::run::turn` meets its contract.
-use Prim.Native.Nat.{ℕ}
 use mathlib.Core.Path.{_≡_}
-use mathlib.Core.List.{List}
 use native.Mathlib.Omega.{arith}
-use lib.ListN.{length, take}
 use Rattle.rerun.specs.Laws.Standing.{broken-stays}
 use borrow.Author.Needs.{needs}
 use Rattle.rerun.proofs.run.turn.Statement.{statement}
 use Rattle.rerun.proofs.run.turn.Tie as tie
-use Rattle.rerun.proofs.run.turn.Reads as reads
-use Rattle.rerun.proofs.run.turn.Lts as lts
-use Rattle.rerun.proofs.run.turn_header.Reads as turn-header-reads
-use Rattle.rerun.proofs.run.turn_record.Reads as turn-record-reads
-use Rattle.rerun.proofs.run.turned.Reads as turned-reads
 
 -- src/run.rt:201:9
 turn-header-requires : tie.Need-turn-header-requires

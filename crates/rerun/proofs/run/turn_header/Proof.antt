@@ -1,8 +1,7 @@
 -- `rerun::run::turn_header` meets its contract.
-use Prim.Native.Nat.{ℕ, _+_, _≤_, _<_}
+use Prim.Native.Nat.{ℕ, _≤_, _<_}
 use mathlib.Core.Path.{_≡_, sym, ap, subst, _∙_}
 use mathlib.Core.List.{List, [], _++_}
-use native.Mathlib.Omega.{arith}
 use lib.ListN.{length, take}
 use Rattle.trace.specs.Laws.Reader.{header-used-fits, never-tick, never-packet}
 use Rattle.rerun.specs.Standing.{standing, Ready}
@@ -11,11 +10,6 @@ use Rattle.rerun.specs.Laws.Standing.{ready-header, none-held, more-are-
 use borrow.Author.Needs.{needs}
 use Rattle.rerun.proofs.run.turn_header.Statement.{statement}
 use Rattle.rerun.proofs.run.turn_header.Tie as tie
-use Rattle.rerun.proofs.run.turn_header.Reads as reads
-use Rattle.rerun.proofs.run.turn_header.Lts as lts
-use Rattle.rerun.proofs.run.moved.Reads as moved-reads
-use Rattle.rerun.proofs.run.turned.Reads as turned-reads
-use Rattle.trace.proofs.reader.read_header.Reads as read-header-reads
 
 ready : (c : tie.After-read-header) (m : List ℕ) → Ready (standing (c .before .before .before .args .run) (c .before .before .before .args .held .now) m)
 ready c = c .before .before .before .pre .0

@@ -1,5 +1,5 @@
 -- `rerun::run::turn_record` meets its contract.
-use Prim.Native.Nat.{ℕ, _+_, _-_, _≤_, _<_}
+use Prim.Native.Nat.{ℕ, _≤_, _<_}
 use mathlib.Core.Path.{_≡_, sym, ap, subst, _∙_}
 use mathlib.Core.List.{List, _++_}
 use native.Mathlib.Omega.{arith}
@@ -7,7 +7,7 @@ use lib.ListN.{length, take, drop}
 use Rattle.endpoint.specs.Laws.Calls.{receipt-answer}
 use Rattle.endpoint.specs.declared.receive.ReceiveResult.{ReceiveResult}
 use Rattle.endpoint.specs.declared.tick.TickResult.{TickResult}
-use Rattle.trace.specs.Reader.{recordEnd, Waits}
+use Rattle.trace.specs.Reader.{Waits}
 use Rattle.trace.specs.Laws.Reader.{used-fits, never-header}
 use Rattle.rerun.specs.Standing.{standing, Ready}
 use Rattle.rerun.specs.declared.run.Run.{Run}
@@ -15,16 +15,6 @@ use Rattle.rerun.specs.Laws.Standing.{ready-records, none-held, more-are
 use borrow.Author.Needs.{needs}
 use Rattle.rerun.proofs.run.turn_record.Statement.{statement}
 use Rattle.rerun.proofs.run.turn_record.Tie as tie
-use Rattle.rerun.proofs.run.turn_record.Reads as reads
-use Rattle.rerun.proofs.run.turn_record.Lts as lts
-use Rattle.endpoint.proofs.tick.tick.Reads as tick-reads
-use Rattle.rerun.proofs.line.put_answer.Reads as put-answer-reads
-use Rattle.rerun.proofs.line.put_tick.Reads as put-tick-reads
-use Rattle.rerun.proofs.run.behind.Reads as behind-reads
-use Rattle.rerun.proofs.run.moved.Reads as moved-reads
-use Rattle.rerun.proofs.run.receive_held.Reads as receive-held-reads
-use Rattle.rerun.proofs.run.turned.Reads as turned-reads
-use Rattle.trace.proofs.reader.read_record.Reads as read-record-reads
 
 -- what is known of the run before the step
 module _ (c : tie.After-read-record) where
