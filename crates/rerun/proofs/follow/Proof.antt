@@ -1,5 +1,5 @@
 -- `rerun::follow` is safe and ends: the measure is the number of pieces that are left, and so many records as they can bring are left to be told.
-use Prim.Native.Nat.{ℕ, _+_, _-_, _*_, _<_, _≤_}
+use Prim.Native.Nat.{ℕ, _+_, _-_, _*_, _^_, _<_, _≤_}
 use mathlib.Core.Path.{_≡_, refl, _∙_}
 use mathlib.Core.List.{List}
 use native.Mathlib.Omega.{arith}
@@ -14,7 +14,7 @@ abbrev Inv-loop : tie.InvT-loop
 Inv-loop fd held₀ memory₀ out₀ at₀ pieces₀ held memory out at pieces =
     ((m : List ℕ) → Ready (standing at held m))
     × (length (take (at .count) held) ≡ at .count)
-    × (at .number + 8192 * pieces ≤ 8192 * 0x0001000000000000)
+    × (at .number + 8192 * pieces ≤ 2 ^ 62)
     × (length memory ≡ length memory₀)
     × (length out ≡ length out₀)
 
@@ -80,7 +80,7 @@ loop-again c =
     let f = c .before .before .before .before .before .before .before .before .before .feed in
     let told : f .result .run .number ≤ l .at .number + 8192 = f .ensures .1 .1 in
     let some : 0 < l .pieces = c .before .before .before .before .before .before .before .before .before .before .before .before .before .loop-test .taken in
-    let room : f .result .run .number + 8192 * (l .pieces - 1) ≤ 8192 * 0x0001000000000000 = omega (arith, told, l .inv .2, some) in
+    let room : f .result .run .number + 8192 * (l .pieces - 1) ≤ 2 ^ 62 = omega (arith, told, l .inv .2, some) in
     let kept-memory : length (f .last .1 .1 .1 .0) ≡ length (l .memory) = search needs in
     let kept-out : length (f .last .1 .1 .1 .1 .0) ≡ length (l .out) = search needs in (
       f .ensures .0,

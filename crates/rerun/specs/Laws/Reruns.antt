@@ -34,11 +34,11 @@ use Rattle.rerun.specs.Laws.WorkedRerun.{worked-rerun}
 module _ (settings trace : List ℕ) where
   good : loadCode (loadOf settings .answer) ≡ 0 → outputOf settings trace ≡ traceText (loaded settings) 0 trace
   unfolding outputOf
-  good g = ap (λ (b : Bool). pick b (traceText (loaded settings) 0 trace) badSettings) (eq-eqb (loadCode (loadOf settings .answer)) 0 g)
+  good g = rw (eq-eqb (loadCode (loadOf settings .answer)) 0 g) refl
 
   bad : loadCode (loadOf settings .answer) ≢ 0 → outputOf settings trace ≡ badSettings
   unfolding outputOf
-  bad g = ap (λ (b : Bool). pick b (traceText (loaded settings) 0 trace) badSettings) (ne-eqb (loadCode (loadOf settings .answer)) 0 g)
+  bad g = rw (ne-eqb (loadCode (loadOf settings .answer)) 0 g) refl
 
 module _ (settings trace : List ℕ) (bytes : Bytes trace) where
   none : ReadsAs trace noTrace → traceText (loaded settings) 0 trace ≡ badTrace
