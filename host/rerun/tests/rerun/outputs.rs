@@ -165,10 +165,27 @@ fn a_file_that_is_full() {
     }
 }
 
-/// An output that does not wait: what it took is the beginning, once, and in order.
+/// Where lines are lost, or a file is not there, standard error says so.
+#[test]
+fn standard_error() {
+    let (tester, files, _) = files("standard error");
+    let nowhere = [files[0].clone(), tester.folder.join("no such file")];
+    let said = |script: &str, files: &[PathBuf; 2]| {
+        let mut command = under_shell(script, files);
+        let output = command.stderr(Stdio::piped()).output().expect("a run");
+        String::from_utf8(output.stderr).expect("text")
+    };
+    for script in ["exec \"$@\" >&-", "exec \"$@\" >/dev/full"] {
+        assert!(said(script, &files).contains("standard output"), "{script}");
+    }
+    assert!(said("exec \"$@\"", &nowhere).contains("no such file"));
+    assert_eq!(said("exec \"$@\"", &files), "");
+}
+
+/// An output that does not wait gets every line too.
 #[test]
 fn an_output_that_does_not_wait() {
-    let tester = Tester::new("does not wait");
+    let mut tester = Tester::new("does not wait");
     let trace = ticks(200_000);
     let files = [
         tester.file("settings.twn", &settings()),
@@ -187,7 +204,6 @@ fn an_output_that_does_not_wait() {
         written
     });
     ends_well(child);
-    let expected = lines(&settings(), &trace);
-    assert!(written.len() > 10_000, "{}", written.len());
-    assert!(expected.as_bytes().starts_with(&written));
+    tester.settle(&lines(&settings(), &trace), &written);
+    assert_eq!(tester.tally.ticks, 200_000);
 }
