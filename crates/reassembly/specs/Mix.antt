@@ -123,6 +123,7 @@ ticks (x ∷ xs) = tickItem x + ticks xs
 abbrev pub pendingAt : List Item → Item → List Item → ℕ → Bool
 pendingAt before now after f = ltb 0 (segmentsOf f (before ++ (now ∷ []))) && ltb 0 (segmentsOf f (now ∷ after))
 
+-- Open: a count, by recursion on how many are asked
 abbrev pub howMany : ℕ → (ℕ → Bool) → ℕ
 howMany zero t = 0
 howMany (suc n) t = cond (t n) 1 0 + howMany n t

@@ -8,7 +8,7 @@ use Prim.Native.Nat.{ℕ, _+_, _*_, _/_, _≤_, _<_}
 use native.Mathlib.Omega.{arith}
 use lib.ListN.{length, getD}
 use lib.Dec.{ltb, eqb, leb}
-use borrow.Author.Tests.{ltb-true, ltb-false, leb-true, leb-false, eqb-true, eqb-false, lt-ltb, lt-leb, ne-eqb}
+use borrow.Author.Tests.{ltb-true, ltb-false, leb-true, leb-false, eqb-true, eqb-false, lt-ltb, le-leb, lt-leb, ne-eqb}
 use Rattle.reassembly.specs.Base.{within}
 use Rattle.reassembly.specs.Laws.Base.{caseB, either, clash, same-test, and-l, and-r, allBelow-at}
 use Rattle.reassembly.specs.Laws.Memory.{within-high, within-is}
@@ -113,9 +113,55 @@ pub pending-takes : (takes 1 ≡ true) × (completes 1 ≡ false)
 unfolding completes takes
 pending-takes = (refl, refl)
 
-rejected-counts : (n : ℕ) → takes n ≡ false → completes n ≡ false
+pub rejected-counts : (n : ℕ) → takes n ≡ false → completes n ≡ false
 unfolding completes
 rejected-counts n e = rw e
+
+pub takes-none : (n : ℕ) → (n ≡ 2) ⊎ ((14 ≤ n) × (n ≤ 17)) → takes n ≡ false
+unfolding takes
+takes-none n (inl e) = rw e refl
+takes-none n (inr l) = rw (ne-eqb n 2 (λ z. omega (arith, l .0)), le-leb 14 n (l .0), le-leb n 17 (l .1)) refl
+
+-- what a packet counts for
+module _ (W : Answers) (n : ℕ) where
+  pub counts-segment : (p : ℕ) (g : Seg) → (bytesTaken W n (segment p g) ≡ cond (takes n) (length (g .bytes)) 0)
+      × (bytesCompleted W n (segment p g) ≡ cond (completes n) (g .frame-length) 0)
+  unfolding bytesTaken bytesCompleted
+  counts-segment p g = (refl, refl)
+
+  pub counts-none : (x : Reading W) → ((p : ℕ) (g : Seg) → x ≡ segment p g → ⊥) → (bytesTaken W n x ≡ 0) × (bytesCompleted W n x ≡ 0)
+  unfolding bytesTaken bytesCompleted
+  counts-none (otherSender a) h = (refl, refl)
+  counts-none (direct p a) h = (refl, refl)
+  counts-none (segment p g) h = absurd (h p g refl)
+
+-- the bytes marked, slot by slot
+pub pending-none : (f : ℕ → ℕ → Bool) (m : List ℕ) → ((p s : ℕ) → p < 8 → s < 4 → f p s ≡ false) → bytesPending f m ≡ 0
+unfolding bytesPending
+pending-none f m h = slots-none (λ p s. cond (f p s) (marked m p s) 0) (λ p s lp ls. rw (h p s lp ls) refl)
+
+marked-is : (m : List ℕ) (p s : ℕ) → marked m p s ≡ howMany 1536 (λ i. bitOf m (mapAt p s) i)
+unfolding marked
+marked-is m p s = refl
+
+marks-more : (f g : ℕ → ℕ → Bool) (m : List ℕ) (p s : ℕ) → p < 8 → s < 4 → f p s ≡ false → g p s ≡ true
+    → ((q t : ℕ) → (q ≢ p) ⊎ (t ≢ s) → f q t ≡ g q t) → bytesPending g m ≡ bytesPending f m + marked m p s
+unfolding bytesPending
+marks-more f g m p s lp ls u v same =
+    let F : ℕ → ℕ → ℕ = λ q t. cond (f q t) (marked m q t) 0 in
+    let G : ℕ → ℕ → ℕ = λ q t. cond (g q t) (marked m q t) 0 in
+    omega (
+      arith,
+      slots-one F G p s 0 (marked m p s) lp ls (λ q t lq lt d. ap (λ (b : Bool). cond b (marked m q t) 0) (same q t d)) (rw (u, v) (omega arith)),
+    )
+
+pub pending-more : (f g : ℕ → ℕ → Bool) (m : List ℕ) (p s : ℕ) → p < 8 → s < 4 → f p s ≡ false → g p s ≡ true
+    → ((q t : ℕ) → (q ≢ p) ⊎ (t ≢ s) → f q t ≡ g q t) → bytesPending g m ≡ bytesPending f m + howMany 1536 (λ i. bitOf m (mapAt p s) i)
+pending-more f g m p s lp ls u v same = marks-more f g m p s lp ls u v same ∙ ap (λ (x : ℕ). bytesPending f m + x) (marked-is m p s)
+
+pub aged-is : (before after : ℕ → ℕ → Bool) (m : List ℕ) → bytesAged before after m ≡ bytesPending (λ p s. before p s && not (after p s)) m
+unfolding bytesAged bytesPending
+aged-is before after m = refl
 
 -- a numbering of the answers that tells them apart: 14 to 17 for a rejection, 1, 0 for a delivery; and a number of neither kind for a complete frame that is
 -- found bad

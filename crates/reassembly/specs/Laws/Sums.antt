@@ -80,6 +80,10 @@ along-by {T = T} next next′ to f g n h (e ∷ es) w =
     ap (λ (x : ℕ). x + along next f (next w e) es) (h w e)
     ∙ ap (λ (x : ℕ). g (to w) e + x) (along-by next next′ to f g n h es (next w e) ∙ ap (λ (x : T). along next′ g x es) (n w e))
 
+pub along-none : {S : Type 0} (next : S → Event → S) (f : S → Event → ℕ) (w : S) → along next f w [] ≡ 0
+unfolding along
+along-none next f w = refl
+
 -- one event more
 pub along-snoc : {S : Type 0} (next : S → Event → S) (run : S → List Event → S) (f : S → Event → ℕ) → ((w : S) → run w [] ≡ w)
     → ((w : S) (e : Event) (es : List Event) → run w (e ∷ es) ≡ run (next w e) es)
