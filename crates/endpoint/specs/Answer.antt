@@ -32,6 +32,7 @@ dropOf D.UnknownPeer = only 7
 dropOf D.NoBinding = only 12
 dropOf (D.Segment r) = only (rejectionCode r)
 
+-- Open: a field of `dropOf`
 abbrev pub dropCode : Drop → ℕ
 dropCode d = dropOf d .number
 

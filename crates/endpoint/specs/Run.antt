@@ -21,6 +21,8 @@ called w (receive k) =
     let s : Step = stepOf (w .endpoint) (w .mem) k in
     record { endpoint = withRow (w .endpoint) (s .peer) (s .row); mem = s .mem }
 
+-- and a list of calls
+-- Open: a fold over the list, which the crates above write out
 abbrev pub calls : Left → List Event → Left
 calls w [] = w
 calls w (e ∷ es) = calls (called w e) es

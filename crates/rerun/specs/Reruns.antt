@@ -1,18 +1,26 @@
 -- WHAT RERUN PROMISES (document 02, §6): `Reruns`, THE STATEMENT. The lines as text are Rerun.antt, what a trace reads as is crate trace's (specs/Trace.antt),
 -- which images are good is crate image's (specs/Images.antt).
 -- Only definitions; proved in Laws/Reruns (`reruns`).
-use Prim.Native.Nat.{ℕ}
+use Prim.Native.Nat.{ℕ, _+_}
 use mathlib.Core.Path.{_≡_}
 use mathlib.Core.Logic.{_≢_}
-use mathlib.Core.List.{List, [], _∷_, _++_}
-use lib.ListN.{take}
+use mathlib.Core.List.{List, [], _∷_, _++_, map}
+use mathlib.Core.Option.{none, some}
+use lib.ListN.{length, take}
 use Rattle.wire.specs.Bytes.{Bytes, _then_}
 use Rattle.endpoint.specs.Account.{Accounts}
+use Rattle.endpoint.specs.Answer.{dropCode}
+use Rattle.endpoint.specs.Receive.{stepOf}
+use Rattle.endpoint.specs.Run.{Left, calls}
+use Rattle.endpoint.specs.declared.answer.Drop.{Drop}
+use Rattle.endpoint.specs.declared.answer.Place.{Place}
+use Rattle.endpoint.specs.declared.answer.Received.the-variants as R
+use Rattle.endpoint.specs.declared.answer.Target.{Target}
 use Rattle.image.specs.Answer.{loadCode}
 use Rattle.image.specs.Load.{loadOf}
-use Rattle.trace.specs.Trace.{Record, noTrace, read, ReadsAs}
+use Rattle.trace.specs.Trace.{Record, packet, noTrace, read, ReadsAs}
 use Rattle.trace.specs.Traces.{joined}
-use Rattle.rerun.specs.Rerun.{loaded, linesOf, badTrace, badSettings}
+use Rattle.rerun.specs.Rerun.{answered, lineText, loaded, eventOf, saidOf, linesOf, badTrace, badSettings}
 use Rattle.rerun.specs.Standing.{traceText, outputOf, Standing, goesOn, Fed}
 use Rattle.rerun.specs.WorkedRerun.{WorkedRerun}
 
@@ -61,11 +69,21 @@ module _ (settings trace : List ℕ) where
 
 pub record Reruns : Type 0 where
   pub writes : (settings trace : List ℕ) → Bytes trace → Writes settings trace (outputOf settings trace)
-  -- however the trace is cut into pieces: what the calls leave to be written, and what is written at the end, is that
-  pub in-pieces : (settings : List ℕ) (x : Standing) → Begun settings x → (cs : List Call) → Calls x cs
-      → written cs ++ goesOn (last x cs) [] ≡ outputOf settings (joined (pieces cs))
+  -- however the trace is cut into pieces: what the calls leave to be written, and what is still to be written for the bytes behind them, is that; and at a
+  -- broken record the last line alone is, whatever follows
+  pub in-pieces : (settings : List ℕ) (x : Standing) → Begun settings x → (cs : List Call) → Calls x cs → (t : List ℕ)
+      → written cs ++ goesOn (last x cs) t ≡ outputOf settings (joined (pieces cs) ++ t)
+  pub stopped : (x : Standing) → x .phase ≡ 2 → (t : List ℕ) → goesOn x t ≡ badTrace
   -- of a long settings file the first 1,024 bytes are enough
   pub front : (settings trace : List ℕ) → Bytes settings → outputOf (take 1024 settings) trace ≡ outputOf settings trace
   -- the accounting of every run holds of the image's endpoint
   pub accounts : (settings : List ℕ) → Bytes settings → loadCode (loadOf settings .answer) ≡ 0 → Accounts (loadOf settings .endpoint)
+  -- the lines are those of a run of the calls (crate endpoint, specs/Run.antt): each record's is its answer behind all records before it
+  pub follows : (w : Left) (n : ℕ) (rs : List Record) (r : Record)
+      → linesOf w n (rs ++ (r ∷ [])) ≡ linesOf w n rs then lineText (n + length rs + 1) (saidOf (calls w (map eventOf rs)) r)
+  -- an answer that delivers tells its tenant, and no other tells one
+  pub delivered : (w : Left) (k : List ℕ) (t : Target) (p : Place) → stepOf (w .endpoint) (w .mem) k .answer ≡ R.Delivered t p
+      → saidOf w (packet k) ≡ answered 0 (some (t .tenant))
+  pub pending : (w : Left) (k : List ℕ) → stepOf (w .endpoint) (w .mem) k .answer ≡ R.Pending → saidOf w (packet k) ≡ answered 1 none
+  pub dropped : (w : Left) (k : List ℕ) (d : Drop) → stepOf (w .endpoint) (w .mem) k .answer ≡ R.Dropped d → saidOf w (packet k) ≡ answered (dropCode d) none
   pub worked : WorkedRerun

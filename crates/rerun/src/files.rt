@@ -55,6 +55,7 @@ pub(crate) fn read_front(fd: i32, buf: &mut [u8]) -> usize
     while done < buf.len() {
         let got = read_some(fd, &mut buf[done..]);
         if got.failed {
+            os::fail(b"rerun: settings");
             return 0;
         }
         if got.count == 0 {

@@ -3,8 +3,9 @@ ghost use mathlib.Core.Path.{_≡_};
 ghost use mathlib.Core.List.{_++_};
 ghost use Prim.Native.Nat.{_+_, _≤_};
 ghost use lib.ListN.{length, take};
+ghost use Rattle.io.specs.Counts.{Counts};
 ghost use Rattle.endpoint.specs.Answer.{valuesOf};
-ghost use Rattle.rerun.specs.Rerun.{decimal, ticked, answered, lineText};
+ghost use Rattle.rerun.specs.Rerun.{decimal, ticked, answered, lineText, badTrace, badSettings};
 use endpoint::answer::Received;
 use endpoint::code::drop_code;
 
@@ -57,4 +58,22 @@ pub(crate) fn put_answer(out: &mut [u8], at: usize, number: u64, answer: Receive
             return put_number(out, said, drop_code(d) as u64, b" -\n");
         }
     }
+}
+
+// The last line of a trace that is broken or cut off, alone in the output.
+pub(crate) fn put_bad_trace(out: &mut [u8]) -> usize
+    requires { ⌜ 64 ≤ length (now out) ⌝ }
+    ensures { λ r. ⌜ Counts r (now (out .exit)) ⌝ }
+    ensures { λ r. ⌜ take r (now (out .exit)) ≡ badTrace ⌝ }
+{
+    put(out, 0, b"bad trace\n")
+}
+
+// The one line of a bad image.
+pub(crate) fn put_bad_settings(out: &mut [u8]) -> usize
+    requires { ⌜ 64 ≤ length (now out) ⌝ }
+    ensures { λ r. ⌜ Counts r (now (out .exit)) ⌝ }
+    ensures { λ r. ⌜ take r (now (out .exit)) ≡ badSettings ⌝ }
+{
+    put(out, 0, b"bad settings\n")
 }

@@ -1,9 +1,9 @@
 // Sizes. A record has at least one byte and a line at most 64, so the lines that end in a piece have room.
-pub(crate) const PIECE: usize = 8192;
+pub(crate) const PIECE: usize = 32768;
 
 pub(crate) const LINE: usize = 64;
 
-pub(crate) const OUT: usize = 524288;
+pub(crate) const OUT: usize = 2097152;
 
 // An image has at most 815 bytes: of a longer file these are enough to refuse it.
 pub(crate) const SETTINGS: usize = 1024;

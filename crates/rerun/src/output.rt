@@ -10,7 +10,7 @@ fn write_some(text: &[u8]) -> usize
     let mut tries = u64::MAX;
     while tries > 0 {
         let put = libc::write(libc::STDOUT_FILENO, text);
-        if put > 0 {
+        if put >= 0 {
             return io::count(put, text);
         }
         if !is_passing(os::errno()) {

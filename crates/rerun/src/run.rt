@@ -3,21 +3,33 @@ ghost use mathlib.Core.Path.{_≡_};
 ghost use mathlib.Core.List.{List, []};
 ghost use Prim.Native.Nat.{ℕ, _+_, _*_, _^_, _≤_, _<_};
 ghost use lib.ListN.{length, take, drop};
-ghost use Rattle.endpoint.specs.Receive.{stepOf, receiptOf};
+ghost use Rattle.reassembly.specs.Slots.{mostPeers};
+ghost use Rattle.endpoint.specs.Receive.{stepOf};
+ghost use Rattle.trace.specs.Reader.{HeaderWaits, Waits};
+ghost use Rattle.io.specs.Counts.{Counts};
 ghost use Rattle.wire.specs.Checks.{pick};
 ghost use Rattle.rerun.specs.Rerun.{badTrace};
-ghost use Rattle.rerun.specs.Standing.{standing, goesOn, traceText, Ready, Turned, Fed};
+ghost use Rattle.rerun.specs.Standing.{standing, goesOn, traceText, Ready, Stepped, Fed, Started};
 use crate::line::put_answer;
+use crate::line::put_bad_settings;
+use crate::line::put_bad_trace;
 use crate::line::put_tick;
 use crate::number::AT_BROKEN;
 use crate::number::IN_HEADER;
 use crate::number::IN_RECORDS;
+use endpoint::answer::Received;
 use endpoint::config::Endpoint;
-use endpoint::receive::ReceiveResult;
-use endpoint::receive::receive;
+use endpoint::receive::deliver;
+use endpoint::receive::open;
+use endpoint::receive::take;
 use endpoint::tick::tick;
+use image::code::load_code;
+use image::load::load;
+use reassembly::slot::Peer;
+use trace::number::PACKET;
 use trace::number::PACKET_AT;
 use trace::number::RECORD_MAX;
+use trace::number::TICK;
 use trace::reader::Event;
 use trace::reader::read_header;
 use trace::reader::read_record;
@@ -37,7 +49,7 @@ pub(crate) struct Progress {
     pub end: usize,
 }
 
-pub(crate) fn begin(e: Endpoint) -> Run
+fn begin(e: Endpoint) -> Run
     ensures { λ r. ⌜ ((held m : List ℕ) → Ready (standing r held m)) ⌝ }
     ensures { λ r. ⌜ ((held m t : List ℕ) → goesOn (standing r held m) t ≡ traceText (record { endpoint = e; mem = m }) 0 t) ⌝ }
     ensures { λ r. ⌜ (r .number ≡ 0) × (r .count ≡ 0) ⌝ }
@@ -50,159 +62,164 @@ pub(crate) fn begin(e: Endpoint) -> Run
     }
 }
 
-// Elsewhere in the trace, with so many bytes held.
-fn moved(run: Run, phase: u8, count: usize) -> Run
-    ensures { λ r. ⌜ r .endpoint ≡ run .endpoint ⌝ }
-    ensures { λ r. ⌜ r .number ≡ run .number ⌝ }
-    ensures { λ r. ⌜ r .count ≡ count ⌝ }
-    ensures { λ r. ⌜ r .phase ≡ phase ⌝ }
-{
-    let mut next = run;
-    next.count = count;
-    next.phase = phase;
-    next
+// What a step through a piece reads: how many of its bytes are used, and where the run stands then.
+pub(crate) struct Step {
+    pub used: usize,
+    pub count: usize,
+    pub phase: u8,
+    // the first byte of a record that is complete, and held; else 0
+    pub tag: u8,
 }
 
-// Behind a record, with the endpoint that it left.
-fn behind(run: Run, e: Endpoint) -> Run
-    requires { ⌜ run .number + 1 < 2 ^ 64 ⌝ }
-    ensures { λ r. ⌜ r .endpoint ≡ e ⌝ }
-    ensures { λ r. ⌜ r .number ≡ run .number + 1 ⌝ }
-    ensures { λ r. ⌜ r .count ≡ 0 ⌝ }
-    ensures { λ r. ⌜ r .phase ≡ 1 ⌝ }
+// A record that is complete, or the piece's end before it.
+fn in_records(tag: u8, used: usize, count: usize) -> Step
+    ensures { λ r. ⌜ (r .tag ≡ tag) × (r .used ≡ used) × (r .count ≡ count) × (r .phase ≡ 1) ⌝ }
 {
-    Run {
-        endpoint: e,
-        number: run.number + 1,
-        count: 0,
+    Step {
+        used: used,
+        count: count,
         phase: IN_RECORDS,
+        tag: tag,
     }
 }
 
-fn turned(run: Run, used: usize, end: usize) -> Progress
-    ensures { λ r. ⌜ r .run ≡ run ⌝ }
-    ensures { λ r. ⌜ r .used ≡ used ⌝ }
-    ensures { λ r. ⌜ r .end ≡ end ⌝ }
+fn broken(used: usize) -> Step
+    ensures { λ r. ⌜ (r .tag ≡ 0) × (r .used ≡ used) × (r .count ≡ 0) × (r .phase ≡ 2) ⌝ }
 {
-    Progress {
-        run: run,
+    Step {
         used: used,
-        end: end,
+        count: 0,
+        phase: AT_BROKEN,
+        tag: 0,
     }
 }
 
 // A step in the header.
-fn turn_header(run: Run, held: &mut [u8; RECORD_MAX], piece: &[u8], end: usize) -> Progress
-    requires { ⌜ ((m : List ℕ) → Ready (standing run (now held) m)) ⌝ }
-    requires { ⌜ run .phase ≡ 0 ⌝ }
-    requires { ⌜ length (take (run .count) (now held)) ≡ run .count ⌝ }
+fn read_header_step(count: usize, held: &mut [u8; RECORD_MAX], piece: &[u8]) -> Step
+    requires { ⌜ HeaderWaits (take count (now held)) ⌝ }
+    requires { ⌜ length (take count (now held)) ≡ count ⌝ }
     requires { ⌜ 0 < length (now piece) ⌝ }
-    ensures { λ r. ⌜ ((m o : List ℕ) → Turned (standing run (now (held .entry)) m) (now (piece .entry)) end o (r .used)
-        (standing (r .run) (now (held .exit)) m) (r .end) o) ⌝ }
-    ensures { λ r. ⌜ length (take (r .run .count) (now (held .exit))) ≡ r .run .count ⌝ }
+    ensures { λ r. ⌜ Stepped 0 (take count (now (held .entry))) (now (piece .entry)) (r .tag) (r .used) (r .phase) (r .count) (now (held .exit)) ⌝ }
 {
-    let fed = read_header(held, run.count, piece);
+    let fed = read_header(held, count, piece);
     let event = fed.event;
     match event {
         Event::Header => {
-            return turned(moved(run, IN_RECORDS, 0), fed.used, end);
+            return in_records(0, fed.used, 0);
         }
         Event::More => {
-            return turned(moved(run, IN_HEADER, fed.count), fed.used, end);
+            return Step {
+                used: fed.used,
+                count: fed.count,
+                phase: IN_HEADER,
+                tag: 0,
+            };
         }
         Event::Broken => {
-            return turned(moved(run, AT_BROKEN, 0), fed.used, end);
+            return broken(fed.used);
         }
         Event::Tick => {
-            return turned(moved(run, AT_BROKEN, 0), fed.used, end);
+            return broken(fed.used);
         }
         Event::Packet => {
-            return turned(moved(run, AT_BROKEN, 0), fed.used, end);
+            return broken(fed.used);
         }
     }
 }
 
-// Receives the packet that is held, behind its tag and its length.
-fn receive_held(e: Endpoint, held: &[u8], count: usize, memory: &mut [u8]) -> ReceiveResult
-    requires { ⌜ (3 ≤ count) × (count ≤ length (now held)) ⌝ }
-    ensures { λ r. ⌜ r ≡ receiptOf e (stepOf e (now (memory .entry)) (drop 3 (take count (now (held .entry))))) ⌝ }
-    ensures { λ _. ⌜ now (memory .exit) ≡ stepOf e (now (memory .entry)) (drop 3 (take count (now (held .entry)))) .mem ⌝ }
-{
-    receive(e, &held[PACKET_AT..count], memory)
-}
-
-// A step behind the header. A record that is complete leaves its line.
-fn turn_record(
-    run: Run,
-    held: &mut [u8; RECORD_MAX],
-    memory: &mut [u8],
-    piece: &[u8],
-    out: &mut [u8],
-    end: usize,
-) -> Progress
-    requires { ⌜ Ready (standing run (now held) (now memory)) ⌝ }
-    requires { ⌜ run .phase ≡ 1 ⌝ }
-    requires { ⌜ length (take (run .count) (now held)) ≡ run .count ⌝ }
+// A step behind the header.
+fn read_record_step(count: usize, held: &mut [u8; RECORD_MAX], piece: &[u8]) -> Step
+    requires { ⌜ Waits (take count (now held)) ⌝ }
+    requires { ⌜ length (take count (now held)) ≡ count ⌝ }
     requires { ⌜ 0 < length (now piece) ⌝ }
-    requires { ⌜ run .number + 1 < 2 ^ 64 ⌝ }
-    requires { ⌜ end + 64 ≤ length (now out) ⌝ }
-    ensures { λ r. ⌜ Turned (standing run (now (held .entry)) (now (memory .entry))) (now (piece .entry)) end (now (out .entry)) (r .used)
-        (standing (r .run) (now (held .exit)) (now (memory .exit))) (r .end) (now (out .exit)) ⌝ }
-    ensures { λ r. ⌜ length (take (r .run .count) (now (held .exit))) ≡ r .run .count ⌝ }
+    ensures { λ r. ⌜ Stepped 1 (take count (now (held .entry))) (now (piece .entry)) (r .tag) (r .used) (r .phase) (r .count) (now (held .exit)) ⌝ }
 {
-    let fed = read_record(held, run.count, piece);
+    let fed = read_record(held, count, piece);
     let event = fed.event;
     match event {
         Event::More => {
-            return turned(moved(run, IN_RECORDS, fed.count), fed.used, end);
+            return in_records(0, fed.used, fed.count);
         }
         Event::Tick => {
-            let ticked = tick(run.endpoint);
-            let e = ticked.endpoint;
-            let line = put_tick(out, end, run.number + 1);
-            return turned(behind(run, e), fed.used, line);
+            return in_records(TICK, fed.used, fed.count);
         }
         Event::Packet => {
-            let receipt = receive_held(run.endpoint, held, fed.count, memory);
-            let e = receipt.endpoint;
-            let answer = receipt.answer;
-            let line = put_answer(out, end, run.number + 1, answer);
-            return turned(behind(run, e), fed.used, line);
+            return in_records(PACKET, fed.used, fed.count);
         }
         Event::Broken => {
-            return turned(moved(run, AT_BROKEN, 0), fed.used, end);
+            return broken(fed.used);
         }
         Event::Header => {
-            return turned(moved(run, AT_BROKEN, 0), fed.used, end);
+            return broken(fed.used);
         }
     }
 }
 
 // A step through a piece.
-fn turn(
-    run: Run,
-    held: &mut [u8; RECORD_MAX],
-    memory: &mut [u8],
-    piece: &[u8],
-    out: &mut [u8],
-    end: usize,
-) -> Progress
-    requires { ⌜ ((m : List ℕ) → Ready (standing run (now held) m)) ⌝ }
-    requires { ⌜ length (take (run .count) (now held)) ≡ run .count ⌝ }
+fn read_step(phase: u8, count: usize, held: &mut [u8; RECORD_MAX], piece: &[u8]) -> Step
+    requires { ⌜ (phase ≡ 0 → HeaderWaits (take count (now held))) × (phase ≡ 1 → Waits (take count (now held))) ⌝ }
+    requires { ⌜ length (take count (now held)) ≡ count ⌝ }
     requires { ⌜ 0 < length (now piece) ⌝ }
-    requires { ⌜ run .number + 1 < 2 ^ 64 ⌝ }
-    requires { ⌜ end + 64 ≤ length (now out) ⌝ }
-    ensures { λ r. ⌜ Turned (standing run (now (held .entry)) (now (memory .entry))) (now (piece .entry)) end (now (out .entry)) (r .used)
-        (standing (r .run) (now (held .exit)) (now (memory .exit))) (r .end) (now (out .exit)) ⌝ }
-    ensures { λ r. ⌜ length (take (r .run .count) (now (held .exit))) ≡ r .run .count ⌝ }
+    ensures { λ r. ⌜ Stepped phase (take count (now (held .entry))) (now (piece .entry)) (r .tag) (r .used) (r .phase) (r .count) (now (held .exit)) ⌝ }
 {
-    if run.phase == IN_HEADER {
-        return turn_header(run, held, piece, end);
+    if phase == IN_HEADER {
+        return read_header_step(count, held, piece);
     }
-    if run.phase == IN_RECORDS {
-        return turn_record(run, held, memory, piece, out, end);
+    if phase == IN_RECORDS {
+        return read_record_step(count, held, piece);
     }
-    turned(run, piece.len(), end)
+    Step {
+        used: piece.len(),
+        count: count,
+        phase: phase,
+        tag: 0,
+    }
+}
+
+// What a packet leaves: its sender's peer record, and the answer.
+pub(crate) struct Receipt {
+    pub peer: usize,
+    pub row: Peer,
+    pub answer: Received,
+}
+
+// Receives the packet that is held, behind its tag and its length. Only the peer record that changes comes back: the endpoint stays where it is.
+fn receive_held(e: Endpoint, held: &[u8], count: usize, memory: &mut [u8]) -> Receipt
+    requires { ⌜ (3 ≤ count) × (count ≤ length (now held)) ⌝ }
+    ensures { λ r. ⌜ r .peer < mostPeers ⌝ }
+    ensures { λ r. ⌜ record { peer = r .peer; row = r .row; answer = r .answer; mem = now (memory .exit) }
+        ≡ stepOf e (now (memory .entry)) (drop 3 (take count (now (held .entry)))) ⌝ }
+{
+    let packet = &held[PACKET_AT..count];
+    let arrival = open(
+        &e.addresses,
+        e.own,
+        e.port,
+        e.peer_count,
+        packet,
+        memory.len(),
+    );
+    let p = arrival.peer;
+    let old = e.peers[p];
+    let changed = take(old, arrival, packet, memory);
+    let offer = changed.offer;
+    let row = changed.row;
+    let answer = deliver(
+        &e.networks,
+        &e.kinds,
+        &e.owners,
+        &e.tenants,
+        e.binding_count,
+        p,
+        offer,
+        packet,
+        memory,
+    );
+    Receipt {
+        peer: p,
+        row: row,
+        answer: answer,
+    }
 }
 
 // Feeds a piece, all of it. The lines stand at the front of the output.
@@ -222,21 +239,51 @@ pub(crate) fn advance(
     ensures { λ r. ⌜ length (take (r .run .count) (now (held .exit))) ≡ r .run .count ⌝ }
     ensures { λ r. ⌜ r .end ≤ length (now (out .exit)) ⌝ }
 {
-    let mut at = run;
+    let mut e = run.endpoint;
+    let mut number = run.number;
+    let mut count = run.count;
+    let mut phase = run.phase;
     let mut used: usize = 0;
     let mut end: usize = 0;
     while used < piece.len() {
-        let step = turn(at, held, memory, &piece[used..], out, end);
-        used += step.used;
-        end = step.end;
-        let next = step.run;
-        at = next;
+        let read = read_step(phase, count, held, &piece[used..]);
+        used += read.used;
+        phase = read.phase;
+        count = read.count;
+        if read.tag == 0 {
+            continue;
+        }
+        number += 1;
+        if read.tag == TICK {
+            let ticked = tick(e);
+            let next = ticked.endpoint;
+            e = next;
+            count = 0;
+            end = put_tick(out, end, number);
+            continue;
+        }
+        let receipt = receive_held(e, held, count, memory);
+        let p = receipt.peer;
+        let row = receipt.row;
+        let answer = receipt.answer;
+        e.peers[p] = row;
+        count = 0;
+        end = put_answer(out, end, number, answer);
     }
-    turned(at, used, end)
+    Progress {
+        run: Run {
+            endpoint: e,
+            number: number,
+            count: count,
+            phase: phase,
+        },
+        used: used,
+        end: end,
+    }
 }
 
 // At the end of the trace: is a record, or the header, broken or cut off?
-pub(crate) fn ends_badly(run: Run) -> bool
+fn ends_badly(run: Run) -> bool
     ensures { λ r. ⌜ ((held m : List ℕ) → Ready (standing run held m) → length (take (run .count) held) ≡ run .count
         → goesOn (standing run held m) [] ≡ pick r badTrace []) ⌝ }
 {
@@ -244,4 +291,58 @@ pub(crate) fn ends_badly(run: Run) -> bool
         return true;
     }
     run.count != 0
+}
+
+// A trace that cannot be read on is broken where it stands.
+pub(crate) fn unreadable(run: Run) -> Run {
+    let mut next = run;
+    next.count = 0;
+    next.phase = AT_BROKEN;
+    next
+}
+
+// What is still to be written at the end of the trace, alone in the output.
+pub(crate) fn finish(run: Run, out: &mut [u8]) -> usize
+    requires { ⌜ 64 ≤ length (now out) ⌝ }
+    ensures { λ r. ⌜ Counts r (now (out .exit)) ⌝ }
+    ensures { λ r. ⌜ ((held m : List ℕ) → Ready (standing run held m) → length (take (run .count) held) ≡ run .count
+        → take r (now (out .exit)) ≡ goesOn (standing run held m) []) ⌝ }
+{
+    if !ends_badly(run) {
+        return 0;
+    }
+    put_bad_trace(out)
+}
+
+// What a settings file begins: a run; or the line of a bad image.
+pub(crate) struct Start {
+    pub run: Run,
+    pub end: usize,
+    pub good: bool,
+}
+
+// Begins a run with the endpoint of a settings image. A bad image leaves its line in the output.
+pub(crate) fn begin_from(settings: &[u8], out: &mut [u8]) -> Start
+    requires { ⌜ 64 ≤ length (now out) ⌝ }
+    ensures { λ r. ⌜ Started (now (settings .entry)) (r .good) (r .run) (take (r .end) (now (out .exit))) ⌝ }
+    ensures { λ r. ⌜ (r .run .number ≡ 0) × (r .run .count ≡ 0) ⌝ }
+    ensures { λ r. ⌜ Counts (r .end) (now (out .exit)) ⌝ }
+{
+    let loaded = load(settings);
+    let answer = loaded.answer;
+    let e = loaded.endpoint;
+    let run = begin(e);
+    if load_code(answer) != 0 {
+        let end = put_bad_settings(out);
+        return Start {
+            run: run,
+            end: end,
+            good: false,
+        };
+    }
+    Start {
+        run: run,
+        end: 0,
+        good: true,
+    }
 }

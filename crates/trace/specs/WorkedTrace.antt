@@ -1,6 +1,7 @@
 -- Worked traces, to be held against document 02, §6, byte by byte. A field of `Traces`, proved in Laws/WorkedTrace.
 use mathlib.Core.List.{[], _∷_}
-use Rattle.trace.specs.Trace.{tick, packet, noTrace, read, ReadsAs}
+use lib.ListN.{replicate}
+use Rattle.trace.specs.Trace.{tick, packet, Allowed, noTrace, read, ReadsAs}
 
 pub record WorkedTrace : Type 0 where
   -- the paper's own: a tick and an empty packet
@@ -17,5 +18,8 @@ pub record WorkedTrace : Type 0 where
       ∷ 0x01
       ∷ 0x02 ∷ 0x06 ∷ 0x41 ∷ 0x01
       ∷ []) (read (packet (0xAA ∷ 0xBB ∷ 0xCC ∷ []) ∷ tick ∷ []) (0x02 ∷ 0x06 ∷ 0x41 ∷ 0x01 ∷ []))
+  -- 1,600 bytes are allowed, and one more is not
+  pub largest : Allowed (packet (replicate 1600 0))
+  pub too-large : Allowed (packet (replicate 1601 0)) → ⊥
   -- another version
   pub no-trace : ReadsAs (0x54 ∷ 0x52 ∷ 0x50 ∷ 0x00 ∷ 0x02 ∷ 0x01 ∷ []) noTrace

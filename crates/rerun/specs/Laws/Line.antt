@@ -1,11 +1,11 @@
 -- Text put behind text.
 use Prim.Native.Nat.{ℕ, _+_, _≤_}
-use mathlib.Core.Path.{_≡_, sym, ap, _∙_}
+use mathlib.Core.Path.{_≡_, refl, sym, ap, _∙_}
 use mathlib.Core.List.{List, [], _∷_, _++_, append-assoc}
 use lib.ListN.{length, take, length-append}
 use mathlib.Core.Option.{none, some}
 use Rattle.io.specs.Counts.{Counts}
-use Rattle.rerun.specs.Rerun.{decimalIn, decimal, space, newline, ticked, answered, tenantText, saidText, lineText}
+use Rattle.rerun.specs.Rerun.{decimalIn, decimal, space, newline, ticked, answered, tenantText, saidText, lineText, badTrace, badSettings}
 use lib.Seq.{take-at, take-length, length-take-le}
 
 -- s laid behind the first elements of m, of which so many are the text so far
@@ -37,6 +37,14 @@ module _ (a : List ℕ) (n : ℕ) where
     pub dropped-line : (z : List ℕ) (code : ℕ) → z ≡ b ++ (decimal code ++ (0x20 ∷ 0x2D ∷ 0x0A ∷ [])) → z ≡ a ++ lineText n (answered code none)
     unfolding lineText saidText tenantText space newline
     dropped-line z code f = f ∙ rw begun (simp append-assoc)
+
+pub bad-trace-text : (0x62 ∷ 0x61 ∷ 0x64 ∷ 0x20 ∷ 0x74 ∷ 0x72 ∷ 0x61 ∷ 0x63 ∷ 0x65 ∷ 0x0A ∷ []) ≡ badTrace
+unfolding badTrace newline
+bad-trace-text = refl
+
+pub bad-settings-text : (0x62 ∷ 0x61 ∷ 0x64 ∷ 0x20 ∷ 0x73 ∷ 0x65 ∷ 0x74 ∷ 0x74 ∷ 0x69 ∷ 0x6E ∷ 0x67 ∷ 0x73 ∷ 0x0A ∷ []) ≡ badSettings
+unfolding badSettings newline
+bad-settings-text = refl
 
 -- a number of elements, as a slice's range asks for it
 pub counts : (n : ℕ) (l : List ℕ) → n ≤ length l → Counts n l

@@ -1,30 +1,33 @@
 -- What rerun promises (Reruns.antt), proved.
-use Prim.Native.Nat.{ℕ, _≤_, _<_}
+use Prim.Native.Nat.{ℕ, _+_, _≤_, _<_}
 use mathlib.Core.Path.{_≡_, refl, sym, ap, subst, _∙_}
-use mathlib.Core.Bool.{Bool, true}
+use mathlib.Core.Bool.{true}
 use mathlib.Core.Logic.{_≢_}
-use mathlib.Core.List.{List, [], _∷_, _++_, append-assoc, append-nil}
+use mathlib.Core.List.{List, [], _∷_, _++_, map, append-assoc, append-nil}
 use native.Mathlib.Omega.{arith}
 use lib.Dec.{ltb}
 use borrow.Author.Tests.{eq-eqb, ne-eqb, ltb-true, ltb-false}
 use lib.ListN.{length, take, drop}
 use lib.Seq.{take-all, length-take-le}
 use Rattle.wire.specs.Bytes.{Bytes}
-use Rattle.wire.specs.Checks.{pick}
 use Rattle.wire.specs.Laws.Bytes.{caseB, bytes-drop, bytes-take}
 use Rattle.endpoint.specs.Config.{setUp}
 use Rattle.endpoint.specs.Account.{Accounts}
+use Rattle.endpoint.specs.Answer.{valuesOf}
+use Rattle.endpoint.specs.Receive.{stepOf}
+use Rattle.endpoint.specs.Run.{Left, called, calls}
+use Rattle.endpoint.specs.declared.answer.Received.{Received}
 use Rattle.endpoint.specs.Laws.Account.{accounting}
 use Rattle.image.specs.Answer.{loadCode}
 use Rattle.image.specs.Images.{SavedFrom}
 use Rattle.image.specs.Load.{loadOf}
 use Rattle.image.specs.Laws.Images.{images}
-use Rattle.trace.specs.Trace.{Record, noTrace, read, ReadsAs}
+use Rattle.trace.specs.Trace.{Record, packet, noTrace, read, ReadsAs}
 use Rattle.trace.specs.Traces.{joined}
 use Rattle.trace.specs.Reader.{beginsTrace}
 use Rattle.trace.specs.Laws.Reads.{header-body}
 use Rattle.trace.specs.Laws.Traces.{traces}
-use Rattle.rerun.specs.Rerun.{loaded, linesOf, badTrace, badSettings}
+use Rattle.rerun.specs.Rerun.{answered, lineText, loaded, eventOf, saidOf, linesOf, badTrace, badSettings}
 use Rattle.rerun.specs.Standing.{ending, recordsText, traceText, outputOf, Standing, goesOn}
 use Rattle.rerun.specs.Reruns.{Call, Calls, pieces, written, last, Writes, Reruns}
 use Rattle.rerun.specs.Laws.WorkedRerun.{worked-rerun}
@@ -100,11 +103,38 @@ accounted settings b g =
     let f : SavedFrom settings = images .load settings b .exact .only g in
     subst Accounts (sym (images .load settings b .set-up f)) (accounting (f .own) (f .port) (f .mtu) (f .adds))
 
+stops : (x : Standing) → x .phase ≡ 2 → (t : List ℕ) → goesOn x t ≡ badTrace
+unfolding goesOn
+stops x p t = rw p refl
+
+-- ---- the lines of a run
+
+follows : (w : Left) (n : ℕ) (rs : List Record) (r : Record)
+    → linesOf w n (rs ++ (r ∷ [])) ≡ linesOf w n rs ++ lineText (n + length rs + 1) (saidOf (calls w (map eventOf rs)) r)
+unfolding linesOf
+follows w n [] r = append-nil (lineText (n + 1) (saidOf w r)) ∙ ap (λ (k : ℕ). lineText k (saidOf w r)) {x = n + 1} {y = n + 0 + 1} (omega arith)
+follows w n (x ∷ rs) r =
+    ap (λ (l : List ℕ). lineText (n + 1) (saidOf w x) ++ l)
+    (follows (called w (eventOf x)) (n + 1) rs r
+    ∙ ap (λ (k : ℕ). linesOf (called w (eventOf x)) (n + 1) rs ++ lineText k (saidOf (calls (called w (eventOf x)) (map eventOf rs)) r))
+    {x = n + 1 + length rs + 1} {y = n + length (x ∷ rs) + 1} (omega arith))
+    ∙ sym (append-assoc (lineText (n + 1) (saidOf w x)) _ _)
+
+-- what is told of an answer
+said : (w : Left) (k : List ℕ) (a : Received) → stepOf (w .endpoint) (w .mem) k .answer ≡ a
+    → saidOf w (packet k) ≡ answered (valuesOf a .number) (valuesOf a .tenant)
+unfolding saidOf
+said w k a e = ap (λ (x : Received). answered (valuesOf x .number) (valuesOf x .tenant)) e
+
 pub reruns : Reruns
 reruns = record {
   writes = writes;
-  in-pieces = λ settings x b cs c. sym (calls-go x cs c []) ∙ ap (goesOn x) (append-nil (joined (pieces cs))) ∙ b .goes (joined (pieces cs))
-      ∙ sym (good settings (joined (pieces cs)) (b .good));
+  in-pieces = λ settings x b cs c t. sym (calls-go x cs c t) ∙ b .goes (joined (pieces cs) ++ t) ∙ sym (good settings (joined (pieces cs) ++ t) (b .good));
+  stopped = stops;
+  follows = follows;
+  delivered = λ w k t p e. said w k _ e;
+  pending = λ w k e. said w k _ e;
+  dropped = λ w k d e. said w k _ e;
   front = front-enough;
   accounts = accounted;
   worked = worked-rerun;

@@ -1,7 +1,7 @@
 -- What a run will still write: at each event of its reader, what was written and what will be is together the same.
 use Prim.Native.Nat.{ℕ, _+_, _-_, _≤_, _<_}
-use mathlib.Core.Path.{_≡_, refl, sym, ap, ap₂, _∙_}
-use mathlib.Core.Bool.{Bool, false}
+use mathlib.Core.Path.{_≡_, refl, sym, ap, ap₂, subst, _∙_}
+use mathlib.Core.Bool.{Bool, true, false}
 use mathlib.Core.List.{List, [], _∷_, _++_, append-assoc, append-nil}
 use native.Mathlib.Omega.{arith}
 use lib.ListN.{length, take, drop, length-append, length-drop, drop-of-length-le}
@@ -14,9 +14,13 @@ use Rattle.endpoint.specs.Run.{Left, called}
 use Rattle.endpoint.specs.declared.config.Endpoint.{Endpoint}
 use Rattle.endpoint.specs.Config.{tickOf}
 use Rattle.endpoint.specs.Answer.{valuesOf}
-use Rattle.endpoint.specs.Receive.{Step, stepOf, withRow, receiptOf}
-use Rattle.endpoint.specs.Laws.Calls.{receipt-left}
+use Rattle.endpoint.specs.Receive.{Step, stepOf, withRow}
+use Rattle.reassembly.specs.declared.slot.Peer.{Peer}
 use Rattle.endpoint.specs.declared.answer.Received.{Received}
+use Rattle.lookup.specs.Laws.Cases.{clash}
+use Rattle.image.specs.Answer.{loadCode}
+use Rattle.image.specs.Load.{loadOf}
+use Rattle.image.specs.declared.answer.LoadResult.{LoadResult}
 use Rattle.trace.specs.Trace.{Record, tick, packet}
 use Rattle.trace.specs.Reader.{behind, stopped, beginsTrace, recordAt, recordEnd, headerAt, headerEnd, readOf, HeaderWaits, Waits}
 use Rattle.trace.specs.declared.reader.Event.the-variants as E
@@ -24,8 +28,8 @@ use Rattle.trace.specs.Laws.Reader.{empty-waits, empty-header-waits, waits-read
 use Rattle.trace.specs.Laws.Reader.{broken-some, more-held, more-left}
 use Rattle.trace.specs.Laws.Reader.{header-read, header-behind, header-broken, header-more-held, header-more-left, header-used-fits}
 use Rattle.trace.specs.Laws.Reader.{header-used-some, header-waits-read}
-use Rattle.rerun.specs.Rerun.{ticked, answered, lineText, eventOf, saidOf, linesOf, badTrace}
-use Rattle.rerun.specs.Standing.{ending, recordsText, traceText, Standing, standing, goesOn, Ready, Turned, Fed}
+use Rattle.rerun.specs.Rerun.{ticked, answered, lineText, eventOf, saidOf, linesOf, badTrace, badSettings}
+use Rattle.rerun.specs.Standing.{ending, recordsText, traceText, Standing, standing, goesOn, Ready, Turned, Quiet, Completes, Stepped, Fed, Started}
 use Rattle.rerun.specs.declared.run.Run.{Run}
 
 -- ---- by where it stands
@@ -182,11 +186,6 @@ ready-any r held m m′ x = x
 pub none-held : (r : Run) (held : List ℕ) → r .count ≡ 0 → length (take (r .count) held) ≡ r .count
 none-held r held c = rw c refl
 
-pub more-are-held : (r : Run) (held h piece : List ℕ) (count used : ℕ) → length h ≡ count → used ≤ length piece → r .count ≡ count + used
-    → take (r .count) held ≡ h ++ take used piece → length (take (r .count) held) ≡ r .count
-more-are-held r held h piece count used size fits c e =
-    ap length e ∙ length-append h (take used piece) ∙ omega (arith, length-take-le used piece fits)
-
 -- a packet that is held has its tag and its length before it
 pub packet-count : (h piece : List ℕ) (c used count : ℕ) → length h ≡ c → Waits h → used ≡ recordEnd (h ++ piece) - c → count ≡ c + used
     → recordAt (h ++ piece) ≡ E.Packet → (3 ≤ count) × (count ≤ 1603)
@@ -197,106 +196,146 @@ packet-count h piece c used count size waits u n e =
     ∙ omega (arith, length-take-le (recordEnd (h ++ piece) - c) piece (used-fits h piece c size waits)) in
     (omega (arith, b .0), omega (arith, b .1))
 
--- what a step of the code leaves: the run `next`, of the piece `used`, and the text up to `end`
-module _ (run : Run) (held piece m : List ℕ) (ready : Ready (standing run held m)) (size : length (take (run .count) held) ≡ run .count)
-    (some : 0 < length piece) (at : ℕ) (out : List ℕ) (next : Run) (held′ : List ℕ) (used : ℕ) where
-  module _ (here : run .phase ≡ 0) (is-used : used ≡ headerEnd (take (run .count) held ++ piece) - run .count)
-      (endpoint : next .endpoint ≡ run .endpoint) (number : next .number ≡ run .number) where
-    waits : HeaderWaits (take (run .count) held)
-    waits = ready-header run held m ready here
+-- ---- what a step reads
 
-    from : standing run held m ≡ inHeader (take (run .count) held) (run .number) (record { endpoint = run .endpoint; mem = m })
-    from = same-standing run held m 0 (take (run .count) held) (run .number) (run .endpoint) here refl refl refl
+quietly : (p : ℕ) (h piece : List ℕ) (used p′ count′ : ℕ) (held′ : List ℕ) → 0 < used → used ≤ length piece → Quiet p h piece used p′ (take count′ held′)
+    → length (take count′ held′) ≡ count′ → Stepped p h piece 0 used p′ count′ held′
+quietly p h piece used p′ count′ held′ some fits q l =
+    record { some = some; fits = fits; quiet = λ z. (q, l); ticks = λ z. absurd (omega arith); packets = λ a b. absurd (a refl) }
 
-    pub header-exit : headerAt (take (run .count) held ++ piece) ≡ E.Header → next .count ≡ 0 → next .phase ≡ 1
-        → Turned (standing run held m) piece at out used (standing next held′ m) at out
-    header-exit e c p =
-        rw (is-used, from, same-standing next held′ m 1 [] (run .number) (run .endpoint) p (rw c refl) number endpoint)
-        (turned-header (take (run .count) held) piece (run .count) size waits some (run .number) (record { endpoint = run .endpoint; mem = m }) at out e)
+more-are-held : (held′ h piece : List ℕ) (c used count′ : ℕ) → length h ≡ c → used ≤ length piece → count′ ≡ c + used
+    → take count′ held′ ≡ h ++ take used piece → length (take count′ held′) ≡ count′
+more-are-held held′ h piece c used count′ size fits counts e =
+    ap length e ∙ length-append h (take used piece) ∙ omega (arith, length-take-le used piece fits)
 
-    pub header-more-exit : headerAt (take (run .count) held ++ piece) ≡ E.More → take (next .count) held′ ≡ take (run .count) held ++ take used piece
-        → next .phase ≡ 0 → Turned (standing run held m) piece at out used (standing next held′ m) at out
-    header-more-exit e c p =
-        let now : take (next .count) held′ ≡ take (run .count) held ++ take (headerEnd (take (run .count) held ++ piece) - run .count) piece =
-        c ∙ ap (λ (k : ℕ). take (run .count) held ++ take k piece) is-used in
-        rw (is-used, from, same-standing next held′ m 0 _ (run .number) (run .endpoint) p now number endpoint)
-        (turned-header-more (take (run .count) held) piece (run .count) size waits some (run .number) (record { endpoint = run .endpoint; mem = m }) at out e)
+module _ (h piece : List ℕ) (c : ℕ) (size : length h ≡ c) (some : 0 < length piece) (used : ℕ) (held′ : List ℕ) where
+  module _ (waits : HeaderWaits h) (is-used : used ≡ headerEnd (h ++ piece) - c) where
+    header-one : 0 < used
+    header-one = rw is-used (header-used-some h piece c size waits some)
 
-    pub header-broken-exit : headerAt (take (run .count) held ++ piece) ≡ E.Broken → next .phase ≡ 2
-        → Turned (standing run held m) piece at out used (standing next held′ m) at out
-    header-broken-exit e p =
-        rw (is-used, from, same-standing next held′ m 2 _ (run .number) (run .endpoint) p refl number endpoint)
-        (turned-header-broken (take (run .count) held) piece (run .count) size waits some (run .number) (record { endpoint = run .endpoint; mem = m }) at out e _)
+    header-fits : used ≤ length piece
+    header-fits = rw is-used (header-used-fits h piece c size waits)
 
-  module _ (here : run .phase ≡ 1) (is-used : used ≡ recordEnd (take (run .count) held ++ piece) - run .count) where
-    records-wait : Waits (take (run .count) held)
-    records-wait = ready-records run held m ready here
+    pub stepped-header : headerAt (h ++ piece) ≡ E.Header → Stepped 0 h piece 0 used 1 0 held′
+    stepped-header e =
+        quietly 0 h piece used 1 0 held′ header-one header-fits (λ n w at out. rw is-used (turned-header h piece c size waits some n w at out e)) refl
 
-    at-records : standing run held m ≡ inRecords (take (run .count) held) (run .number) (record { endpoint = run .endpoint; mem = m })
-    at-records = same-standing run held m 1 (take (run .count) held) (run .number) (run .endpoint) here refl refl refl
+    pub stepped-header-more : (count′ : ℕ) → count′ ≡ c + used → take count′ held′ ≡ h ++ take used piece → headerAt (h ++ piece) ≡ E.More
+        → Stepped 0 h piece 0 used 0 count′ held′
+    stepped-header-more count′ counts held e =
+        let now : take count′ held′ ≡ h ++ take (headerEnd (h ++ piece) - c) piece = held ∙ ap (λ (k : ℕ). h ++ take k piece) is-used in
+        quietly 0 h piece used 0 count′ held′ header-one header-fits
+        (λ n w at out. rw (now, is-used) (turned-header-more h piece c size waits some n w at out e))
+        (more-are-held held′ h piece c used count′ size header-fits counts held)
 
-    -- a tick, and a packet: its line stands behind the text
-    module _ (end : ℕ) (out′ : List ℕ) (room : end ≤ at + 64) (number : next .number ≡ run .number + 1) (count : next .count ≡ 0) (phase : next .phase ≡ 1) where
-      pub tick-exit : recordAt (take (run .count) held ++ piece) ≡ E.Tick → take end out′ ≡ take at out ++ lineText (run .number + 1) ticked
-          → next .endpoint ≡ tickOf (run .endpoint) .endpoint → Turned (standing run held m) piece at out used (standing next held′ m) end out′
-      unfolding saidOf eventOf
-      tick-exit e text left =
-          rw (is-used, at-records, same-standing next held′ m 1 [] (run .number + 1) (tickOf (run .endpoint) .endpoint) phase (rw count refl) number left)
-          (turned-record (take (run .count) held) piece (run .count) size records-wait some (run .number) (record { endpoint = run .endpoint; mem = m }) at out tick end
-          out′ (λ t. tick-read (take (run .count) held) piece (run .count) size records-wait t e) room text)
+    pub stepped-header-broken : headerAt (h ++ piece) ≡ E.Broken → Stepped 0 h piece 0 used 2 0 held′
+    stepped-header-broken e =
+        quietly 0 h piece used 2 0 held′ header-one header-fits (λ n w at out. rw is-used (turned-header-broken h piece c size waits some n w at out e [])) refl
 
-      pub packet-exit : recordAt (take (run .count) held ++ piece) ≡ E.Packet → (k : List ℕ) → k ≡ drop 3 (take (run .count) held ++ take used piece)
-          → (m′ : List ℕ) → m′ ≡ stepOf (run .endpoint) m k .mem → (a : Received) → a ≡ stepOf (run .endpoint) m k .answer
-          → take end out′ ≡ take at out ++ lineText (run .number + 1) (answered (valuesOf a .number) (valuesOf a .tenant))
-          → next .endpoint ≡ receiptOf (run .endpoint) (stepOf (run .endpoint) m k) .endpoint
-          → Turned (standing run held m) piece at out used (standing next held′ m′) end out′
-      unfolding saidOf eventOf
-      packet-exit e k is-k m′ is-m a is-a text left =
-          let s : Step = stepOf (run .endpoint) m k in
-          let u : ℕ = recordEnd (take (run .count) held ++ piece) - run .count in
-          let its : k ≡ drop 3 (take (run .count) held ++ take u piece) = is-k ∙ ap (λ (x : ℕ). drop 3 (take (run .count) held ++ take x piece)) is-used in
-          let line : take end out′ ≡ take at out ++ lineText (run .number + 1) (answered (valuesOf (s .answer) .number) (valuesOf (s .answer) .tenant)) =
-          text ∙ ap (λ (x : Received). take at out ++ lineText (run .number + 1) (answered (valuesOf x .number) (valuesOf x .tenant))) is-a in
-          rw (
-            is-used,
-            is-m,
-            at-records,
-            same-standing next held′ (s .mem) 1 [] (run .number + 1) (withRow (run .endpoint) (s .peer) (s .row)) phase (rw count refl) number
-                (left ∙ receipt-left (run .endpoint) s),
-          )
-          (turned-record (take (run .count) held) piece (run .count) size records-wait some (run .number) (record { endpoint = run .endpoint; mem = m }) at out (packet k)
-          end out′
-          (λ t. packet-read (take (run .count) held) piece (run .count) size records-wait t e
-          ∙ ap (λ (l : List ℕ). behind (packet l) (readOf (drop u piece ++ t))) (sym its))
-          room line)
+  module _ (waits : Waits h) (is-used : used ≡ recordEnd (h ++ piece) - c) where
+    record-one : 0 < used
+    record-one = rw is-used (used-some h piece c size waits some)
 
-    pub more-exit : recordAt (take (run .count) held ++ piece) ≡ E.More → take (next .count) held′ ≡ take (run .count) held ++ take used piece
-        → next .phase ≡ 1 → next .endpoint ≡ run .endpoint → next .number ≡ run .number
-        → Turned (standing run held m) piece at out used (standing next held′ m) at out
-    more-exit e c p endpoint number =
-        let now : take (next .count) held′ ≡ take (run .count) held ++ take (recordEnd (take (run .count) held ++ piece) - run .count) piece =
-        c ∙ ap (λ (k : ℕ). take (run .count) held ++ take k piece) is-used in
-        rw (is-used, at-records, same-standing next held′ m 1 _ (run .number) (run .endpoint) p now number endpoint)
-        (turned-more (take (run .count) held) piece (run .count) size records-wait some (run .number) (record { endpoint = run .endpoint; mem = m }) at out e)
+    record-fits : used ≤ length piece
+    record-fits = rw is-used (used-fits h piece c size waits)
 
-    pub broken-exit : recordAt (take (run .count) held ++ piece) ≡ E.Broken → next .phase ≡ 2 → next .endpoint ≡ run .endpoint → next .number ≡ run .number
-        → Turned (standing run held m) piece at out used (standing next held′ m) at out
-    broken-exit e p endpoint number =
-        rw (is-used, at-records, same-standing next held′ m 2 _ (run .number) (run .endpoint) p refl number endpoint)
-        (turned-broken (take (run .count) held) piece (run .count) size records-wait some (run .number) (record { endpoint = run .endpoint; mem = m }) at out e _)
+    pub stepped-broken : recordAt (h ++ piece) ≡ E.Broken → Stepped 1 h piece 0 used 2 0 held′
+    stepped-broken e =
+        quietly 1 h piece used 2 0 held′ record-one record-fits (λ n w at out. rw is-used (turned-broken h piece c size waits some n w at out e [])) refl
+
+    module _ (count′ : ℕ) (counts : count′ ≡ c + used) (held : take count′ held′ ≡ h ++ take used piece) where
+      now-held : take count′ held′ ≡ h ++ take (recordEnd (h ++ piece) - c) piece
+      now-held = held ∙ ap (λ (k : ℕ). h ++ take k piece) is-used
+
+      pub stepped-more : recordAt (h ++ piece) ≡ E.More → Stepped 1 h piece 0 used 1 count′ held′
+      stepped-more e =
+          quietly 1 h piece used 1 count′ held′ record-one record-fits
+          (λ n w at out. rw (now-held, is-used) (turned-more h piece c size waits some n w at out e))
+          (more-are-held held′ h piece c used count′ size record-fits counts held)
+
+      pub stepped-tick : recordAt (h ++ piece) ≡ E.Tick → Stepped 1 h piece 1 used 1 count′ held′
+      stepped-tick e = record {
+        some = record-one;
+        fits = record-fits;
+        quiet = λ z. absurd (omega arith);
+        ticks = λ z n w at out end out′ room text. rw is-used
+            (turned-record h piece c size waits some n w at out tick end out′ (λ t. tick-read h piece c size waits t e) room text);
+        packets = λ a b. absurd (b refl);
+      }
+
+      pub stepped-packet : recordAt (h ++ piece) ≡ E.Packet → Stepped 1 h piece 2 used 1 count′ held′
+      stepped-packet e =
+          let u : ℕ = recordEnd (h ++ piece) - c in
+          let k : List ℕ = drop 3 (take count′ held′) in
+          let its : k ≡ drop 3 (h ++ take u piece) = ap (drop 3) now-held in
+          let room = packet-count h piece c used count′ size waits is-used counts e in
+          record {
+            some = record-one;
+            fits = record-fits;
+            quiet = λ z. absurd (omega arith);
+            ticks = λ z. absurd (omega arith);
+            packets = λ a b. (
+              λ n w at out end out′ fits text. subst
+                  (λ (x : ℕ). Turned (inRecords h n w) piece at out x (inRecords [] (n + 1) (called w (eventOf (packet k)))) end out′)
+                  (sym is-used)
+                  (turned-record h piece c size waits some n w at out (packet k) end out′
+                  (λ t. packet-read h piece c size waits t e ∙ ap (λ (l : List ℕ). behind (packet l) (readOf (drop u piece ++ t))) (sym its)) fits text),
+              room .0,
+              room .1,
+            );
+          }
 
 -- at a broken record nothing more is read
-pub broken-stays : (run : Run) (held piece m : List ℕ) (at : ℕ) (out : List ℕ) → (run .phase ≡ 0 → ⊥) → (run .phase ≡ 1 → ⊥) → 0 < length piece
-    → Turned (standing run held m) piece at out (length piece) (standing run held m) at out
-unfolding goesOn Ready standing
-broken-stays run held piece m at out a b some = record {
-  goes = λ t. rw (ne-eqb (run .phase) 0 a, ne-eqb (run .phase) 1 b) refl;
-  some = some;
-  fits = omega arith;
-  room = omega arith;
-  told = omega arith;
-  ready = (λ z. absurd (a z), λ z. absurd (b z));
-}
+pub stepped-nowhere : (p : ℕ) (h piece : List ℕ) (count : ℕ) (held : List ℕ) → h ≡ take count held → length h ≡ count → (p ≡ 0 → ⊥) → (p ≡ 1 → ⊥)
+    → 0 < length piece
+    → Stepped p h piece 0 (length piece) p count held
+unfolding goesOn Ready
+stepped-nowhere p h piece count held is size a b some =
+    quietly p h piece (length piece) p count held some (omega arith)
+    (λ n w at out. rw (sym is) record {
+      goes = λ t. rw (ne-eqb p 0 a, ne-eqb p 1 b) refl;
+      some = some;
+      fits = omega arith;
+      room = omega arith;
+      told = omega arith;
+      ready = (λ z. absurd (a z), λ z. absurd (b z));
+    })
+    (rw (sym is) size)
+
+-- ---- what a record's step makes of the endpoint
+
+-- where a run stands, by its parts
+abbrev pub stands : Endpoint → (number count phase : ℕ) (held mem : List ℕ) → Standing
+stands e n c p held m = record { phase = p; held = take c held; number = n; left = record { endpoint = e; mem = m } }
+
+pub standing-is : (r : Run) (held m : List ℕ) → standing r held m ≡ stands (r .endpoint) (r .number) (r .count) (r .phase) held m
+unfolding standing
+standing-is r held m = refl
+
+pub ready-parts : (e : Endpoint) (n c p : ℕ) (held m : List ℕ) → Ready (stands e n c p held m)
+    → (p ≡ 0 → HeaderWaits (take c held)) × (p ≡ 1 → Waits (take c held))
+unfolding Ready
+ready-parts e n c p held m x = x
+
+module _ (e : Endpoint) (m : List ℕ) (n : ℕ) (p : ℕ) (h piece : List ℕ) (used p′ at : ℕ) (out : List ℕ) (end : ℕ) (out′ : List ℕ) (room : end ≤ at + 64) where
+  pub tick-turned : Completes tick p h piece used p′ → take end out′ ≡ take at out ++ lineText (n + 1) ticked → (e′ : Endpoint) → e′ ≡ tickOf e .endpoint
+      → Turned (record { phase = p; held = h; number = n; left = record { endpoint = e; mem = m } }) piece at out used
+      (record { phase = p′; held = []; number = n + 1; left = record { endpoint = e′; mem = m } }) end out′
+  unfolding saidOf eventOf
+  tick-turned w text e′ is = rw is (w n (record { endpoint = e; mem = m }) at out end out′ room text)
+
+  pub packet-turned : (k : List ℕ) → Completes (packet k) p h piece used p′ → (q : ℕ) (row : Peer) (a : Received) (m′ : List ℕ)
+      → _≡_ {A = Step} (record { peer = q; row = row; answer = a; mem = m′ }) (stepOf e m k)
+      → take end out′ ≡ take at out ++ lineText (n + 1) (answered (valuesOf a .number) (valuesOf a .tenant))
+      → Turned (record { phase = p; held = h; number = n; left = record { endpoint = e; mem = m } }) piece at out used
+      (record { phase = p′; held = []; number = n + 1; left = record { endpoint = withRow e q row; mem = m′ } }) end out′
+  unfolding saidOf eventOf
+  packet-turned k w q row a m′ is text =
+      let line : take end out′ ≡ take at out ++ lineText (n + 1) (answered (valuesOf (stepOf e m k .answer) .number) (valuesOf (stepOf e m k .answer) .tenant)) =
+      text ∙ ap (λ (s : Step). take at out ++ lineText (n + 1) (answered (valuesOf (s .answer) .number) (valuesOf (s .answer) .tenant))) is in
+      subst (λ (s : Step). Turned (record { phase = p; held = h; number = n; left = record { endpoint = e; mem = m } }) piece at out used
+      (record { phase = p′; held = []; number = n + 1; left = record { endpoint = withRow e (s .peer) (s .row); mem = s .mem } }) end out′) (sym is)
+      (w n (record { endpoint = e; mem = m }) at out end out′ room line)
 
 -- ---- through a piece, step by step
 
@@ -310,12 +349,6 @@ left-is piece used = length-take-le (length piece - used) (drop used piece) (ome
 
 pub left : (piece : List ℕ) (used : ℕ) → used < length piece → 0 < length (take (length piece - used) (drop used piece))
 left piece used h = omega (arith, left-is piece used)
-
--- how many records are told
-pub told-is : (r r′ : Run) (held held′ m m′ piece out out′ : List ℕ) (at used end : ℕ) → Turned (standing r held m) piece at out used (standing r′ held′ m′) end out′
-    → r′ .number ≤ r .number + used
-unfolding standing
-told-is r r′ held held′ m m′ piece out out′ at used end w = w .told
 
 pub on : (x₀ x x′ : Standing) (piece : List ℕ) (used used′ end end′ : ℕ) (out out′ : List ℕ)
     → ((t : List ℕ) → goesOn x₀ (piece ++ t) ≡ take end out ++ goesOn x (drop used piece ++ t))
@@ -336,8 +369,10 @@ through x₀ x piece used end out all goes t =
     goes t ∙ ap (λ (s : List ℕ). take end out ++ goesOn x (s ++ t)) (drop-of-length-le piece all)
 
 pub fed-by : (r r′ : Run) (held held′ m m′ piece : List ℕ) (text : List ℕ)
-    → ((t : List ℕ) → goesOn (standing r held m) (piece ++ t) ≡ text ++ goesOn (standing r′ held′ m′) t)
-    → r′ .number ≤ r .number + length piece → Ready (standing r′ held′ m′) → Fed (standing r held m) piece (standing r′ held′ m′) text
+    → ((t : List ℕ) → goesOn (stands (r .endpoint) (r .number) (r .count) (r .phase) held m) (piece ++ t)
+    ≡ text ++ goesOn (stands (r′ .endpoint) (r′ .number) (r′ .count) (r′ .phase) held′ m′) t)
+    → r′ .number ≤ r .number + length piece → Ready (stands (r′ .endpoint) (r′ .number) (r′ .count) (r′ .phase) held′ m′)
+    → Fed (standing r held m) piece (standing r′ held′ m′) text
 unfolding standing
 fed-by r r′ held held′ m m′ piece text goes told ready = record { goes = goes; told = told; ready = ready }
 
@@ -370,3 +405,25 @@ module _ (run : Run) (held m : List ℕ) (ready : Ready (standing run held m)) w
     pub ends-within : length (take (run .count) held) ≡ run .count → (run .count ≡ 0 → ⊥) → goesOn (standing run held m) [] ≡ badTrace
     unfolding goesOn standing recordsText linesOf
     ends-within size c = rw (here, stops) (ending-some (take (run .count) held) (omega arith))
+
+-- ---- at the beginning
+
+module _ (settings : List ℕ) (l : LoadResult) (is : l ≡ loadOf settings) (code : ℕ) (is-code : code ≡ loadCode (l .answer)) (r : Run)
+    (ready : (held m : List ℕ) → Ready (standing r held m))
+    (goes : (held m t : List ℕ) → goesOn (standing r held m) t ≡ traceText (record { endpoint = l .endpoint; mem = m }) 0 t) where
+  pub started-good : code ≡ 0 → (text : List ℕ) → Started settings true r text
+  started-good z text = record {
+    ready = ready;
+    run = λ e. (
+      ap (λ (x : LoadResult). loadCode (x .answer)) (sym is) ∙ sym is-code ∙ z,
+      λ held m t. goes held m t ∙ ap (λ (x : LoadResult). traceText (record { endpoint = x .endpoint; mem = m }) 0 t) is,
+    );
+    line = λ e. clash (cc (e));
+  }
+
+  pub started-bad : (code ≡ 0 → ⊥) → (text : List ℕ) → text ≡ badSettings → Started settings false r text
+  started-bad d text e = record {
+    ready = ready;
+    run = λ e. clash (cc (e));
+    line = λ z. (λ c. d (is-code ∙ ap (λ (x : LoadResult). loadCode (x .answer)) is ∙ c), e);
+  }

@@ -28,6 +28,7 @@ pub worked-rerun : WorkedRerun
 unfolding decimalIn decimal space newline tenantText saidText lineText eventOf saidOf linesOf
 worked-rerun = record {
   paper = λ w h. rw (empty-number (tickOf (w .endpoint) .endpoint) (w .mem) h, empty-tenant (tickOf (w .endpoint) .endpoint) (w .mem) h) refl;
+  tenant-0 = refl;
   delivered = refl;
   refused = refl;
   zero = refl;

@@ -141,7 +141,6 @@ nothing-read s none = record { is = refl; allowed = tt; stops = none }
 
 module _ (s : List ℕ) (b : Bytes s) (shorter : (t : List ℕ) → length t < length s → Bytes t → Reads t (readOf t .records) (readOf t .rest)) where
   reads-step : (e : Event) → recordAt s ≡ e → Reads s (readNext e s readOf .records) (readNext e s readOf .rest)
-  unfolding behind stopped
   reads-step E.More r = nothing-read s (none-stands s E.More r (λ q. clash (cc)) (λ q. clash (cc)))
   reads-step E.Header r = nothing-read s (none-stands s E.Header r (λ q. clash (cc)) (λ q. clash (cc)))
   reads-step E.Tick r =
@@ -169,7 +168,7 @@ reads s b = reads-by (suc (length s)) s (omega arith) b
 -- there is no other reading
 only-by : (rs : List Record) (rest : List ℕ) → AllAllowed rs → Bytes rest → NoRecord rest
     → (readOf (recordsBytes rs ++ rest) .records ≡ rs) × (readOf (recordsBytes rs ++ rest) .rest ≡ rest)
-unfolding recordsBytes behind stopped
+unfolding recordsBytes
 only-by [] rest a b none =
     let e : readOf rest ≡ stopped rest = none-read rest b none in
     (rw e, rw e)

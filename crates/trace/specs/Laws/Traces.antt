@@ -10,7 +10,7 @@ use Rattle.lookup.specs.Laws.Cases.{clash}
 use Rattle.wire.specs.Bytes.{Bytes}
 use Rattle.wire.specs.Laws.Bytes.{bytes-drop}
 use Rattle.trace.specs.Trace.{Record, tick, packet, recordsBytes, Reads, Outcome, noTrace, read, ReadsAs}
-use Rattle.trace.specs.Reader.{headerAt, headerEnd, beginsTrace, recordAt, recordEnd, Reading, behind, stopped, readOf, HeaderWaits, Waits}
+use Rattle.trace.specs.Reader.{headerAt, headerEnd, beginsTrace, recordAt, recordEnd, Reading, behind, readOf, HeaderWaits, Waits}
 use Rattle.trace.specs.Traces.{kept, left, Gives, joined, Records, done, next, more, given, broken}
 use Rattle.trace.specs.Traces.{Run, too-short, next-piece, more-header, header-given, no-header, Traces}
 use Rattle.trace.specs.Laws.Reader.{empty-waits, waits-read, tick-read, packet-read, broken-read, more-held, more-left, used-some, never-header}
@@ -33,7 +33,7 @@ given-read h p t w (packet k) g =
 
 records-read : {h : List ℕ} {ps : List (List ℕ)} {rs : List Record} {rest : List ℕ} → Waits h → Records h ps rs rest
     → readOf (h ++ joined ps) ≡ reading rs rest
-unfolding reading stopped behind
+unfolding reading
 records-read {h} w done = ap readOf (append-nil h) ∙ waits-read h w
 records-read w (next x) = records-read w x
 records-read w (more {h} {p} {ps} r x) =
