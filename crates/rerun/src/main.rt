@@ -124,7 +124,7 @@ fn follow(
     out: &mut [u8],
 )
     requires { ⌜ ((m : List ℕ) → Ready (standing run (now held) m)) ⌝ }
-    requires { ⌜ (run .number ≡ 0) × (run .count ≡ 0) ⌝ }
+    requires { ⌜ (run .number < 2 ^ 62) × (run .count ≡ 0) ⌝ }
     requires { ⌜ 55296 ≤ length (now memory) ⌝ }
     requires { ⌜ length (now piece) ≤ 32768 ⌝ }
     requires { ⌜ 2097152 ≤ length (now out) ⌝ }
@@ -148,7 +148,7 @@ fn follow(
 
 fn rerun(run: Run, out: &mut [u8])
     requires { ⌜ ((held m : List ℕ) → Ready (standing run held m)) ⌝ }
-    requires { ⌜ (run .number ≡ 0) × (run .count ≡ 0) ⌝ }
+    requires { ⌜ (run .number < 2 ^ 62) × (run .count ≡ 0) ⌝ }
     requires { ⌜ 2097152 ≤ length (now out) ⌝ }
 {
     let fd = open(2);

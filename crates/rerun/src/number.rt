@@ -1,7 +1,5 @@
-// Sizes. A record has at least one byte and a line at most 64, so the lines that end in a piece have room.
+// Sizes. A record has at least one byte and a line at most 64, so an output of 64 times a piece has room for the lines that end in it.
 pub(crate) const PIECE: usize = 32768;
-
-pub(crate) const LINE: usize = 64;
 
 pub(crate) const OUT: usize = 2097152;
 
