@@ -49,7 +49,7 @@ abbrev pub last : Standing → List Call → Standing
 last x [] = x
 last x (c ∷ cs) = last (c .after) cs
 
--- the run that `begin` makes of a good image's endpoint, with the memory that it is lent (its contract)
+-- the run that `begin_from` makes of a good image's endpoint, with the memory that it is lent (its contract, `Started`)
 pub record Begun (settings : List ℕ) (x : Standing) : Type 0 where
   pub good : loadCode (loadOf settings .answer) ≡ 0
   pub goes : (t : List ℕ) → goesOn x t ≡ traceText (loaded settings) 0 t
