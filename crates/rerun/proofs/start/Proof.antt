@@ -35,8 +35,13 @@ rerun-requires : tie.Need-rerun-requires
 rerun-requires c κs =
     let r = c .before .before .before .before .before .before .begin-from in
     let a = c .before .before .before .before .before .before .before .before .before .before .args in
-    let kept : length (r .last .1 .0) ≡ length (a .out .now) = search needs in
-    (r .ensures .0 .ready, ((omega (arith, r .ensures .1 .0 .0), r .ensures .1 .0 .1), omega (arith, kept, c .before .before .before .before .before .before .before .before .before .before .pre)))
+    let kept : length (r .last .1 .0) ≡ length (a .out .now) = search needs in (
+      r .ensures .0 .ready,
+      (
+        (omega (arith, r .ensures .1 .0 .0), r .ensures .1 .0 .1),
+        omega (arith, kept, c .before .before .before .before .before .before .before .before .before .before .pre),
+      ),
+    )
 
 -- src/main.rt:166:1
 same-length-2 : tie.Need-same-length-2

@@ -155,7 +155,8 @@ module _ (h piece : List ℕ) (c : ℕ) (size : length h ≡ c) (waits : HeaderW
 
 -- ---- as the code comes to it
 
-same-standing : (r : Run) (held m : List ℕ) (p : ℕ) (h : List ℕ) (n : ℕ) (e : Endpoint) → r .phase ≡ p → take (r .count) held ≡ h → r .number ≡ n → r .endpoint ≡ e
+same-standing : (r : Run) (held m : List ℕ) (p : ℕ) (h : List ℕ) (n : ℕ) (e : Endpoint) → r .phase ≡ p → take (r .count) held ≡ h → r .number ≡ n → r .endpoint
+    ≡ e
     → standing r held m ≡ record { phase = p; held = h; number = n; left = record { endpoint = e; mem = m } }
 unfolding standing
 same-standing r held m p h n e a b c d = rw (a, b, c, d) refl
@@ -331,7 +332,8 @@ module _ (e : Endpoint) (m : List ℕ) (n : ℕ) (p : ℕ) (h piece : List ℕ) 
       (record { phase = p′; held = []; number = n + 1; left = record { endpoint = withRow e q row; mem = m′ } }) end out′
   unfolding saidOf eventOf
   packet-turned k w q row a m′ is text =
-      let line : take end out′ ≡ take at out ++ lineText (n + 1) (answered (valuesOf (stepOf e m k .answer) .number) (valuesOf (stepOf e m k .answer) .tenant)) =
+      let line : take end out′ ≡ take at out ++ lineText (n + 1)
+      (answered (valuesOf (stepOf e m k .answer) .number) (valuesOf (stepOf e m k .answer) .tenant)) =
       text ∙ ap (λ (s : Step). take at out ++ lineText (n + 1) (answered (valuesOf (s .answer) .number) (valuesOf (s .answer) .tenant))) is in
       subst (λ (s : Step). Turned (record { phase = p; held = h; number = n; left = record { endpoint = e; mem = m } }) piece at out used
       (record { phase = p′; held = []; number = n + 1; left = record { endpoint = withRow e (s .peer) (s .row); mem = s .mem } }) end out′) (sym is)
@@ -376,7 +378,8 @@ pub fed-by : (r r′ : Run) (held held′ m m′ piece : List ℕ) (text : List 
 unfolding standing
 fed-by r r′ held held′ m m′ piece text goes told ready = record { goes = goes; told = told; ready = ready }
 
-pub fed-told : (r r′ : Run) (held held′ m m′ piece text : List ℕ) → Fed (standing r held m) piece (standing r′ held′ m′) text → r′ .number ≤ r .number + length piece
+pub fed-told : (r r′ : Run) (held held′ m m′ piece text : List ℕ) → Fed (standing r held m) piece (standing r′ held′ m′) text → r′ .number
+    ≤ r .number + length piece
 unfolding standing
 fed-told r r′ held held′ m m′ piece text f = f .told
 

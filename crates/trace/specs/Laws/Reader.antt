@@ -59,14 +59,26 @@ module _ (s : List ℕ) where
       pub stands-cut : length s < 3 + packetLength s → Stands s E.More (length s)
       unfolding recordAt recordEnd
       stands-cut d = record {
-        event = rw (le-ltb (length s) 1 (omega arith), b, le-ltb (length s) 3 a, le-ltb packetMost (packetLength s) c, lt-ltb (length s) (3 + packetLength s) d);
+        event = rw (
+          le-ltb (length s) 1 (omega arith),
+          b,
+          le-ltb (length s) 3 a,
+          le-ltb packetMost (packetLength s) c,
+          lt-ltb (length s) (3 + packetLength s) d,
+        );
         end = rw (le-ltb (length s) 1 (omega arith), b, le-ltb (length s) 3 a, le-ltb packetMost (packetLength s) c, lt-ltb (length s) (3 + packetLength s) d);
       }
 
       pub stands-packet : 3 + packetLength s ≤ length s → Stands s E.Packet (3 + packetLength s)
       unfolding recordAt recordEnd
       stands-packet d = record {
-        event = rw (le-ltb (length s) 1 (omega arith), b, le-ltb (length s) 3 a, le-ltb packetMost (packetLength s) c, le-ltb (length s) (3 + packetLength s) d);
+        event = rw (
+          le-ltb (length s) 1 (omega arith),
+          b,
+          le-ltb (length s) 3 a,
+          le-ltb packetMost (packetLength s) c,
+          le-ltb (length s) (3 + packetLength s) d,
+        );
         end = rw (le-ltb (length s) 1 (omega arith), b, le-ltb (length s) 3 a, le-ltb packetMost (packetLength s) c, le-ltb (length s) (3 + packetLength s) d);
       }
 

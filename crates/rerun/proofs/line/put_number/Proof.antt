@@ -25,7 +25,8 @@ slice-aggregate-put c = search needs
 
 spelt : (c : tie.After-decimal)
     → let n : ℕ = c .before .before .before .before .args .n in (c .decimal .result ≤ 20) × (digits 10 (c .decimal .result) n ≡ decimal n)
-spelt c = decimal-is (c .before .before .before .before .args .n) (c .decimal .result) (c .before .before .before .before .good .1 .1 .0 .1) (c .decimal .ensures .1 .0)
+spelt c = decimal-is (c .before .before .before .before .args .n) (c .decimal .result) (c .before .before .before .before .good .1 .1 .0 .1)
+    (c .decimal .ensures .1 .0)
 
 -- src/line.rt:28:9
 put-requires : tie.Need-put-requires

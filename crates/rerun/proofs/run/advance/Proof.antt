@@ -30,8 +30,16 @@ abbrev μ-loop : tie.MeasureT-loop
 loop-holds : tie.Need-loop-holds Inv-loop μ-loop
 loop-holds c =
     let p = c .before .before .before .before .pre in
-    let a = c .before .before .before .before .args in
-    (λ t. refl, rw (sym (standing-is (a .run) (a .held .now) (a .memory .now))) (p .0 (a .memory .now)), p .1 .0, omega arith, omega arith, omega arith, refl, refl)
+    let a = c .before .before .before .before .args in (
+      λ t. refl,
+      rw (sym (standing-is (a .run) (a .held .now) (a .memory .now))) (p .0 (a .memory .now)),
+      p .1 .0,
+      omega arith,
+      omega arith,
+      omega arith,
+      refl,
+      refl,
+    )
 
 -- src/run.rt:245:50
 sub-read-step : tie.Need-sub-read-step Inv-loop μ-loop
@@ -48,8 +56,10 @@ part-read-step-end c = search needs
 -- src/run.rt:245:13
 read-step-requires : tie.Need-read-step-requires Inv-loop μ-loop
 read-step-requires c κs =
-    let l = c .before .before .before .loop in
-    (ready-parts (l .e) (l .number) (l .count) (l .phase) (l .held) (l .memory) (l .inv .1), (l .inv .2, left (c .before .before .before .before .before .before .before .before .args .piece .now) (l .used) (omega arith)))
+    let l = c .before .before .before .loop in (
+      ready-parts (l .e) (l .number) (l .count) (l .phase) (l .held) (l .memory) (l .inv .1),
+      (l .inv .2, left (c .before .before .before .before .before .before .before .before .args .piece .now) (l .used) (omega arith)),
+    )
 
 -- src/run.rt:246:9
 add-used : tie.Need-add-used Inv-loop μ-loop
@@ -57,7 +67,10 @@ add-used c =
     let l = c .before .before .before .before .before .loop in
     let a = c .before .before .before .before .before .before .before .before .before .before .args in
     let fits = c .before .read-step .ensures .fits in
-    let size : length (a .piece .now) < 2 ^ 64 = omega (arith, c .before .before .before .before .before .before .before .before .before .before .pre .1 .1 .0) in
+    let size : length (a .piece .now) < 2 ^ 64 = omega (
+      arith,
+      c .before .before .before .before .before .before .before .before .before .before .pre .1 .1 .0,
+    ) in
     record { fits = omega (arith, fits, left-is (a .piece .now) (l .used), l .inv .3) }
 
 -- src/run.rt:244:5
@@ -74,7 +87,8 @@ loop-again c =
     let q = r .ensures .quiet (c .if1 .taken) in
     let w = q .0 (l .number) (record { endpoint = l .e; mem = l .memory }) (l .end) (l .out) in (
       on (stands (a .run .endpoint) (a .run .number) (a .run .count) (a .run .phase) (a .held .now) (a .memory .now))
-          (stands (l .e) (l .number) (l .count) (l .phase) (l .held) (l .memory)) _ (a .piece .now) (l .used) (r .result .used) (l .end) (l .end) (l .out) (l .out) (l .inv .0) w,
+          (stands (l .e) (l .number) (l .count) (l .phase) (l .held) (l .memory)) _ (a .piece .now) (l .used) (r .result .used) (l .end) (l .end) (l .out)
+          (l .out) (l .inv .0) w,
       w .ready,
       q .1,
       omega (arith, r .ensures .fits, left-is (a .piece .now) (l .used), l .inv .3),
@@ -87,7 +101,12 @@ loop-again c =
 -- src/run.rt:252:9
 add-number : tie.Need-add-number Inv-loop μ-loop
 add-number c =
-    omega (arith, c .before .before .before .before .before .before .before .loop .inv .5, c .before .before .before .before .before .before .before .before .before .before .before .before .pre .1 .1 .0, c .before .before .before .before .before .before .loop-test .taken)
+    omega (
+      arith,
+      c .before .before .before .before .before .before .before .loop .inv .5,
+      c .before .before .before .before .before .before .before .before .before .before .before .before .pre .1 .1 .0,
+      c .before .before .before .before .before .before .loop-test .taken,
+    )
 
 -- src/run.rt:254:17
 tick-requires : tie.Need-tick-requires Inv-loop μ-loop
@@ -96,12 +115,22 @@ tick-requires c κs = search needs
 -- src/run.rt:258:13
 put-tick-requires : tie.Need-put-tick-requires Inv-loop μ-loop
 put-tick-requires c κs =
-    omega (arith, c .before .before .before .before .before .before .before .before .before .before .before .before .loop .inv .4, c .before .before .before .before .before .before .before .before .before .before .before .before .loop .inv .7, c .before .before .before .before .before .before .before .before .before .before .before .before .before .before .before .before .before .pre .1 .1 .1, c .before .before .before .before .before .before .before .before .before .before .before .loop-test .taken)
+    omega (
+      arith,
+      c .before .before .before .before .before .before .before .before .before .before .before .before .loop .inv .4,
+      c .before .before .before .before .before .before .before .before .before .before .before .before .loop .inv .7,
+      c .before .before .before .before .before .before .before .before .before .before .before .before .before .before .before .before .before .pre .1 .1 .1,
+      c .before .before .before .before .before .before .before .before .before .before .before .loop-test .taken,
+    )
 
 -- src/run.rt:244:5
 loop-less-2 : tie.Need-loop-less-2 Inv-loop μ-loop
 loop-less-2 c =
-    omega (arith, c .before .before .before .before .before .before .before .before .before .before .before .read-step .ensures .some, c .before .before .before .before .before .before .before .before .before .before .before .before .before .before .before .loop .inv .3)
+    omega (
+      arith,
+      c .before .before .before .before .before .before .before .before .before .before .before .read-step .ensures .some,
+      c .before .before .before .before .before .before .before .before .before .before .before .before .before .before .before .loop .inv .3,
+    )
 
 -- src/run.rt:244:5
 loop-again-2 : tie.Need-loop-again-2 Inv-loop μ-loop
@@ -111,11 +140,14 @@ loop-again-2 c =
     let r = c .before .before .before .before .before .before .before .before .before .before .before .read-step in
     let line = c .before .before .put-tick in
     let ticked = c .before .before .before .before .before .tick in
-    let w = tick-turned (l .e) (l .memory) (l .number) (l .phase) (take (l .count) (l .held)) _ (r .result .used) (r .result .phase) (l .end) (l .out) (line .result)
-    (line .last .0) (line .ensures .0) (r .ensures .ticks (c .before .before .before .before .before .before .if2 .taken)) (line .ensures .1) (ticked .result .endpoint) (ap (λ (x : TickResult). x .endpoint) (ticked .ensures .0)) in
+    let w = tick-turned (l .e) (l .memory) (l .number) (l .phase) (take (l .count) (l .held)) _ (r .result .used) (r .result .phase) (l .end) (l .out)
+    (line .result)
+    (line .last .0) (line .ensures .0) (r .ensures .ticks (c .before .before .before .before .before .before .if2 .taken)) (line .ensures .1)
+    (ticked .result .endpoint) (ap (λ (x : TickResult). x .endpoint) (ticked .ensures .0)) in
     let kept-out : length (line .last .0) ≡ length (l .out) = search needs in (
       on (stands (a .run .endpoint) (a .run .number) (a .run .count) (a .run .phase) (a .held .now) (a .memory .now))
-          (stands (l .e) (l .number) (l .count) (l .phase) (l .held) (l .memory)) _ (a .piece .now) (l .used) (r .result .used) (l .end) (line .result) (l .out) (line .last .0)
+          (stands (l .e) (l .number) (l .count) (l .phase) (l .held) (l .memory)) _ (a .piece .now) (l .used) (r .result .used) (l .end) (line .result)
+          (l .out) (line .last .0)
           (l .inv .0) w,
       w .ready,
       refl,
@@ -145,12 +177,22 @@ element-set-from-row c = omega (arith, c .before .before .before .receive-held .
 -- src/run.rt:267:9
 put-answer-requires : tie.Need-put-answer-requires Inv-loop μ-loop
 put-answer-requires c κs =
-    omega (arith, c .before .before .before .before .before .before .before .before .before .before .before .before .before .before .before .before .before .loop .inv .4, c .before .before .before .before .before .before .before .before .before .before .before .before .before .before .before .before .before .loop .inv .7, c .before .before .before .before .before .before .before .before .before .before .before .before .before .before .before .before .before .before .before .before .before .before .pre .1 .1 .1, c .before .before .before .before .before .before .before .before .before .before .before .before .before .before .before .before .loop-test .taken)
+    omega (
+      arith,
+      c .before .before .before .before .before .before .before .before .before .before .before .before .before .before .before .before .before .loop .inv .4,
+      c .before .before .before .before .before .before .before .before .before .before .before .before .before .before .before .before .before .loop .inv .7,
+      c .before .before .before .before .before .before .before .before .before .before .before .before .before .before .before .before .before .before .before .before .before .before .pre .1 .1 .1,
+      c .before .before .before .before .before .before .before .before .before .before .before .before .before .before .before .before .loop-test .taken,
+    )
 
 -- src/run.rt:244:5
 loop-less-3 : tie.Need-loop-less-3 Inv-loop μ-loop
 loop-less-3 c =
-    omega (arith, c .before .before .before .before .before .before .before .before .before .before .before .before .before .before .before .before .read-step .ensures .some, c .before .before .before .before .before .before .before .before .before .before .before .before .before .before .before .before .before .before .before .before .loop .inv .3)
+    omega (
+      arith,
+      c .before .before .before .before .before .before .before .before .before .before .before .before .before .before .before .before .read-step .ensures .some,
+      c .before .before .before .before .before .before .before .before .before .before .before .before .before .before .before .before .before .before .before .before .loop .inv .3,
+    )
 
 -- src/run.rt:244:5
 loop-again-3 : tie.Need-loop-again-3 Inv-loop μ-loop
@@ -160,13 +202,17 @@ loop-again-3 c =
     let r = c .before .before .before .before .before .before .before .before .before .before .before .before .before .before .before .before .read-step in
     let line = c .before .before .put-answer in
     let x = c .before .before .before .before .before .before .before .receive-held in
-    let k = r .ensures .packets (c .before .before .before .before .before .before .before .before .before .before .before .before .before .if1 .left) (c .before .before .before .before .before .before .before .before .before .before .before .if2 .left) in
-    let w = packet-turned (l .e) (l .memory) (l .number) (l .phase) (take (l .count) (l .held)) _ (r .result .used) (r .result .phase) (l .end) (l .out) (line .result)
-    (line .last .0) (line .ensures .0) _ (k .0) (x .result .peer) (x .result .row) (x .result .answer) (x .last .1 .1 .1 .0) (x .ensures .1) (line .ensures .1) in
+    let k = r .ensures .packets (c .before .before .before .before .before .before .before .before .before .before .before .before .before .if1 .left)
+    (c .before .before .before .before .before .before .before .before .before .before .before .if2 .left) in
+    let w = packet-turned (l .e) (l .memory) (l .number) (l .phase) (take (l .count) (l .held)) _ (r .result .used) (r .result .phase) (l .end) (l .out)
+    (line .result)
+    (line .last .0) (line .ensures .0) _ (k .0) (x .result .peer) (x .result .row) (x .result .answer) (x .last .1 .1 .1 .0) (x .ensures .1)
+    (line .ensures .1) in
     let kept-memory : length (x .last .1 .1 .1 .0) ≡ length (l .memory) = search needs in
     let kept-out : length (line .last .0) ≡ length (l .out) = search needs in (
       on (stands (a .run .endpoint) (a .run .number) (a .run .count) (a .run .phase) (a .held .now) (a .memory .now))
-          (stands (l .e) (l .number) (l .count) (l .phase) (l .held) (l .memory)) _ (a .piece .now) (l .used) (r .result .used) (l .end) (line .result) (l .out) (line .last .0)
+          (stands (l .e) (l .number) (l .count) (l .phase) (l .held) (l .memory)) _ (a .piece .now) (l .used) (r .result .used) (l .end) (line .result)
+          (l .out) (line .last .0)
           (l .inv .0) w,
       w .ready,
       refl,

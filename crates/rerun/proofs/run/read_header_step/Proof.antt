@@ -59,7 +59,8 @@ returns-3 c =
     let a = c .before .before .before .before .before .before .args in
     let p = c .before .before .before .before .before .before .pre in
     rw (t .ensures .0, t .ensures .1, t .ensures .2, t .ensures .3)
-    (stepped-header-broken (take (a .count) (a .held .now)) (a .piece .now) (a .count) (p .1 .0) (p .1 .1) (f .result .used) (f .last .0) (p .0) (f .ensures .1 .0)
+    (stepped-header-broken (take (a .count) (a .held .now)) (a .piece .now) (a .count) (p .1 .0) (p .1 .1) (f .result .used) (f .last .0) (p .0)
+    (f .ensures .1 .0)
     (sym (f .ensures .0) ∙ c .before .enum-told3 .given .1))
 
 -- src/run.rt:118:13

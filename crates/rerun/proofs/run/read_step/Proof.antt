@@ -18,7 +18,8 @@ returns : tie.Need-returns
 returns c =
     let r = c .read-header-step in
     let a = c .before .before .before .before .args in
-    subst (λ (x : ℕ). Stepped x (take (a .count) (a .held .now)) (a .piece .now) (r .result .tag) (r .result .used) (r .result .phase) (r .result .count) (r .last .1 .0))
+    subst (λ (x : ℕ). Stepped x (take (a .count) (a .held .now)) (a .piece .now) (r .result .tag) (r .result .used) (r .result .phase) (r .result .count)
+    (r .last .1 .0))
     (sym (c .before .before .if1 .taken)) (r .ensures)
 
 -- src/run.rt:165:9
@@ -32,7 +33,8 @@ returns-2 : tie.Need-returns-2
 returns-2 c =
     let r = c .read-record-step in
     let a = c .before .before .before .before .before .args in
-    subst (λ (x : ℕ). Stepped x (take (a .count) (a .held .now)) (a .piece .now) (r .result .tag) (r .result .used) (r .result .phase) (r .result .count) (r .last .1 .0))
+    subst (λ (x : ℕ). Stepped x (take (a .count) (a .held .now)) (a .piece .now) (r .result .tag) (r .result .used) (r .result .phase) (r .result .count)
+    (r .last .1 .0))
     (sym (c .before .before .if2 .taken)) (r .ensures)
 
 -- src/run.rt:155:1
@@ -40,7 +42,8 @@ returns-3 : tie.Need-returns-3
 returns-3 c =
     let p = c .before .before .before .pre in
     let a = c .before .before .before .args in
-    stepped-nowhere (a .phase) (take (a .count) (a .held .now)) (a .piece .now) (a .count) (a .held .now) refl (p .1 .0) (c .before .if1 .left) (c .if2 .left) (p .1 .1)
+    stepped-nowhere (a .phase) (take (a .count) (a .held .now)) (a .piece .now) (a .count) (a .held .now) refl (p .1 .0) (c .before .if1 .left) (c .if2 .left)
+    (p .1 .1)
 
 pub read-step-spec : {M : Type 1} → statement M
 read-step-spec =

@@ -58,9 +58,14 @@ returns c =
     let a = c .before .before .before .before .before .before .before .before .before .before .before .before .before .before .before .before .before .before .before .args in
     let x = c .before .before .before .before .before .before .before .before .before .before .before .before .before .«open» in
     let k : List ℕ = take (a .count - 3) (drop 3 (a .held .now)) in
-    let same = settled-out _ _ _ _ _ (x .result) _ _ _ _ _ _ (c .before .before .before .before .before .before .before .before .before .before .take .ensures .0) (c .before .before .before .before .before .before .before .before .before .before .take .ensures .1) (c .deliver .ensures)
+    let same = settled-out _ _ _ _ _ (x .result) _ _ _ _ _ _
+    (c .before .before .before .before .before .before .before .before .before .before .take .ensures .0)
+    (c .before .before .before .before .before .before .before .before .before .before .take .ensures .1) (c .deliver .ensures)
     ∙ settled-is (a .t1) k (a .memory .now) (x .result) (x .ensures) in
-    rw (drop-take 3 (a .count) (a .held .now)) (below (c .before .before .before .before .before .before .before .before .before .before .before .before .before), same)
+    rw (drop-take 3 (a .count) (a .held .now)) (
+      below (c .before .before .before .before .before .before .before .before .before .before .before .before .before),
+      same,
+    )
 
 pub receive-held-spec : {M : Type 1} → statement M
 receive-held-spec =
