@@ -47,11 +47,6 @@ pub receipt-left : (e : Endpoint) (s : Step) → receiptOf e s .endpoint ≡ wit
 unfolding receiptOf
 receipt-left e s = refl
 
--- and its answer
-pub receipt-answer : (e : Endpoint) (s : Step) → receiptOf e s .answer ≡ s .answer
-unfolding receiptOf
-receipt-answer e s = refl
-
 -- what the call answers, and the endpoint and memory that it leaves
 abbrev afterStep : Endpoint → Step → Replied answers Config layers
 afterStep e s = record { reply = s .answer; world = worldOf (withRow e (s .peer) (s .row)) (s .mem) }
