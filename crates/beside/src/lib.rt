@@ -1,5 +1,7 @@
 // The reference reassembler for C and Rust, so that tests run it beside the library (host/beside). It goes in and comes out by value; an enum cannot cross that
 // boundary, so that of a reply its numbers do.
+#![tactic(auto)]
+
 ghost use Rattle.std.specs.Prelude.{◌≡◌, List, ℕ};
 ghost use Rattle.endpoint.specs.Config.{Config};
 ghost use Rattle.endpoint.specs.Receive.{answers, layers};

@@ -1,4 +1,6 @@
 // Writes what the readers of `wire` make of some packets, a line for each.
+#![tactic(auto)]
+
 ghost use Rattle.std.specs.Prelude.{◌+◌, ◌<◌, ◌≤◌, length};
 
 use program::print::{address, answer, decimal, offending_byte, text};

@@ -1,4 +1,6 @@
 // The tunnel endpoint: configuration, receiving, ageing, and the view of a delivered frame.
+#![tactic(auto)]
+
 pub mod answer;
 pub mod code;
 pub mod config;

@@ -1,5 +1,7 @@
 // A demonstration: one endpoint with two peers, a network of each kind, and what becomes of fourteen packets. The boards are clones: all frames have the same
 // addresses. Three go to a tenant each, and none of these sees the others; when a second peer shows the address to one of the tenants, the detector says so.
+#![tactic(auto)]
+
 mod report;
 
 use detector::detector::Detector;

@@ -1,5 +1,7 @@
 // Makes the calls of a recorded run on an endpoint and a detector, and writes a line for each answer. host/README.md has the form of both. The lines that it is
 // held to are the answers of host/reference, a second implementation, written from the papers alone.
+#![tactic(auto)]
+
 mod call;
 mod hash;
 mod line;

@@ -1,5 +1,7 @@
 // Reruns a recorded trace (document 02, §6): `rerun SETTINGS TRACE` writes what an endpoint with these settings answers to each record. Both files are read
 // in pieces, and the memory is the same for any size of either.
+#![tactic(auto)]
+
 mod files;
 mod line;
 mod number;

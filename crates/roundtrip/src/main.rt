@@ -1,6 +1,8 @@
 // Wraps a frame of every size from 14 to 1,514 bytes, for each kind and three MTUs, has a second endpoint unwrap the packets in another order, and writes a
 // line for each kind and MTU: how many packets were written, a sum over all their bytes, how many frames came out equal, and how many were refused (answer 22).
 // The lines that it is held to are made by host/reference.
+#![tactic(auto)]
+
 mod number;
 mod tally;
 

@@ -1,5 +1,5 @@
 -- A segment of STT (draft-davie-stt-06, 3.2): what it is, and what the reader answers.
-use Rattle.std.specs.Prelude.{◌≡◌, ℕ, ◌+◌, ◌-◌, ◌*◌, ◌/◌, ◌^◌, ◌<◌, not, List, [], ◌∷◌, ◌++◌, length, ◌==◌, nat_lt}
+use Rattle.std.specs.Prelude.{◌≡◌, ℕ, ◌+◌, ◌*◌, ◌/◌, ◌^◌, ◌<◌, not, List, [], ◌∷◌, ◌++◌, length, ◌==◌, nat_lt}
 use Rattle.wire.specs.Bytes.{be, be_at, ◌then◌}
 use Rattle.wire.specs.Sum.{total, ones, pseudo}
 use Rattle.wire.specs.Checks.{Check, ◌⇒◌, first}

@@ -1,4 +1,6 @@
 // The wire formats: for each protocol what its bytes mean, a reader that answers an enum, and a writer into a lent output.
+#![tactic(auto)]
+
 mod be;
 mod bits;
 pub mod carriage;

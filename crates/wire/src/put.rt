@@ -7,7 +7,8 @@ pub(crate) fn put(out: &mut [u8], at: usize, src: &[u8])
     requires { at + length src.now ≤ length out.old }
     ensures { out.new ≡ laid out.old at src.now }
 {
-    bytes::copy(src, &mut out[at..]);
+    let end = at + src.len();
+    out[at..end].copy_from_slice(src);
 }
 
 // Those of its bytes from a up to e.

@@ -1,0 +1,15 @@
+-- `wire::field::get24` meets its contract.
+use Rattle.std.proofs.Common.{sym, ◌∙◌, leb-true}
+use Rattle.wire.specs.Laws.Field.{field_no, field_yes}
+use Rattle.wire.proofs.field.get24.Goals as goal
+
+pub returns-then-not-lies : goal.returns-then-not-lies
+returns-then-not-lies c = let a = c.args in
+    field_no a.s.now a.at 3 (sym c.lies.ensures ∙ c.if-not-lies.true)
+
+pub be24-requires : goal.be24-requires
+be24-requires c = leb-true _ _ (sym c.lies.ensures ∙ c.if-not-lies.false)
+
+pub returns : goal.returns
+returns c = let a = c.args in
+    c.be24.ensures ∙ field_yes a.s.now a.at 3 (sym c.lies.ensures ∙ c.if-not-lies.false)

@@ -1,0 +1,15 @@
+-- `wire::field::get32` meets its contract.
+use Rattle.std.proofs.Common.{sym, ◌∙◌, leb-true}
+use Rattle.wire.specs.Laws.Field.{field_no, field_yes}
+use Rattle.wire.proofs.field.get32.Goals as goal
+
+pub returns-then-not-lies : goal.returns-then-not-lies
+returns-then-not-lies c = let a = c.args in
+    field_no a.s.now a.at 4 (sym c.lies.ensures ∙ c.if-not-lies.true)
+
+pub be32-requires : goal.be32-requires
+be32-requires c = leb-true _ _ (sym c.lies.ensures ∙ c.if-not-lies.false)
+
+pub returns : goal.returns
+returns c = let a = c.args in
+    c.be32.ensures ∙ field_yes a.s.now a.at 4 (sym c.lies.ensures ∙ c.if-not-lies.false)

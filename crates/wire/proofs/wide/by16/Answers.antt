@@ -1,0 +1,14 @@
+-- `wire::wide::by16` meets its contract.
+use Rattle.std.proofs.Common.{arith}
+use Rattle.wire.specs.Sum.{blocks}
+use Rattle.wire.specs.Laws.Le.{block_none, block_one, rest-opened}
+use Rattle.wire.proofs.wide.by16.Goals as goal
+
+pub returns-then-n-lt16 : goal.returns-then-n-lt16
+returns-then-n-lt16 c = block_none 16 _ c.args.s.now (omega arith)
+
+pub returns : goal.returns
+unfolding blocks
+returns c = let s = c.args.s.now in
+    let e = rest-opened _ _ _ _ s _ _ c.open.ensures.carry_value c.two.ensures.at_value c.close.ensures in
+    block_one 16 _ _ s (omega arith) (omega arith) e
