@@ -15,7 +15,7 @@ use reference::reassembler::Reassembler;
 
 // What a receive gives back.
 #[repr(C)]
-#[derive(Drop)]
+#[derive(Clone, Copy)]
 pub struct Hearing {
     pub reassembler: Reassembler,
     pub receipt: Receipt,

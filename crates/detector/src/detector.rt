@@ -6,7 +6,7 @@ use crate::number::ENTRIES;
 
 // The entries, as parallel arrays, so that a lookup touches only what it compares. Behind the count every number is 0.
 #[repr(C)]
-#[derive(Drop)]
+#[derive(Clone, Copy)]
 pub struct Detector {
     pub addresses: [u64; ENTRIES],
     pub tenants: [u16; ENTRIES],

@@ -8,21 +8,21 @@ use crate::number::{DUPLICATE, ENTRIES, FULL, KNOWN, NEW, NONE};
 
 // An answer: its number, and of a duplicate the peer that was first; NONE in every other.
 #[repr(C)]
-#[derive(Drop)]
+#[derive(Clone, Copy)]
 pub struct Observation {
     pub answer: u8,
     pub peer: u16,
 }
 
 // What observing gives, with the detector by value.
-#[derive(Drop)]
+#[derive(Clone, Copy)]
 pub struct ObserveResult {
     pub detector: Detector,
     pub answer: Observation,
 }
 
 // The number of an entry, if there is one.
-#[derive(Drop)]
+#[derive(Clone, Copy)]
 pub enum Lookup {
     At(usize),
     Nowhere,

@@ -4,7 +4,7 @@ use wire::refusal::Refusal;
 
 // Where a frame lies: a part of the packet, or of the reassembly memory.
 #[repr(C)]
-#[derive(Drop)]
+#[derive(Clone, Copy)]
 pub struct Place {
     pub start: usize,
     pub length: usize,
@@ -13,14 +13,14 @@ pub struct Place {
 
 // The tenant (document 01: bench) and the binding to whose network a frame belongs.
 #[repr(C)]
-#[derive(Drop)]
+#[derive(Clone, Copy)]
 pub struct Target {
     pub tenant: u16,
     pub binding: u16,
 }
 
 // Why a packet is dropped.
-#[derive(Drop)]
+#[derive(Clone, Copy)]
 pub enum Drop {
     // 2: the reassembly memory has under 55,296 bytes
     MemoryTooSmall,
@@ -36,7 +36,7 @@ pub enum Drop {
     Segment(Rejection),
 }
 
-#[derive(Drop)]
+#[derive(Clone, Copy)]
 pub enum Received {
     Delivered(Target, Place),
     Pending,
@@ -44,7 +44,7 @@ pub enum Received {
 }
 
 // Why the configuration is not changed: 18, 19, 20.
-#[derive(Drop)]
+#[derive(Clone, Copy)]
 pub enum ConfigRefusal {
     OutOfRange,
     AlreadyListed,
@@ -52,26 +52,26 @@ pub enum ConfigRefusal {
 }
 
 // A good adding call gives the new peer's or binding's number.
-#[derive(Drop)]
+#[derive(Clone, Copy)]
 pub enum Added {
     Number(u16),
     Refused(ConfigRefusal),
 }
 
-#[derive(Drop)]
+#[derive(Clone, Copy)]
 pub enum Start {
     Done,
     Refused(ConfigRefusal),
 }
 
 // A tick always succeeds: 0.
-#[derive(Drop)]
+#[derive(Clone, Copy)]
 pub enum Tick {
     Done,
 }
 
 // Why nothing is written.
-#[derive(Drop)]
+#[derive(Clone, Copy)]
 pub enum WrapRefusal {
     // 23: no such binding
     NoBinding,
@@ -87,13 +87,13 @@ pub enum WrapRefusal {
 
 // The length of the packet that was written, and how many segments its frame has.
 #[repr(C)]
-#[derive(Drop)]
+#[derive(Clone, Copy)]
 pub struct Packet {
     pub length: usize,
     pub segments: usize,
 }
 
-#[derive(Drop)]
+#[derive(Clone, Copy)]
 pub enum Wrapped {
     Written(Packet),
     Refused(WrapRefusal),

@@ -17,7 +17,7 @@ use reassembly::slot::{Peer, free_peer};
 
 // An endpoint. Peers and bindings are parallel arrays, so that a lookup touches only what it compares.
 #[repr(C)]
-#[derive(Drop)]
+#[derive(Clone, Copy)]
 pub struct Endpoint {
     pub networks: [u64; BINDINGS],
     pub peers: [Peer; PEERS],
@@ -33,14 +33,14 @@ pub struct Endpoint {
 }
 
 // What a start gives.
-#[derive(Drop)]
+#[derive(Clone, Copy)]
 pub struct StartResult {
     pub endpoint: Endpoint,
     pub answer: Start,
 }
 
 // What an adding call gives.
-#[derive(Drop)]
+#[derive(Clone, Copy)]
 pub struct AddResult {
     pub endpoint: Endpoint,
     pub answer: Added,

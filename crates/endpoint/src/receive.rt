@@ -30,7 +30,7 @@ use wire::segment::Segment;
 use wire::stt::SttRead;
 
 // An inner frame: its tunnel's kind and network, and where it lies.
-#[derive(Drop)]
+#[derive(Clone, Copy)]
 pub struct InnerFrame {
     pub network: u64,
     pub place: Place,
@@ -38,7 +38,7 @@ pub struct InnerFrame {
 }
 
 // A segment that is to be taken: its header, and where its bytes lie in the packet.
-#[derive(Drop)]
+#[derive(Clone, Copy)]
 pub struct Due {
     pub header: Segment,
     pub start: usize,
@@ -46,7 +46,7 @@ pub struct Due {
 }
 
 // What a packet brings.
-#[derive(Drop)]
+#[derive(Clone, Copy)]
 pub enum Content {
     Refused(Drop),
     Frame(InnerFrame),
@@ -54,14 +54,14 @@ pub enum Content {
 }
 
 // A packet, opened. One of no listed peer has peer 0, whose record stays.
-#[derive(Drop)]
+#[derive(Clone, Copy)]
 pub struct Arrival {
     pub peer: usize,
     pub content: Content,
 }
 
 // What there is to deliver.
-#[derive(Drop)]
+#[derive(Clone, Copy)]
 pub enum Offer {
     Refused(Drop),
     Pending,
@@ -69,14 +69,14 @@ pub enum Offer {
 }
 
 // What taking changes of the endpoint, the sender's peer record, and what there is to deliver.
-#[derive(Drop)]
+#[derive(Clone, Copy)]
 pub struct Changed {
     pub row: Peer,
     pub offer: Offer,
 }
 
 // What a receive gives back.
-#[derive(Drop)]
+#[derive(Clone, Copy)]
 pub struct ReceiveResult {
     pub endpoint: Endpoint,
     pub answer: Received,

@@ -10,7 +10,7 @@ use crate::number::BINDINGS;
 use reassembly::number::PEERS;
 
 // The number that matches, or the refusal where the listing ends.
-#[derive(Drop)]
+#[derive(Clone, Copy)]
 pub enum Lookup {
     At(usize),
     Refused(Drop),

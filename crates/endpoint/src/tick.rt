@@ -10,7 +10,7 @@ use reassembly::number::PEERS;
 use reassembly::tick::tick_row;
 
 // What a tick gives.
-#[derive(Drop)]
+#[derive(Clone, Copy)]
 pub struct TickResult {
     pub endpoint: Endpoint,
     pub answer: Tick,

@@ -20,7 +20,7 @@ use wire::number::{
 use wire::write;
 
 // The way out on a binding: its kind and network, from whom and to whom, the STT port, and the MTU.
-#[derive(Drop)]
+#[derive(Clone, Copy)]
 pub(crate) struct Route {
     pub network: u64,
     pub own: u32,

@@ -2,7 +2,7 @@
 use endpoint::config::Endpoint;
 
 // Why nothing is saved.
-#[derive(Drop)]
+#[derive(Clone, Copy)]
 pub enum SaveRefusal {
     // 18: its start was refused
     NotStarted,
@@ -11,21 +11,21 @@ pub enum SaveRefusal {
 }
 
 // A save gives the length of the image.
-#[derive(Drop)]
+#[derive(Clone, Copy)]
 pub enum Saved {
     Written(usize),
     Refused(SaveRefusal),
 }
 
 // 24: the bytes are no image that saving gives.
-#[derive(Drop)]
+#[derive(Clone, Copy)]
 pub enum Loaded {
     Done,
     BadImage,
 }
 
 // What a load gives: of a bad image the endpoint of a refused start, every number 0.
-#[derive(Drop)]
+#[derive(Clone, Copy)]
 pub struct LoadResult {
     pub endpoint: Endpoint,
     pub answer: Loaded,

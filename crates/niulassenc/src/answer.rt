@@ -15,7 +15,7 @@ pub const NONE: u16 = 0xFFFF;
 // A receive's answer. `code` is the documents' number. Where it is not 0 there is no tenant and no binding (both are 0xFFFF), and the place is empty. `offset`
 // is that of the first offending byte (25 to 29): in the packet, or for STT in the frame. 0 where the answer names no byte.
 #[repr(C)]
-#[derive(Drop)]
+#[derive(Clone, Copy)]
 pub struct Receipt {
     pub start: usize,
     pub length: usize,
@@ -28,7 +28,7 @@ pub struct Receipt {
 
 // An adding call's answer: the new peer's or binding's number, 0xFFFF where `code` is not 0.
 #[repr(C)]
-#[derive(Drop)]
+#[derive(Clone, Copy)]
 pub struct Addition {
     pub number: u16,
     pub code: u8,
@@ -36,7 +36,7 @@ pub struct Addition {
 
 // A wrap's answer: the length of the packet that was written, and how many segments its frame has. Both are 0 where `code` is not 0.
 #[repr(C)]
-#[derive(Drop)]
+#[derive(Clone, Copy)]
 pub struct Writing {
     pub length: usize,
     pub segments: u32,
@@ -45,7 +45,7 @@ pub struct Writing {
 
 // A save's answer: the length of the image; 0 where `code` is not 0.
 #[repr(C)]
-#[derive(Drop)]
+#[derive(Clone, Copy)]
 pub struct Saving {
     pub length: usize,
     pub code: u8,

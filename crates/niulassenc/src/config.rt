@@ -11,7 +11,7 @@ use reassembly::number::PEERS;
 
 // What a start or a load gives. A refused one gives an endpoint with every number 0.
 #[repr(C)]
-#[derive(Drop)]
+#[derive(Clone, Copy)]
 pub struct Started {
     pub endpoint: Endpoint,
     pub code: u8,

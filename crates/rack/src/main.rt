@@ -26,7 +26,7 @@ const STT_PORT: u32 = 7471;
 const MTU: u32 = 1500;
 
 // What the program keeps: an endpoint, and a detector of duplicate addresses beside it.
-#[derive(Drop)]
+#[derive(Clone, Copy)]
 struct Rack {
     endpoint: Endpoint,
     detector: Detector,

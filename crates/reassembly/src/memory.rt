@@ -22,7 +22,7 @@ pub(crate) fn put(memory: &mut [u8], k: usize, offset: usize, bytes: &[u8])
 {
     let place = k * SLOT_BYTES + offset;
     let start = k * SLOT_BYTES + FRAME_BYTES;
-    bytes::copy(bytes, &mut memory[place..]);
+    memory[place..place + bytes.len()].copy_from_slice(bytes);
     map::set_bits(&mut memory[start..], offset, bytes.len());
 }
 

@@ -6,7 +6,7 @@ use crate::number::SLOTS;
 
 // A slot holds a pending frame or is free. The paper leaves open what numbers a free slot has: here they are all 0.
 #[repr(C)]
-#[derive(Drop)]
+#[derive(Clone, Copy)]
 pub struct Slot {
     pub identifier: u32,
     pub frame_length: u16,
@@ -16,13 +16,13 @@ pub struct Slot {
 
 // A peer record: each peer has four slots.
 #[repr(C)]
-#[derive(Drop)]
+#[derive(Clone, Copy)]
 pub struct Peer {
     pub slots: [Slot; SLOTS],
 }
 
 // The number of a slot in its peer record.
-#[derive(Drop)]
+#[derive(Clone, Copy)]
 pub enum FoundSlot {
     At(usize),
     Nothing,

@@ -11,7 +11,7 @@ use crate::{memory, slot};
 use wire::segment::Segment;
 
 // Why a segment is not taken: 14 (Empty, FrameLength, PastEnd), 15 (LengthDiffers), 16 (AlreadyReceived), 17 (NoSlot).
-#[derive(Drop)]
+#[derive(Clone, Copy)]
 pub enum Rejection {
     Empty,
     FrameLength,
@@ -36,7 +36,7 @@ pub fn rejection_code(r: Rejection) -> u8
 }
 
 // Complete names the slot in its peer record; the frame lies in the memory. NoMemory: the peer's slots do not lie in the memory.
-#[derive(Drop)]
+#[derive(Clone, Copy)]
 pub enum Outcome {
     Rejected(Rejection),
     Pending,
@@ -44,14 +44,14 @@ pub enum Outcome {
     NoMemory,
 }
 
-#[derive(Drop)]
+#[derive(Clone, Copy)]
 pub struct Taken {
     pub row: Peer,
     pub outcome: Outcome,
 }
 
 // What is to be done with a segment: it belongs to the frame pending in a slot, or opens a frame in a free one.
-#[derive(Drop)]
+#[derive(Clone, Copy)]
 pub(crate) enum Decision {
     Reject(Rejection),
     Further(usize),

@@ -4,7 +4,7 @@ ghost use Rattle.reference.specs.Calls.{number_of};
 
 use endpoint::answer::Received;
 
-#[derive(Drop)]
+#[derive(Clone, Copy)]
 pub enum Reply {
     // as the endpoint answers, with a place in the reference reassembler's own memory
     Answer(Received),

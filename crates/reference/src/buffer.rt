@@ -11,7 +11,7 @@ use endpoint::search::least;
 
 // Which bytes of its frame a segment is.
 #[repr(C)]
-#[derive(Drop)]
+#[derive(Clone, Copy)]
 pub struct Extent {
     pub offset: u16,
     pub length: u16,
@@ -19,7 +19,7 @@ pub struct Extent {
 
 // A pending frame: how many segments are kept, and where in its frame each belongs; which of its peer's blocks has their bytes.
 #[repr(C)]
-#[derive(Drop)]
+#[derive(Clone, Copy)]
 pub struct Buffer {
     pub extents: [Extent; SEGMENTS],
     pub identifier: u32,
@@ -30,7 +30,7 @@ pub struct Buffer {
 }
 
 // Where a byte of the frame lies, counted from the block's start.
-#[derive(Drop)]
+#[derive(Clone, Copy)]
 pub(crate) enum FoundByte {
     At(usize),
     Nothing,
@@ -134,7 +134,7 @@ pub(crate) fn store(memory: &mut [u8], at: usize, bytes: &[u8])
     if memory.len() < end {
         return;
     }
-    bytes::copy(bytes, &mut memory[at..end]);
+    memory[at..end].copy_from_slice(bytes);
 }
 
 // Rebuilds the frame from its segments, whose block begins at `block`, from nothing. False where a byte is missing.

@@ -12,13 +12,13 @@ use reassembly::number::AGE_MAX;
 
 // What lies behind the count is free: no answer depends on it.
 #[repr(C)]
-#[derive(Drop)]
+#[derive(Clone, Copy)]
 pub struct Buffers {
     pub buffers: [Buffer; FRAMES],
     pub count: usize,
 }
 
-#[derive(Drop)]
+#[derive(Clone, Copy)]
 pub(crate) enum FoundBuffer {
     At(usize),
     Nothing,

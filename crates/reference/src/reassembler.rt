@@ -8,7 +8,7 @@ use reassembly::number::PEERS;
 
 // An endpoint, whose configuration is used and whose own slots stay as they are; and the pending frames of each peer.
 #[repr(C)]
-#[derive(Drop)]
+#[derive(Clone, Copy)]
 pub struct Reassembler {
     pub endpoint: Endpoint,
     pub peers: [Buffers; PEERS],

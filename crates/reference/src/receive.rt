@@ -18,7 +18,7 @@ use endpoint::receive::{Content, Due, Offer};
 use endpoint::{receive, view};
 
 // What a receive gives back.
-#[derive(Drop)]
+#[derive(Clone, Copy)]
 pub struct Heard {
     pub reassembler: Reassembler,
     pub reply: Reply,

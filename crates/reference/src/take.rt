@@ -19,7 +19,7 @@ use reassembly::take::Rejection;
 use wire::segment::Segment;
 
 // A complete frame lies behind the blocks, as long as its segments say.
-#[derive(Drop)]
+#[derive(Clone, Copy)]
 pub(crate) enum Outcome {
     Rejected(Rejection),
     TooMany,
@@ -28,7 +28,7 @@ pub(crate) enum Outcome {
 }
 
 // The frames that are pending then, and what came of the segment.
-#[derive(Drop)]
+#[derive(Clone, Copy)]
 pub(crate) struct Taken {
     pub buffers: Buffers,
     pub outcome: Outcome,

@@ -16,7 +16,7 @@ const UNWRITTEN: u8 = 0xAA;
 const WRAP_NUMBERS: usize = 12;
 
 // The endpoint, the detector that starts with it, how many bytes of the memory are lent, and the last packet's length. `done`: nothing more is to be read.
-#[derive(Drop)]
+#[derive(Clone, Copy)]
 pub(crate) struct State {
     pub endpoint: Endpoint,
     pub detector: Detector,

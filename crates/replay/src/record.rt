@@ -34,7 +34,7 @@ pub(crate) const FIELDS_MAX: usize = 17;
 pub(crate) const LENT_MAX: usize = 60000;
 
 // What the next record is, if there is one.
-#[derive(Drop)]
+#[derive(Clone, Copy)]
 pub(crate) enum Head {
     Record(u8, usize),
     End,

@@ -2,7 +2,7 @@
 ghost use Rattle.io.specs.Counts.{IsPrefixLen};
 
 // What a read gives: how many bytes, 0 at the end; or that it failed; or that it is to be made again.
-#[derive(Drop)]
+#[derive(Clone, Copy)]
 pub(crate) struct Got {
     pub count: usize,
     pub failed: bool,

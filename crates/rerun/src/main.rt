@@ -19,7 +19,7 @@ use run::{Run, advance, begin_from, finish, unreadable};
 use trace::number::RECORD_MAX;
 
 // A run, and whether more of its trace is to be read.
-#[derive(Drop)]
+#[derive(Clone, Copy)]
 struct Next {
     run: Run,
     going: bool,

@@ -21,7 +21,7 @@ use trace::number::{PACKET, PACKET_AT, RECORD_MAX, TICK};
 use trace::reader::{Event, read_header, read_record};
 
 // The endpoint, how many records are told, how many bytes are held of what is not complete, and where the run stands in its trace.
-#[derive(Drop)]
+#[derive(Clone, Copy)]
 pub(crate) struct Run {
     pub endpoint: Endpoint,
     pub number: u64,
@@ -30,7 +30,7 @@ pub(crate) struct Run {
 }
 
 // What a step gives: the run, how many bytes of the piece are used, and where the output's text ends.
-#[derive(Drop)]
+#[derive(Clone, Copy)]
 pub(crate) struct Progress {
     pub run: Run,
     pub used: usize,
@@ -51,7 +51,7 @@ fn begin(e: Endpoint) -> Run
 }
 
 // What a step through a piece reads: how many of its bytes are used, and where the run stands then.
-#[derive(Drop)]
+#[derive(Clone, Copy)]
 pub(crate) struct Step {
     pub used: usize,
     pub count: usize,
@@ -166,7 +166,7 @@ fn read_step(phase: u8, count: usize, held: &mut [u8; RECORD_MAX], piece: &[u8])
 }
 
 // What a packet leaves: its sender's peer record, and the answer.
-#[derive(Drop)]
+#[derive(Clone, Copy)]
 pub(crate) struct Receipt {
     pub peer: usize,
     pub row: Peer,
@@ -305,7 +305,7 @@ pub(crate) fn finish(run: Run, out: &mut [u8]) -> usize
 }
 
 // What a settings file begins: a run; or the line of a bad image.
-#[derive(Drop)]
+#[derive(Clone, Copy)]
 pub(crate) struct Start {
     pub run: Run,
     pub end: usize,

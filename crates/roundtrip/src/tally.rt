@@ -6,7 +6,7 @@ use program::number::hash;
 use program::print::{decimal, text};
 
 // The receiving endpoint, how many packets were written and a sum over their bytes, how many frames came out equal, and how many wraps were refused.
-#[derive(Drop)]
+#[derive(Clone, Copy)]
 pub(crate) struct Tally {
     pub receiver: Endpoint,
     pub packets: u64,

@@ -10,7 +10,7 @@ use crate::number::{
 use wire::field::{get16, get24};
 
 // What the bytes held and a piece give.
-#[derive(Drop)]
+#[derive(Clone, Copy)]
 pub enum Event {
     // the piece is used up, and what is held is not complete yet
     More,
@@ -22,7 +22,7 @@ pub enum Event {
     Broken,
 }
 
-#[derive(Drop)]
+#[derive(Clone, Copy)]
 pub struct Fed {
     pub event: Event,
     // how many bytes of the piece are taken, and how many are held now
@@ -49,7 +49,7 @@ fn fill(held: &mut [u8], count: usize, piece: &[u8], want: usize) -> usize
         return 0;
     }
     let n = least(want - count, piece.len());
-    bytes::copy(&piece[..n], &mut held[count..]);
+    held[count..count + n].copy_from_slice(&piece[..n]);
     n
 }
 

@@ -8,14 +8,14 @@ use crate::refusal::Refusal;
 use crate::segment::Segment;
 
 // The network, by the number of its kind, and where in the IP payload the inner frame starts.
-#[derive(Drop)]
+#[derive(Clone, Copy)]
 pub struct Tunnel {
     pub start: usize,
     pub network: u32,
     pub kind: u8,
 }
 
-#[derive(Drop)]
+#[derive(Clone, Copy)]
 pub enum Carried {
     Tunnel(Tunnel),
     Segment(Segment),

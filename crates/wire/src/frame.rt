@@ -6,7 +6,7 @@ use crate::be::be16;
 use crate::number::{FRAME_MAX, FRAME_MIN, TYPE_SERVICE_VLAN, TYPE_VLAN};
 use crate::refusal::Refusal;
 
-#[derive(Drop)]
+#[derive(Clone, Copy)]
 pub enum FrameRead {
     Good,
     Refused(Refusal),

@@ -11,14 +11,14 @@ use crate::number::{
 };
 
 // The flags of an STT frame that tell of the inner frame, and the L4 offset: where in the inner frame the header of TCP or UDP begins.
-#[derive(Drop)]
+#[derive(Clone, Copy)]
 pub struct Hints {
     pub flags: u8,
     pub l4: u8,
 }
 
 // TCP or UDP over IP. UDP over IPv6 is found like the others, although its flags are 0.
-#[derive(Drop)]
+#[derive(Clone, Copy)]
 pub enum Transport {
     Found(Hints),
     Nothing,

@@ -9,7 +9,7 @@ use crate::refusal::Refusal;
 use crate::sum::sum;
 
 // Who sent the packet to whom, what it carries, and where the payload lies: from `start` up to `end`.
-#[derive(Drop)]
+#[derive(Clone, Copy)]
 pub struct Ipv4 {
     pub start: usize,
     pub end: usize,
@@ -18,7 +18,7 @@ pub struct Ipv4 {
     pub protocol: u8,
 }
 
-#[derive(Drop)]
+#[derive(Clone, Copy)]
 pub enum Ipv4Read {
     Packet(Ipv4),
     Refused(Refusal),

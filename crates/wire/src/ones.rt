@@ -5,7 +5,7 @@ ghost use Rattle.wire.specs.Sum.{ones, end_around, swapped};
 use std::num::{wrapping_add_u16, wrapping_add_u32, wrapping_add_u64};
 
 // A sum in 64 bits, and the carry that is still to be added to it.
-#[derive(Drop)]
+#[derive(Clone, Copy)]
 pub(crate) struct Accumulator {
     low: u64,
     carry: u64,

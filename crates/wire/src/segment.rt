@@ -10,7 +10,7 @@ use crate::refusal::Refusal;
 use crate::sum::sum_behind;
 
 // The frame's identifier and length, the offset of this segment in it, and where in the IP payload the segment's bytes start.
-#[derive(Drop)]
+#[derive(Clone, Copy)]
 pub struct Segment {
     pub start: usize,
     pub identifier: u32,

@@ -9,7 +9,7 @@ use crate::number::STT_HEADER;
 use crate::refusal::Refusal;
 
 // The Context ID.
-#[derive(Drop)]
+#[derive(Clone, Copy)]
 pub enum SttRead {
     Header(u64),
     Refused(Refusal),

@@ -16,7 +16,7 @@ use Rattle.reassembly.specs.Laws.Sim.{Alike, take_alike}
 use Rattle.reassembly.specs.SetUp.{keeps, Layers, Promised, World, next, runs, receives}
 use Rattle.reassembly.specs.Laws.NonInterference.{empty-at, empty-free, start, ghost_start}
 use Rattle.reassembly.specs.Laws.Ghost.{ghost, ghost_laws}
-use Rattle.reassembly.specs.Laws.Claim.{kept-listed, at, next-at, begins}
+use Rattle.reassembly.specs.Laws.Claim.{kept-listed, next-at, begins}
 use Rattle.reassembly.specs.History.{Log, enters, entered, logged, no_seg, OneOf, taking, log_seen, log_next, log_run, CameIn}
 use Rattle.reassembly.specs.Laws.Log.{Logs, Logged, take_logs, tick_logs, pieced_byte}
 

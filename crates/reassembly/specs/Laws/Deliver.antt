@@ -2,7 +2,7 @@
 -- its age, what is noted, and the segments given.
 use Rattle.std.specs.Prelude.{◌≡◌, ◌≢◌, cond, get_or, set, ltb, eqb}
 use Rattle.std.proofs.Math.Path.{refl, sym, ap}
-use Rattle.std.proofs.Common.{◌∙◌, arith, get_or-set_same, get_or-set_other, set-set, ext_get_or}
+use Rattle.std.proofs.Common.{subst, ◌∙◌, arith, get_or-set_same, get_or-set_other, set-set, ext_get_or}
 use Rattle.std.proofs.Math.Bool.{true, false}
 use mathlib.Core.List.{List, [], ◌∷◌, ◌++◌, map, reverse, reverse_aux, reverse_aux-eq, append_assoc}
 use Rattle.std.proofs.Math.Option.{none}
@@ -232,7 +232,7 @@ module _ (W : Answers) (header : List ℕ → Reading W) (judge : ℕ → Note �
         (λ e. let h : Holder frames f (now ∷ past) i = received_by frames f (now ∷ past) i (all_below-at _ _ e i li) in
         let lh : h.seg < length fr.parts = (real h.seg (omega (arith, h.was))).1 in
         let q : h.seg ≡ k = part_one fr.parts h.seg k i lh lk h.here (within_is i (size fr.parts k) i (omega arith) (omega arith)) in
-        absurd (omega (arith, once_at k, w.there, rw q at h.was)))
+        absurd (omega (arith, once_at k, w.there, subst (λ (t : ℕ). 0 < times f t (now ∷ past)) q h.was)))
         (λ e. e)
 
     -- no byte of the segment is received

@@ -187,7 +187,7 @@ module _ (p : ℕ) where
       let all_apart : AllApart (g ∷ L s) = (apart_from m (slot_no p s) g (L s) (h.pieces s ls) e, h.all_apart s ls q.pending) in
       let logs : Logs p (set row s v) m' (writes L s (g ∷ L s)) =
       put_logs row m m' L s v (g ∷ L s) ls h (λ t n. upd_other m (slot_no p s) _ (slot_no p t) (λ z. n (omega arith))) pieces
-      (λ t. (rw (q.identifier, q.size) all_of, all_apart)) in
+      (λ t. ((record { identifier = sym q.identifier; size = sym q.size; fits = q.fits }, h.all_of s ls q.pending), all_apart)) in
       let w : Pieced p s g m' (writes L s (g ∷ L s) s) = rw (writes-same L s (g ∷ L s))
       (record { earlier = L s; latest = refl; pieces = pieces; all_of = all_of; all_apart = all_apart }) in
       let n : Note = note_after (note_of (get_or row s free)) g in

@@ -1,0 +1,7 @@
+-- `detector::observe::observe` meets its contract: what `observe_in` leaves makes up the detector.
+use borrow.Author.Rules.{rules}
+use Rattle.detector.specs.Laws.Observe.{together}
+use Rattle.detector.proofs.observe.observe.Goals as goal
+
+pub returns : goal.returns
+returns c = together _ _ _ _ _ _ c.observe_in-answer.ensures
