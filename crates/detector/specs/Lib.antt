@@ -1,4 +1,3 @@
 pub mod Detector
 pub mod Source
 pub mod Detects
-pub mod Laws

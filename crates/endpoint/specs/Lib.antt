@@ -19,4 +19,3 @@ pub mod Table
 pub mod Offset
 pub mod Demands
 pub mod Account
-pub mod Laws

@@ -5,4 +5,3 @@ pub mod Load
 pub mod Table
 pub mod Images
 pub mod WorkedImage
-pub mod Laws

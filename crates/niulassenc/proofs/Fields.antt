@@ -30,7 +30,7 @@ use denote.Struct.Parts.{PartsBack, Struct-parts, shape_of}
 use denote.Struct.Struct.{Struct}
 use denote.Struct.Pick.{one_at}
 use Rattle.endpoint.specs.declared.config.Endpoint.{Endpoint}
-use Rattle.endpoint.specs.Laws.ConfigExits.{with_peers, with_bindings}
+use Rattle.endpoint.proofs.Laws.ConfigExits.{with_peers, with_bindings}
 use Rattle.endpoint.specs.contracts.config.Endpoint as T
 use Rattle.endpoint.proofs.config.Endpoint.TheLaws as T'
 use Rattle.niulassenc.proofs.RowAt.{members}

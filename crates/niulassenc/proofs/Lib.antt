@@ -1,4 +1,5 @@
 -- What the walks of this crate use.
+pub mod Laws
 mod Offsets
 mod Columns
 mod RowAt

@@ -35,7 +35,7 @@ use denote.Struct.Members.{Member}
 use denote.Struct.Parts.{PartsBack}
 use denote.Struct.Pick.{rest_at, record_field_out, record_field_back}
 use Rattle.reassembly.specs.Slots.{no_row, most_peers}
-use Rattle.reassembly.specs.Laws.Base.{map-set}
+use Rattle.reassembly.proofs.Laws.Base.{map-set}
 use Rattle.endpoint.specs.Receive.{row_at, with_row}
 use Rattle.reassembly.specs.declared.slot.Peer.{Peer}
 use Rattle.endpoint.specs.declared.config.Endpoint.{Endpoint}

@@ -3,4 +3,3 @@ pub mod Answer
 pub mod Cut
 pub mod Owner
 pub mod WorkedAnswers
-pub mod Laws

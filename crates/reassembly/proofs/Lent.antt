@@ -8,8 +8,8 @@ use lib.ListN.{length, take, drop, get_or, replicate, length-drop, length-replic
 use lib.Seq.{take_all, drop-length, drop-drop, sets, sets-eq, length-sets, length-take-le, get_or-drop}
 use borrow.Rule.Slice.PartMut.{mid_of, put_mid, Post-is}
 use Rattle.reassembly.specs.Base.{some_below, all_below}
-use Rattle.reassembly.specs.Laws.Base.{some_below_ext, all_below_ext}
-use Rattle.reassembly.specs.Laws.Store.{set_bits-behind}
+use Rattle.reassembly.proofs.Laws.Base.{some_below_ext, all_below_ext}
+use Rattle.reassembly.proofs.Laws.Store.{set_bits-behind}
 use Rattle.reassembly.specs.Store.{is_on, bit_at, set_bits, slot_start, map_start, clear_at, put_at, received_at}
 
 rest_mid : (a : ℕ) (m : List ℕ) → mid_of a (length m - a) m ≡ drop a m

@@ -10,4 +10,3 @@ pub mod Claim
 pub mod History
 pub mod EveryRun
 pub mod Account
-pub mod Laws

@@ -8,4 +8,3 @@ pub mod Stages
 pub mod Same
 pub mod Worked
 pub mod Promises
-pub mod Laws

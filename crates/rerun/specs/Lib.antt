@@ -2,4 +2,3 @@ pub mod Rerun
 pub mod Standing
 pub mod WorkedRerun
 pub mod Reruns
-pub mod Laws

@@ -2,4 +2,3 @@ pub mod Trace
 pub mod Reader
 pub mod WorkedTrace
 pub mod Traces
-pub mod Laws

@@ -16,4 +16,3 @@ pub mod Table
 pub mod Offset
 pub mod Write
 pub mod Layout
-pub mod Laws

@@ -1,7 +1,7 @@
 -- `dissect::payload` is safe: the inner frame lies in the payload.
 use mathlib.Core.Path.{◌∙◌, sym}
 use native.Mathlib.Omega.{arith}
-use Rattle.wire.specs.Laws.Carriage.{tunnel_within}
+use Rattle.wire.proofs.Laws.Carriage.{tunnel_within}
 use Rattle.dissect.proofs.payload.Goals as goal
 
 pub overflow_add-at : goal.overflow_add-at

@@ -2,7 +2,7 @@
 use mathlib.Core.Path.{◌∙◌, sym}
 use native.Mathlib.Omega.{arith}
 use lib.ListN.{length-take, length-drop}
-use Rattle.wire.specs.Laws.Ipv4.{ipv4_bounds, ipv4_start}
+use Rattle.wire.proofs.Laws.Ipv4.{ipv4_bounds, ipv4_start}
 use Rattle.dissect.proofs.show.Goals as goal
 
 pub slice_bounds-payload-count : goal.slice_bounds-payload-count

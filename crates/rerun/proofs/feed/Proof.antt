@@ -4,7 +4,7 @@ use mathlib.Core.Path.{◌≡◌, sym}
 use native.Mathlib.Omega.{arith}
 use lib.ListN.{length, take}
 use lib.Seq.{length-take-le}
-use Rattle.rerun.specs.Laws.Standing.{ready-any, fed_told}
+use Rattle.rerun.proofs.Laws.Standing.{ready-any, fed_told}
 use borrow.Author.Rules.{rules}
 use Rattle.rerun.proofs.feed.Statement.{statement}
 use Rattle.rerun.proofs.feed.Tie as tie

@@ -6,7 +6,7 @@ use native.Mathlib.Omega.{arith}
 use lib.ListN.{length, take}
 use borrow.Author.Rules.{rules}
 use Rattle.rerun.specs.Standing.{standing, Ready}
-use Rattle.rerun.specs.Laws.Standing.{none-held}
+use Rattle.rerun.proofs.Laws.Standing.{none-held}
 use Rattle.rerun.proofs.follow.Statement.{statement}
 use Rattle.rerun.proofs.follow.Tie as tie
 

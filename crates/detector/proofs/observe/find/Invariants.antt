@@ -4,8 +4,8 @@ use mathlib.Core.Bool.{false}
 use Prim.Native.Nat.{ℕ, ◌≤◌, ◌<◌, ◌-◌}
 use native.Mathlib.Omega.{arith}
 use Rattle.detector.specs.Detector.{is_entry, most_entries}
-use Rattle.lookup.specs.Laws.Search.{more_not}
-use Rattle.detector.specs.Laws.Observe.{found_at, found_nowhere}
+use Rattle.lookup.proofs.Laws.Search.{more_not}
+use Rattle.detector.proofs.Laws.Observe.{found_at, found_nowhere}
 use Rattle.detector.proofs.observe.find.Given as goal
 
 abbrev pub invariant-loop-i : goal.invariant-loop-i

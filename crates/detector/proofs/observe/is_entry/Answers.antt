@@ -1,7 +1,7 @@
 -- `detector::observe::is_entry` meets its contract.
 use mathlib.Core.Path.{sym}
 use borrow.Author.Rules.{rules}
-use Rattle.detector.specs.Laws.Observe.{other-address, by_tenant}
+use Rattle.detector.proofs.Laws.Observe.{other-address, by_tenant}
 use Rattle.detector.proofs.observe.is_entry.Goals as goal
 
 pub returns-then-addresses-i : goal.returns-then-addresses-i

@@ -1,7 +1,7 @@
 -- `detector::observe::listed` meets its contract.
 use mathlib.Core.Path.{◌∙◌}
 use borrow.Author.Rules.{rules}
-use Rattle.detector.specs.Laws.Observe.{judged-known, judged-duplicate}
+use Rattle.detector.proofs.Laws.Observe.{judged-known, judged-duplicate}
 use Rattle.detector.proofs.observe.listed.Goals as goal
 
 pub returns-then-first-peer : goal.returns-then-first-peer

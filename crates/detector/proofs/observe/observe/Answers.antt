@@ -1,6 +1,6 @@
 -- `detector::observe::observe` meets its contract: what `observe_in` leaves makes up the detector.
 use borrow.Author.Rules.{rules}
-use Rattle.detector.specs.Laws.Observe.{together}
+use Rattle.detector.proofs.Laws.Observe.{together}
 use Rattle.detector.proofs.observe.observe.Goals as goal
 
 pub returns : goal.returns

@@ -1,6 +1,6 @@
 -- `detector::source::source` meets its contract.
 use borrow.Author.Rules.{rules}
-use Rattle.detector.specs.Laws.Source.{source_short, source_is}
+use Rattle.detector.proofs.Laws.Source.{source_short, source_is}
 use Rattle.detector.proofs.source.source.Goals as goal
 
 pub returns-then-frame-lt12 : goal.returns-then-frame-lt12

@@ -1,6 +1,6 @@
 -- `endpoint::code::tick_code` meets its contract: a tick has one answer.
 use mathlib.Core.Path.{sym}
-use Rattle.endpoint.specs.Laws.Answer.{tick_code_lem}
+use Rattle.endpoint.proofs.Laws.Answer.{tick_code_lem}
 use Rattle.endpoint.proofs.code.tick_code.Statement.{statement}
 use Rattle.endpoint.proofs.code.tick_code.Tie as tie
 

@@ -1,7 +1,7 @@
 -- `endpoint::config::add_binding` meets its contract: what `list_binding` leaves makes up the endpoint.
-use Rattle.endpoint.specs.Laws.Promises.{add_binding_promised}
+use Rattle.endpoint.proofs.Laws.Promises.{add_binding_promised}
 use borrow.Author.Rules.{rules}
-use Rattle.endpoint.specs.Laws.ConfigExits.{add_binding_out}
+use Rattle.endpoint.proofs.Laws.ConfigExits.{add_binding_out}
 use Rattle.endpoint.proofs.config.add_binding.Statement.{statement}
 use Rattle.endpoint.proofs.config.add_binding.Tie as tie
 

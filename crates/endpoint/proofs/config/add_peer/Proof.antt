@@ -1,7 +1,7 @@
 -- `endpoint::config::add_peer` meets its contract: what `list_peer` leaves makes up the endpoint.
-use Rattle.endpoint.specs.Laws.Promises.{add-peer_promised}
+use Rattle.endpoint.proofs.Laws.Promises.{add-peer_promised}
 use borrow.Author.Rules.{rules}
-use Rattle.endpoint.specs.Laws.ConfigExits.{add-peer_out}
+use Rattle.endpoint.proofs.Laws.ConfigExits.{add-peer_out}
 use Rattle.endpoint.proofs.config.add_peer.Statement.{statement}
 use Rattle.endpoint.proofs.config.add_peer.Tie as tie
 

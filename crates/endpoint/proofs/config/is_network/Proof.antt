@@ -1,6 +1,6 @@
 -- `endpoint::config::is_network` meets its contract.
 use native.Mathlib.Omega.{arith}
-use Rattle.endpoint.specs.Laws.ConfigExits.{vxlan_ids, nvgre_low, nvgre_ids, stt_ids}
+use Rattle.endpoint.proofs.Laws.ConfigExits.{vxlan_ids, nvgre_low, nvgre_ids, stt_ids}
 use Rattle.endpoint.proofs.config.is_network.Statement.{statement}
 use Rattle.endpoint.proofs.config.is_network.Tie as tie
 

@@ -6,9 +6,9 @@ use borrow.Author.Rules.{rules}
 use lib.ListN.{take}
 use mathlib.Core.List.{List}
 use Rattle.wire.specs.Checks.{Check, Passed}
-use Rattle.wire.specs.Laws.Checks.{deciding}
+use Rattle.wire.proofs.Laws.Checks.{deciding}
 use Rattle.endpoint.specs.Config.{config_of, find_binding, is_some, is_network, add_binding_checks, with_binding, bindings_of, lent}
-use Rattle.endpoint.specs.Laws.ConfigExits.{behind, list_binding_exit, is_found_in, binding_found, network_kind}
+use Rattle.endpoint.proofs.Laws.ConfigExits.{behind, list_binding_exit, is_found_in, binding_found, network_kind}
 use Rattle.endpoint.specs.declared.answer.ConfigRefusal.{ConfigRefusal}
 use Rattle.endpoint.specs.declared.config.Endpoint.{Endpoint}
 use Rattle.endpoint.proofs.config.list_binding.Statement.{statement}

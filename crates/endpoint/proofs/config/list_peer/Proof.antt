@@ -5,9 +5,9 @@ use native.Mathlib.Omega.{arith}
 use borrow.Author.Rules.{rules}
 use lib.ListN.{take}
 use Rattle.wire.specs.Checks.{Passed}
-use Rattle.wire.specs.Laws.Checks.{deciding}
+use Rattle.wire.proofs.Laws.Checks.{deciding}
 use Rattle.endpoint.specs.Config.{config_of, find_peer, is_some, add_peer_checks, with_address, peers_of, lent}
-use Rattle.endpoint.specs.Laws.ConfigExits.{behind, list_peer_exit, is_found_in, peer-found}
+use Rattle.endpoint.proofs.Laws.ConfigExits.{behind, list_peer_exit, is_found_in, peer-found}
 use Rattle.endpoint.specs.declared.config.Endpoint.{Endpoint}
 use Rattle.endpoint.proofs.config.list_peer.Statement.{statement}
 use Rattle.endpoint.proofs.config.list_peer.Tie as tie

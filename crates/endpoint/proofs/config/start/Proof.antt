@@ -1,14 +1,14 @@
 -- `endpoint::config::start` meets its contract: its exit number n gives what check number n gives.
 use mathlib.Core.Path.{◌∙◌, sym, ap}
 use native.Mathlib.Omega.{arith}
-use Rattle.endpoint.specs.Laws.Promises.{start_promised}
+use Rattle.endpoint.proofs.Laws.Promises.{start_promised}
 use borrow.Author.Rules.{rules}
-use Rattle.wire.specs.Laws.Checks.{deciding}
+use Rattle.wire.proofs.Laws.Checks.{deciding}
 use Rattle.endpoint.specs.declared.answer.Start.TheVariants as S
 use Rattle.endpoint.specs.declared.config.Endpoint.{Endpoint}
 use Rattle.endpoint.specs.declared.config.StartResult.{StartResult}
 use Rattle.endpoint.specs.Config.{start_checks}
-use Rattle.endpoint.specs.Laws.ConfigExits.{start_exit}
+use Rattle.endpoint.proofs.Laws.ConfigExits.{start_exit}
 use Rattle.endpoint.proofs.config.start.Statement.{statement}
 use Rattle.endpoint.proofs.config.start.Tie as tie
 

@@ -1,6 +1,6 @@
 -- `endpoint::receive::broken` meets its contract: behind at most 60 bytes, the offset is a byte.
 use native.Mathlib.Omega.{arith}
-use Rattle.wire.specs.Laws.Refusal.{offset_most}
+use Rattle.wire.proofs.Laws.Refusal.{offset_most}
 use borrow.Author.Rules.{rules}
 use Rattle.endpoint.proofs.receive.broken.Statement.{statement}
 use Rattle.endpoint.proofs.receive.broken.Tie as tie

@@ -4,7 +4,7 @@ use mathlib.Core.Path.{◌∙◌, sym, ap}
 use native.Mathlib.Omega.{arith}
 use lib.ListN.{length}
 use Rattle.endpoint.specs.Stages.{offer_at}
-use Rattle.endpoint.specs.Laws.Receive.{offer_refused, offer_header, header-inside}
+use Rattle.endpoint.proofs.Laws.Receive.{offer_refused, offer_header, header-inside}
 use Rattle.endpoint.specs.declared.receive.Offer.TheVariants as B
 use borrow.Author.Rules.{rules}
 use Rattle.endpoint.proofs.receive.complete.Statement.{statement}

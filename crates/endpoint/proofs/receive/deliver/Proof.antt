@@ -5,8 +5,8 @@ use native.Mathlib.Omega.{arith}
 use Rattle.endpoint.specs.Config.{binds, most_bindings}
 use Rattle.endpoint.specs.declared.answer.Drop.TheVariants as D
 use Rattle.endpoint.specs.Search.{lowest, found_of}
-use Rattle.endpoint.specs.Laws.Search.{lowest-some}
-use Rattle.endpoint.specs.Laws.Receive.{found_none, found_some, found_among, deliver_refused, deliver_pending, deliver_unbound, deliver_bad, deliver_good}
+use Rattle.endpoint.proofs.Laws.Search.{lowest-some}
+use Rattle.endpoint.proofs.Laws.Receive.{found_none, found_some, found_among, deliver_refused, deliver_pending, deliver_unbound, deliver_bad, deliver_good}
 use borrow.Author.Rules.{rules}
 use Rattle.endpoint.proofs.receive.deliver.Statement.{statement}
 use Rattle.endpoint.proofs.receive.deliver.Tie as tie

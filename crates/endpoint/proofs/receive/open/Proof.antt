@@ -1,11 +1,11 @@
 -- `endpoint::receive::open` meets its contract, exit by exit.
 use Prim.Native.Nat.{min}
 use mathlib.Core.Path.{◌≡◌, ◌∙◌, sym}
-use Rattle.wire.specs.Laws.Ipv4.{ipv4_bounds, ipv4_start}
+use Rattle.wire.proofs.Laws.Ipv4.{ipv4_bounds, ipv4_start}
 use Rattle.endpoint.specs.Config.{has_address}
 use Rattle.endpoint.specs.declared.answer.Drop.TheVariants as D
 use Rattle.endpoint.specs.Search.{lowest, found_of}
-use Rattle.endpoint.specs.Laws.Receive.{found_none, found_some, found_among, open_memory, open_ip_lem, open_destination, open_unlisted, open_peer_lem}
+use Rattle.endpoint.proofs.Laws.Receive.{found_none, found_some, found_among, open_memory, open_ip_lem, open_destination, open_unlisted, open_peer_lem}
 use borrow.Author.Rules.{rules}
 use Rattle.endpoint.proofs.receive.open.Statement.{statement}
 use Rattle.endpoint.proofs.receive.open.Tie as tie

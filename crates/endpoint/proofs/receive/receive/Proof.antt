@@ -4,8 +4,8 @@ use mathlib.Core.Path.{◌∙◌, ap}
 use lib.ListN.{length}
 use native.Mathlib.Omega.{arith}
 use Rattle.endpoint.specs.Receive.{Step, receipt_of}
-use Rattle.endpoint.specs.Laws.Receive.{open_below, settled_is, settled_out}
-use Rattle.endpoint.specs.Laws.Promises.{receive_promised}
+use Rattle.endpoint.proofs.Laws.Receive.{open_below, settled_is, settled_out}
+use Rattle.endpoint.proofs.Laws.Promises.{receive_promised}
 use borrow.Author.Rules.{rules}
 use Rattle.endpoint.proofs.receive.receive.Statement.{statement}
 use Rattle.endpoint.proofs.receive.receive.Tie as tie

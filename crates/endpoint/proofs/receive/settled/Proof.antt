@@ -3,7 +3,7 @@ use Prim.Native.Nat.{◌<◌, ◌≤◌}
 use mathlib.Core.Path.{◌∙◌}
 use native.Mathlib.Omega.{arith}
 use lib.ListN.{length}
-use Rattle.endpoint.specs.Laws.Receive.{lies_complete, settled-rejected, settled-pending, settled_memory, settled-complete}
+use Rattle.endpoint.proofs.Laws.Receive.{lies_complete, settled-rejected, settled-pending, settled_memory, settled-complete}
 use borrow.Author.Rules.{rules}
 use Rattle.endpoint.proofs.receive.settled.Statement.{statement}
 use Rattle.endpoint.proofs.receive.settled.Tie as tie

@@ -1,5 +1,5 @@
 -- `endpoint::receive::take` meets its contract.
-use Rattle.endpoint.specs.Laws.Receive.{lies_taken, pass_refused, pass-frame, segment_out}
+use Rattle.endpoint.proofs.Laws.Receive.{lies_taken, pass_refused, pass-frame, segment_out}
 use borrow.Author.Rules.{rules}
 use Rattle.endpoint.proofs.receive.take.Statement.{statement}
 use Rattle.endpoint.proofs.receive.take.Tie as tie

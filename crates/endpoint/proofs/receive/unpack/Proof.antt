@@ -3,9 +3,9 @@ use Prim.Native.Nat.{◌+◌, ◌-◌, ◌≤◌}
 use mathlib.Core.Path.{◌∙◌, sym, ap}
 use native.Mathlib.Omega.{arith}
 use lib.ListN.{drop, length-drop, length-take}
-use Rattle.wire.specs.Laws.Bytes.{part_is}
-use Rattle.wire.specs.Laws.Carriage.{tunnel_within, segment-within}
-use Rattle.endpoint.specs.Laws.Receive.{content_refused, content_tunnel, content_segment}
+use Rattle.wire.proofs.Laws.Bytes.{part_is}
+use Rattle.wire.proofs.Laws.Carriage.{tunnel_within, segment-within}
+use Rattle.endpoint.proofs.Laws.Receive.{content_refused, content_tunnel, content_segment}
 use Rattle.endpoint.specs.declared.receive.Content.TheVariants as A
 use borrow.Author.Rules.{rules}
 use Rattle.endpoint.proofs.receive.unpack.Statement.{statement}

@@ -4,8 +4,8 @@ use mathlib.Core.Bool.{false}
 use Prim.Native.Nat.{ℕ, ◌+◌, ◌≤◌, ◌<◌, ◌-◌, ◌%◌}
 use native.Mathlib.Omega.{arith}
 use Rattle.endpoint.specs.Config.{binds, most_bindings}
-use Rattle.lookup.specs.Laws.Search.{more_not}
-use Rattle.endpoint.specs.Laws.Search.{found_at, found_nothing}
+use Rattle.lookup.proofs.Laws.Search.{more_not}
+use Rattle.endpoint.proofs.Laws.Search.{found_at, found_nothing}
 use Rattle.endpoint.proofs.search.find_binding.Statement.{statement}
 use Rattle.endpoint.proofs.search.find_binding.Tie as tie
 

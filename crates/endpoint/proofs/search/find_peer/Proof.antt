@@ -4,8 +4,8 @@ use mathlib.Core.Bool.{false}
 use Prim.Native.Nat.{ℕ, ◌≤◌, ◌<◌, ◌-◌}
 use native.Mathlib.Omega.{arith}
 use Rattle.endpoint.specs.Config.{has_address}
-use Rattle.lookup.specs.Laws.Search.{more_not}
-use Rattle.endpoint.specs.Laws.Search.{found_at, found_nothing, has_address_lem, other-address}
+use Rattle.lookup.proofs.Laws.Search.{more_not}
+use Rattle.endpoint.proofs.Laws.Search.{found_at, found_nothing, has_address_lem, other-address}
 use Rattle.endpoint.proofs.search.find_peer.Statement.{statement}
 use Rattle.endpoint.proofs.search.find_peer.Tie as tie
 use Rattle.reassembly.specs.Slots.{most_peers}

@@ -3,7 +3,7 @@ use mathlib.Core.Path.{◌∙◌, sym, ap}
 use Prim.Native.Nat.{ℕ}
 use lib.Dec.{eqb}
 use borrow.Author.Rules.{rules}
-use Rattle.endpoint.specs.Laws.Search.{other_network, other_kind, binds_owner}
+use Rattle.endpoint.proofs.Laws.Search.{other_network, other_kind, binds_owner}
 use Rattle.endpoint.proofs.search.is_binding.Statement.{statement}
 use Rattle.endpoint.proofs.search.is_binding.Tie as tie
 

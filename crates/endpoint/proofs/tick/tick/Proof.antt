@@ -7,8 +7,8 @@ use Rattle.endpoint.specs.declared.answer.Tick.TheVariants as T
 use Rattle.endpoint.specs.declared.config.Endpoint.{Endpoint}
 use Rattle.endpoint.specs.declared.tick.TickResult.{TickResult}
 use Rattle.endpoint.specs.Config.{with_rows}
-use Rattle.endpoint.specs.Laws.Promises.{tick_promised}
-use Rattle.endpoint.specs.Laws.Tick.{older_before, none-older, one_older_lem, all-older}
+use Rattle.endpoint.proofs.Laws.Promises.{tick_promised}
+use Rattle.endpoint.proofs.Laws.Tick.{older_before, none-older, one_older_lem, all-older}
 use Rattle.endpoint.proofs.Sizes.{eight_rows}
 use Rattle.endpoint.proofs.tick.tick.Statement.{statement}
 use Rattle.endpoint.proofs.tick.tick.Tie as tie

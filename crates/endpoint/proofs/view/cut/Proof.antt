@@ -1,6 +1,6 @@
 -- `view::cut` meets its contract: the place's flag says which length counts.
 use mathlib.Core.Path.{◌∙◌}
-use Rattle.endpoint.specs.Laws.View.{cut_memory, cut-packet}
+use Rattle.endpoint.proofs.Laws.View.{cut_memory, cut-packet}
 use borrow.Author.Rules.{rules}
 use Rattle.endpoint.proofs.view.cut.Statement.{statement}
 use Rattle.endpoint.proofs.view.cut.Tie as tie

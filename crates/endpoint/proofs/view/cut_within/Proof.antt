@@ -1,6 +1,6 @@
 -- `view::cut_within` meets its contract: the tests say whether the sum of start and length is within the room.
 use native.Mathlib.Omega.{arith}
-use Rattle.endpoint.specs.Laws.View.{cut_past, cut_fits}
+use Rattle.endpoint.proofs.Laws.View.{cut_past, cut_fits}
 use Rattle.endpoint.proofs.view.cut_within.Statement.{statement}
 use Rattle.endpoint.proofs.view.cut_within.Tie as tie
 

@@ -6,7 +6,7 @@ use native.Mathlib.Omega.{arith}
 use borrow.Author.Tests.{lt-leb, le-leb}
 use lib.ListN.{length}
 use borrow.Author.Rules.{rules}
-use Rattle.reassembly.specs.Laws.Answers.{part-fits, part_past}
+use Rattle.reassembly.proofs.Laws.Answers.{part-fits, part_past}
 use Rattle.endpoint.proofs.view.slice-bounds.Statement.{statement}
 use Rattle.endpoint.proofs.view.slice-bounds.Tie as tie
 

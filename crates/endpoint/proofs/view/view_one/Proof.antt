@@ -1,7 +1,7 @@
 -- `view::view_one` meets its contract: the place's flag picks the slice, and `part` gives the part of it.
 use mathlib.Core.Path.{◌∙◌, sym}
 use borrow.Author.Rules.{rules}
-use Rattle.reassembly.specs.Laws.Answers.{view_packet, view_memory}
+use Rattle.reassembly.proofs.Laws.Answers.{view_packet, view_memory}
 use Rattle.endpoint.proofs.view.view_one.Statement.{statement}
 use Rattle.endpoint.proofs.view.view_one.Tie as tie
 

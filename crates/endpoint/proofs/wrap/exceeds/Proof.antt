@@ -1,5 +1,5 @@
 -- `endpoint::wrap::exceeds` meets its contract.
-use Rattle.endpoint.specs.Laws.WrapExits.{exceeds-vxlan, exceeds-nvgre, exceeds-stt}
+use Rattle.endpoint.proofs.Laws.WrapExits.{exceeds-vxlan, exceeds-nvgre, exceeds-stt}
 use borrow.Author.Rules.{rules}
 use Rattle.endpoint.proofs.wrap.exceeds.Statement.{statement}
 use Rattle.endpoint.proofs.wrap.exceeds.Tie as tie

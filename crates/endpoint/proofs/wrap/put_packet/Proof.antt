@@ -3,7 +3,7 @@ use Prim.Native.Nat.{◌+◌, ◌*◌, ◌-◌, ◌<◌}
 use lib.ListN.{length}
 use native.Mathlib.Omega.{arith}
 use Rattle.endpoint.specs.Wrap.{segments_of}
-use Rattle.endpoint.specs.Laws.WrapExits.{stt-room, stt-begins, put-vxlan, put-nvgre, put-stt}
+use Rattle.endpoint.proofs.Laws.WrapExits.{stt-room, stt-begins, put-vxlan, put-nvgre, put-stt}
 use borrow.Author.Rules.{rules}
 use Rattle.endpoint.proofs.wrap.put_packet.Statement.{statement}
 use Rattle.endpoint.proofs.wrap.put_packet.Tie as tie

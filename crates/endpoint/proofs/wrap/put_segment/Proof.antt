@@ -1,7 +1,7 @@
 -- `endpoint::wrap::put_segment` meets its contract.
 use mathlib.Core.Path.{ap}
 use Prim.Native.Nat.{ℕ, ◌*◌, ◌-◌}
-use Rattle.endpoint.specs.Laws.WrapExits.{put-piece}
+use Rattle.endpoint.proofs.Laws.WrapExits.{put-piece}
 use borrow.Author.Rules.{rules}
 use Rattle.endpoint.proofs.wrap.put_segment.Statement.{statement}
 use Rattle.endpoint.proofs.wrap.put_segment.Tie as tie

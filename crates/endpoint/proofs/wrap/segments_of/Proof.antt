@@ -1,6 +1,6 @@
 -- `endpoint::wrap::segments_of` meets its contract.
 use native.Mathlib.Omega.{arith}
-use Rattle.endpoint.specs.Laws.WrapExits.{segments-vxlan, segments-nvgre, segments-none, segments-stt}
+use Rattle.endpoint.proofs.Laws.WrapExits.{segments-vxlan, segments-nvgre, segments-none, segments-stt}
 use borrow.Author.Rules.{rules}
 use Rattle.endpoint.proofs.wrap.segments_of.Statement.{statement}
 use Rattle.endpoint.proofs.wrap.segments_of.Tie as tie

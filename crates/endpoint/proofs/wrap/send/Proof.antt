@@ -4,9 +4,9 @@ use mathlib.Core.Path.{◌≡◌, ◌∙◌, sym}
 use lib.ListN.{length}
 use native.Mathlib.Omega.{arith}
 use Rattle.wire.specs.Frame.{IsFrame}
-use Rattle.wire.specs.Laws.Frame.{sound}
+use Rattle.wire.proofs.Laws.Frame.{sound}
 use Rattle.endpoint.specs.Wrap.{segments_of}
-use Rattle.endpoint.specs.Laws.WrapExits.{send_frame, send_mtu, send_segment, send_output, send_written}
+use Rattle.endpoint.proofs.Laws.WrapExits.{send_frame, send_mtu, send_segment, send_output, send_written}
 use borrow.Author.Rules.{rules}
 use Rattle.endpoint.proofs.wrap.send.Statement.{statement}
 use Rattle.endpoint.proofs.wrap.send.Tie as tie

@@ -1,8 +1,8 @@
 -- `endpoint::wrap::wrap` meets its contract: that of `wrap_on`, lent this endpoint's columns.
 use mathlib.Core.Path.{◌∙◌, ap}
 use Rattle.endpoint.specs.Wrap.{Wrote}
-use Rattle.endpoint.specs.Laws.WrapExits.{wrap_lent}
-use Rattle.endpoint.specs.Laws.Promises.{wrap_promised}
+use Rattle.endpoint.proofs.Laws.WrapExits.{wrap_lent}
+use Rattle.endpoint.proofs.Laws.Promises.{wrap_promised}
 use borrow.Author.Rules.{rules}
 use Rattle.endpoint.proofs.wrap.wrap.Statement.{statement}
 use Rattle.endpoint.proofs.wrap.wrap.Tie as tie

@@ -7,7 +7,7 @@ use lib.ListN.{get_or}
 use Rattle.endpoint.specs.declared.config.Endpoint.{Endpoint}
 use Rattle.endpoint.specs.Config.{lent, most_bindings}
 use Rattle.endpoint.specs.Wrap.{Wrote}
-use Rattle.endpoint.specs.Laws.WrapExits.{wrap_unlisted, wrap_ownerless, wrap_sends}
+use Rattle.endpoint.proofs.Laws.WrapExits.{wrap_unlisted, wrap_ownerless, wrap_sends}
 use borrow.Author.Rules.{rules}
 use Rattle.endpoint.proofs.wrap.wrap_on.Statement.{statement}
 use Rattle.endpoint.proofs.wrap.wrap_on.Tie as tie

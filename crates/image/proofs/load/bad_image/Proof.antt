@@ -1,6 +1,6 @@
 -- `image::load::bad_image` meets its contract.
 use borrow.Author.Rules.{rules}
-use Rattle.image.specs.Laws.Load.{bad-image_is}
+use Rattle.image.proofs.Laws.Load.{bad-image_is}
 use Rattle.image.proofs.load.bad_image.Statement.{statement}
 use Rattle.image.proofs.load.bad_image.Tie as tie
 

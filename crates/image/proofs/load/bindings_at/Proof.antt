@@ -1,7 +1,7 @@
 -- `image::load::bindings_at` meets its contract.
 use native.Mathlib.Omega.{arith}
 use borrow.Author.Rules.{rules}
-use Rattle.image.specs.Laws.Load.{bindings-at_is}
+use Rattle.image.proofs.Laws.Load.{bindings-at_is}
 use Rattle.image.proofs.load.bindings_at.Statement.{statement}
 use Rattle.image.proofs.load.bindings_at.Tie as tie
 

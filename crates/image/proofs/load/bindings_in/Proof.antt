@@ -1,7 +1,7 @@
 -- `image::load::bindings_in` meets its contract.
 use native.Mathlib.Omega.{arith}
 use borrow.Author.Rules.{rules}
-use Rattle.image.specs.Laws.Load.{bindings_in_is}
+use Rattle.image.proofs.Laws.Load.{bindings_in_is}
 use Rattle.image.proofs.load.bindings_in.Statement.{statement}
 use Rattle.image.proofs.load.bindings_in.Tie as tie
 

@@ -2,7 +2,7 @@
 use native.Mathlib.Omega.{arith}
 use borrow.Author.Rules.{rules}
 use Rattle.image.specs.Image.{letters}
-use Rattle.image.specs.Laws.Load.{other-letters, other-version, ends}
+use Rattle.image.proofs.Laws.Load.{other-letters, other-version, ends}
 use Rattle.image.proofs.load.is_framed.Statement.{statement}
 use Rattle.image.proofs.load.is_framed.Tie as tie
 

@@ -1,6 +1,6 @@
 -- `image::load::list_binding_at` meets its contract.
 use borrow.Author.Rules.{rules}
-use Rattle.image.specs.Laws.Load.{binding_read_lem}
+use Rattle.image.proofs.Laws.Load.{binding_read_lem}
 use Rattle.image.proofs.load.list_binding_at.Statement.{statement}
 use Rattle.image.proofs.load.list_binding_at.Tie as tie
 

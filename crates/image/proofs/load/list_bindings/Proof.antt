@@ -6,9 +6,9 @@ use native.Mathlib.Omega.{arith}
 use borrow.Author.Rules.{rules}
 use Rattle.endpoint.specs.Config.{bindings_of}
 use Rattle.endpoint.specs.Relist.{relisted}
-use Rattle.endpoint.specs.Laws.Relist.{relisted-none}
+use Rattle.endpoint.proofs.Laws.Relist.{relisted-none}
 use Rattle.image.specs.Load.{binding_call}
-use Rattle.image.specs.Laws.Load.{binding_listed, binding_refused, all-bindings}
+use Rattle.image.proofs.Laws.Load.{binding_listed, binding_refused, all-bindings}
 use Rattle.image.proofs.load.list_bindings.Statement.{statement}
 use Rattle.image.proofs.load.list_bindings.Tie as tie
 

@@ -6,10 +6,10 @@ use native.Mathlib.Omega.{arith}
 use borrow.Author.Rules.{rules}
 use Rattle.endpoint.specs.Config.{peers_of}
 use Rattle.endpoint.specs.Relist.{relisted}
-use Rattle.endpoint.specs.Laws.ConfigExits.{list_peer_out}
-use Rattle.endpoint.specs.Laws.Relist.{relisted-none}
+use Rattle.endpoint.proofs.Laws.ConfigExits.{list_peer_out}
+use Rattle.endpoint.proofs.Laws.Relist.{relisted-none}
 use Rattle.image.specs.Load.{peer_call}
-use Rattle.image.specs.Laws.Load.{peer_listed, peer_refused, all-peers}
+use Rattle.image.proofs.Laws.Load.{peer_listed, peer_refused, all-peers}
 use Rattle.image.proofs.load.list_peers.Statement.{statement}
 use Rattle.image.proofs.load.list_peers.Tie as tie
 

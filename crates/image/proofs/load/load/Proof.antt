@@ -2,8 +2,8 @@
 use mathlib.Core.Path.{◌∙◌}
 use borrow.Author.Tests.{not-true, not-false}
 use borrow.Author.Rules.{rules}
-use Rattle.image.specs.Laws.Images.{load_promised}
-use Rattle.image.specs.Laws.Load.{begun_yes, begun_no, not_framed, not_rebuilt, loads}
+use Rattle.image.proofs.Laws.Images.{load_promised}
+use Rattle.image.proofs.Laws.Load.{begun_yes, begun_no, not_framed, not_rebuilt, loads}
 use Rattle.image.proofs.load.load.Statement.{statement}
 use Rattle.image.proofs.load.load.Tie as tie
 

@@ -1,7 +1,7 @@
 -- `image::load::peers_in` meets its contract.
 use native.Mathlib.Omega.{arith}
 use borrow.Author.Rules.{rules}
-use Rattle.image.specs.Laws.Load.{peers_in_is}
+use Rattle.image.proofs.Laws.Load.{peers_in_is}
 use Rattle.image.proofs.load.peers_in.Statement.{statement}
 use Rattle.image.proofs.load.peers_in.Tie as tie
 

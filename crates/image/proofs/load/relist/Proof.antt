@@ -2,7 +2,7 @@
 use mathlib.Core.Path.{◌∙◌}
 use borrow.Author.Tests.{not-true, not-false}
 use borrow.Author.Rules.{rules}
-use Rattle.image.specs.Laws.Load.{not_all-peers, not_all-bindings, all_made}
+use Rattle.image.proofs.Laws.Load.{not_all-peers, not_all-bindings, all_made}
 use Rattle.image.proofs.load.relist.Statement.{statement}
 use Rattle.image.proofs.load.relist.Tie as tie
 

@@ -1,5 +1,5 @@
 -- `image::save::put_binding` meets its contract.
-use Rattle.image.specs.Laws.Save.{binding_put}
+use Rattle.image.proofs.Laws.Save.{binding_put}
 use borrow.Author.Rules.{rules}
 use Rattle.image.proofs.save.put_binding.Statement.{statement}
 use Rattle.image.proofs.save.put_binding.Tie as tie

@@ -7,7 +7,7 @@ use Rattle.wire.specs.Bytes.{laid}
 use Rattle.reassembly.specs.Base.{table}
 use Rattle.image.specs.Image.{binding_row, rows}
 use Rattle.image.specs.Save.{binding_entry}
-use Rattle.image.specs.Laws.Save.{rows-begun, binding_row-put, rows-put}
+use Rattle.image.proofs.Laws.Save.{rows-begun, binding_row-put, rows-put}
 use Rattle.image.proofs.save.put_bindings.Statement.{statement}
 use Rattle.image.proofs.save.put_bindings.Tie as tie
 

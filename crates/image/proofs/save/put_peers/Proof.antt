@@ -6,7 +6,7 @@ use native.Mathlib.Omega.{arith}
 use Rattle.wire.specs.Bytes.{laid}
 use Rattle.reassembly.specs.Base.{table}
 use Rattle.image.specs.Image.{peer_row, rows}
-use Rattle.image.specs.Laws.Save.{rows-begun, peer-put, rows-put}
+use Rattle.image.proofs.Laws.Save.{rows-begun, peer-put, rows-put}
 use Rattle.image.proofs.save.put_peers.Statement.{statement}
 use Rattle.image.proofs.save.put_peers.Tie as tie
 

@@ -1,6 +1,6 @@
 -- `image::save::put_settings` meets its contract.
 use native.Mathlib.Omega.{arith}
-use Rattle.image.specs.Laws.Save.{settings_put}
+use Rattle.image.proofs.Laws.Save.{settings_put}
 use borrow.Author.Rules.{rules}
 use Rattle.image.proofs.save.put_settings.Statement.{statement}
 use Rattle.image.proofs.save.put_settings.Tie as tie

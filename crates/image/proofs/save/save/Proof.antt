@@ -1,6 +1,6 @@
 -- `image::save::save` meets its contract.
-use Rattle.image.specs.Laws.Images.{save_promised}
-use Rattle.image.specs.Laws.Save.{save_whole}
+use Rattle.image.proofs.Laws.Images.{save_promised}
+use Rattle.image.proofs.Laws.Save.{save_whole}
 use borrow.Author.Rules.{rules}
 use Rattle.image.proofs.save.save.Statement.{statement}
 use Rattle.image.proofs.save.save.Tie as tie

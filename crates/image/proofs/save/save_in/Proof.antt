@@ -1,6 +1,6 @@
 -- `image::save::save_in` meets its contract.
 use native.Mathlib.Omega.{arith}
-use Rattle.image.specs.Laws.Save.{lent_not_started, lent-too_short, lent_written}
+use Rattle.image.proofs.Laws.Save.{lent_not_started, lent-too_short, lent_written}
 use borrow.Author.Rules.{rules}
 use Rattle.image.proofs.save.save_in.Statement.{statement}
 use Rattle.image.proofs.save.save_in.Tie as tie

@@ -2,7 +2,7 @@
 use mathlib.Core.Path.{◌≡◌, ◌∙◌, sym, ap}
 use Prim.Native.Nat.{ℕ}
 use Rattle.endpoint.specs.Answer.{config_code}
-use Rattle.endpoint.specs.Laws.Answer.{number_code, refused_code}
+use Rattle.endpoint.proofs.Laws.Answer.{number_code, refused_code}
 use Rattle.endpoint.specs.declared.answer.Added.TheVariants as A
 use Rattle.endpoint.specs.declared.answer.ConfigRefusal.{ConfigRefusal}
 use Rattle.niulassenc.specs.Answer.{addition_of}

@@ -2,7 +2,7 @@
 use mathlib.Core.Path.{◌∙◌, sym, ap}
 use Prim.Native.Nat.{ℕ}
 use Rattle.image.specs.Answer.{save_values_of}
-use Rattle.image.specs.Laws.Answer.{written_values, refused_values}
+use Rattle.image.proofs.Laws.Answer.{written_values, refused_values}
 use Rattle.image.specs.declared.answer.Saved.{Saved}
 use Rattle.niulassenc.specs.Answer.{saving_of}
 use borrow.Author.Rules.{rules}

@@ -10,7 +10,7 @@ use Rattle.niulassenc.specs.Answer.{writing_of}
 use borrow.Author.Rules.{rules}
 use Rattle.niulassenc.proofs.answer.flat_wrapped.Statement.{statement}
 use Rattle.niulassenc.proofs.answer.flat_wrapped.Tie as tie
-use Rattle.endpoint.specs.Laws.Answer.{written_values, refused_values}
+use Rattle.endpoint.proofs.Laws.Answer.{written_values, refused_values}
 
 enum-known-answer : tie.Need-enum-known-answer
 enum-known-answer c = search rules

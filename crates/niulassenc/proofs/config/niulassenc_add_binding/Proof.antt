@@ -47,11 +47,11 @@ use denote.Triple.Clauses.{ensured, lasts}
 use denote.Exit.{yes}
 use Rattle.endpoint.specs.declared.config.Endpoint.{Endpoint}
 use Rattle.endpoint.specs.Config.{bindings_of, add_binding_of, most_bindings}
-use Rattle.endpoint.specs.Laws.ConfigExits.{with_bindings}
+use Rattle.endpoint.proofs.Laws.ConfigExits.{with_bindings}
 use Rattle.endpoint.specs.contracts.config.Endpoint as T
 use Rattle.endpoint.proofs.config.Endpoint.TheLaws as T'
 use Rattle.niulassenc.specs.Answer.{addition_of}
-use Rattle.niulassenc.specs.Laws.Config.{binding_out, binding_left}
+use Rattle.niulassenc.proofs.Laws.Config.{binding_out, binding_left}
 use Rattle.niulassenc.specs.declared.answer.Addition.{Addition}
 use Rattle.niulassenc.proofs.Columns.{peers_fit}
 use Rattle.niulassenc.proofs.Fields.{BindingsNames, BindingsLent, BindingsOwed, lends_bindings, bindings-over}

@@ -47,11 +47,11 @@ use denote.Triple.Clauses.{ensured, lasts}
 use denote.Exit.{yes}
 use Rattle.endpoint.specs.declared.config.Endpoint.{Endpoint}
 use Rattle.endpoint.specs.Config.{peers_of, add_peer_of}
-use Rattle.endpoint.specs.Laws.ConfigExits.{with_peers}
+use Rattle.endpoint.proofs.Laws.ConfigExits.{with_peers}
 use Rattle.endpoint.specs.contracts.config.Endpoint as T
 use Rattle.endpoint.proofs.config.Endpoint.TheLaws as T'
 use Rattle.niulassenc.specs.Answer.{addition_of}
-use Rattle.niulassenc.specs.Laws.Config.{peer_out, peer-left}
+use Rattle.niulassenc.proofs.Laws.Config.{peer_out, peer-left}
 use Rattle.niulassenc.specs.declared.answer.Addition.{Addition}
 use Rattle.niulassenc.proofs.Columns.{own_fits, port_fits}
 use Rattle.niulassenc.proofs.Fields.{PeersNames, PeersLent, PeersOwed, lends_peers, peers-over}

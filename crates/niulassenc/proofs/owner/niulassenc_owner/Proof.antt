@@ -46,7 +46,7 @@ use Rattle.endpoint.specs.contracts.config.Endpoint as T
 use Rattle.endpoint.proofs.config.Endpoint.TheLaws as T'
 use Rattle.niulassenc.specs.Answer.{or_none}
 use Rattle.niulassenc.specs.Owner.{owner_in}
-use Rattle.niulassenc.specs.Laws.Owner.{owner_out}
+use Rattle.niulassenc.proofs.Laws.Owner.{owner_out}
 use Rattle.niulassenc.proofs.Columns.{Field, col, bindings_fit, lends_owners}
 use Rattle.niulassenc.proofs.Offsets.{binding_count_at, owners_at, Owners}
 use Rattle.niulassenc.specs.contracts.owner.owner_in as reading

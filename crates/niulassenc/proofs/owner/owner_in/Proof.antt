@@ -2,7 +2,7 @@
 use mathlib.Core.Path.{◌∙◌}
 use native.Mathlib.Omega.{arith}
 use borrow.Author.Rules.{rules}
-use Rattle.niulassenc.specs.Laws.Owner.{no_such, not_listed, listed}
+use Rattle.niulassenc.proofs.Laws.Owner.{no_such, not_listed, listed}
 use Rattle.niulassenc.proofs.owner.owner_in.Statement.{statement}
 use Rattle.niulassenc.proofs.owner.owner_in.Tie as tie
 

@@ -56,7 +56,7 @@ use Rattle.endpoint.specs.declared.receive.Offer.{Offer}
 use Rattle.endpoint.specs.Answer.{values_of}
 use Rattle.endpoint.specs.Stages.{opened_by, delivered_by}
 use Rattle.niulassenc.specs.Answer.{flat_of}
-use Rattle.niulassenc.specs.Laws.Receive.{Took, arrival_listed, received_out}
+use Rattle.niulassenc.proofs.Laws.Receive.{Took, arrival_listed, received_out}
 use Rattle.niulassenc.specs.declared.answer.Receipt.{Receipt}
 use Rattle.endpoint.specs.contracts.config.Endpoint as T
 use Rattle.endpoint.specs.contracts.receive.Arrival as S

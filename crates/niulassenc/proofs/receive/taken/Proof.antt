@@ -62,7 +62,7 @@ use Rattle.endpoint.specs.declared.receive.Offer.{Offer}
 use Rattle.endpoint.specs.declared.receive.Changed.{Changed}
 use Rattle.endpoint.specs.Receive.{row_at, with_row}
 use Rattle.endpoint.specs.Stages.{brings_segment, untaken_of, taken_by, changed_of}
-use Rattle.niulassenc.specs.Laws.Receive.{Took, untaken_out}
+use Rattle.niulassenc.proofs.Laws.Receive.{Took, untaken_out}
 use Rattle.endpoint.specs.contracts.config.Endpoint as T
 use Rattle.reassembly.specs.contracts.slot.Peer as R
 use Rattle.reassembly.proofs.slot.Peer.TheLaws as R'

@@ -44,7 +44,7 @@ use denote.Triple.Clauses.{ensured, lasts}
 use denote.Exit.{yes}
 use Rattle.endpoint.specs.declared.config.Endpoint.{Endpoint}
 use Rattle.endpoint.specs.Config.{Config, config_of, lent, most_bindings}
-use Rattle.endpoint.specs.Laws.Config.{config_of-lent}
+use Rattle.endpoint.proofs.Laws.Config.{config_of-lent}
 use Rattle.endpoint.specs.contracts.config.Endpoint as T
 use Rattle.endpoint.proofs.config.Endpoint.TheLaws as T'
 use Rattle.image.specs.Answer.{save_values_of}

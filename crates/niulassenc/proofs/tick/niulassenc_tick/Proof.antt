@@ -58,7 +58,7 @@ use Rattle.endpoint.specs.declared.config.Endpoint.{Endpoint}
 use Rattle.endpoint.specs.declared.tick.TickResult.{TickResult}
 use Rattle.endpoint.specs.Config.{with_rows, tick_of}
 use Rattle.endpoint.specs.Receive.{row_at, with_row}
-use Rattle.endpoint.specs.Laws.Tick.{older_before, none-older, one_older_lem, all-older}
+use Rattle.endpoint.proofs.Laws.Tick.{older_before, none-older, one_older_lem, all-older}
 use Rattle.endpoint.specs.contracts.config.Endpoint as T
 use Rattle.endpoint.proofs.config.Endpoint.TheLaws as T'
 use Rattle.reassembly.specs.contracts.slot.Peer as R
@@ -74,7 +74,7 @@ use Rattle.niulassenc.specs.contracts.tick.niulassenc_tick as f
 use Rattle.niulassenc.proofs.tick.niulassenc_tick.Statement as stated
 use Rattle.niulassenc.proofs.tick.niulassenc_tick.Code as code
 use Rattle.niulassenc.proofs.Offsets.{peers_at}
-use Rattle.endpoint.specs.Laws.Answer.{tick_code_lem}
+use Rattle.endpoint.proofs.Laws.Answer.{tick_code_lem}
 
 abbrev stayed : Stays (f.ended).signature.params (f.ended).kept
 stayed = (stay_ref (0 ∷ []) tt (plain (λ _. T.the_row)), tt)

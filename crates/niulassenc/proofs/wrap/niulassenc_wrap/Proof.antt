@@ -48,7 +48,7 @@ use Rattle.endpoint.specs.declared.config.Endpoint.{Endpoint}
 use Rattle.endpoint.specs.Answer.{wrap_values_of}
 use Rattle.endpoint.specs.Config.{lent, most_bindings}
 use Rattle.endpoint.specs.Wrap.{Wrote, wrap_of}
-use Rattle.endpoint.specs.Laws.WrapExits.{wrap_lent}
+use Rattle.endpoint.proofs.Laws.WrapExits.{wrap_lent}
 use Rattle.endpoint.specs.contracts.config.Endpoint as T
 use Rattle.endpoint.proofs.config.Endpoint.TheLaws as T'
 use Rattle.niulassenc.specs.Answer.{writing_of}

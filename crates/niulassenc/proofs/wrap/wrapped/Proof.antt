@@ -3,7 +3,7 @@ use mathlib.Core.Path.{◌∙◌, ap}
 use Rattle.endpoint.specs.Answer.{wrap_values_of}
 use Rattle.endpoint.specs.declared.answer.Wrapped.{Wrapped}
 use Rattle.niulassenc.specs.Answer.{writing_of}
-use Rattle.niulassenc.specs.Laws.Wrap.{segments_few}
+use Rattle.niulassenc.proofs.Laws.Wrap.{segments_few}
 use borrow.Author.Rules.{rules}
 use Rattle.niulassenc.proofs.wrap.wrapped.Statement.{statement}
 use Rattle.niulassenc.proofs.wrap.wrapped.Tie as tie

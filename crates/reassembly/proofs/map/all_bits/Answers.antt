@@ -4,7 +4,7 @@ use native.Mathlib.Omega.{arith}
 use lib.Bits.{and_le_l}
 use lib.ListN.{get_or}
 use Rattle.reassembly.specs.Base.{all_below}
-use Rattle.reassembly.specs.Laws.Map.{all_whole, all_not, all_end}
+use Rattle.reassembly.proofs.Laws.Map.{all_whole, all_not, all_end}
 use Rattle.reassembly.proofs.map.all_bits.Goals as goal
 
 pub loop-b-init : goal.loop-b-init

@@ -1,6 +1,6 @@
 -- `reassembly::map::any_bit` meets its contract. The loop's invariant: `found` is 0 so long as no bit from a up to byte b is set.
 use native.Mathlib.Omega.{arith}
-use Rattle.reassembly.specs.Laws.Map.{any-only, any-start, any-whole, any-end}
+use Rattle.reassembly.proofs.Laws.Map.{any-only, any-start, any-whole, any-end}
 use Rattle.reassembly.proofs.map.any_bit.Goals as goal
 
 pub returns-then-first-last : goal.returns-then-first-last

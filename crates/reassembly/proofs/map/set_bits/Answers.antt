@@ -5,7 +5,7 @@ use Prim.Native.Nat.{ℕ, ◌+◌, ◌*◌, ◌-◌, ◌/◌}
 use native.Mathlib.Omega.{arith}
 use lib.ListN.{length-set}
 use Rattle.reassembly.specs.Store.{set_bits}
-use Rattle.reassembly.specs.Laws.Map.{set-only, set-start, set-whole, set-end}
+use Rattle.reassembly.proofs.Laws.Map.{set-only, set-start, set-whole, set-end}
 use Rattle.reassembly.proofs.map.set_bits.Goals as goal
 
 nothing : (m : List ℕ) (p : ℕ) → m ≡ set_bits m 0 p (p - p)

@@ -3,8 +3,8 @@ use mathlib.Core.Path.{sym, ◌∙◌}
 use native.Mathlib.Omega.{arith}
 use lib.ListN.{get_or}
 use Rattle.reassembly.specs.Slots.{free, bears}
-use Rattle.lookup.specs.Laws.Search.{more_not}
-use Rattle.reassembly.specs.Laws.Take.{found_at, found_nothing}
+use Rattle.lookup.proofs.Laws.Search.{more_not}
+use Rattle.reassembly.proofs.Laws.Take.{found_at, found_nothing}
 use Rattle.reassembly.proofs.slot.find_pending.Goals as goal
 
 pub loop-s-init : goal.loop-s-init

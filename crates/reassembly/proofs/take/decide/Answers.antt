@@ -5,8 +5,8 @@ use Rattle.reassembly.specs.Slots.{Slot, bears, most_slots}
 use native.Mathlib.Omega.{arith}
 use mathlib.Core.List.{List}
 use Rattle.reassembly.specs.Take.{Seg, seg_of, Fits}
-use Rattle.reassembly.specs.Laws.Take.{decide_empty, decide_short, decide_long, decide_past, decide_other, decide_further, decide_full, decide_open}
-use Rattle.reassembly.specs.Laws.Take.{found-slot}
+use Rattle.reassembly.proofs.Laws.Take.{decide_empty, decide_short, decide_long, decide_past, decide_other, decide_further, decide_full, decide_open}
+use Rattle.reassembly.proofs.Laws.Take.{found-slot}
 use Rattle.reassembly.proofs.take.decide.Goals as goal
 use Rattle.reassembly.proofs.take.decide.Goals.{Else-segment-end}
 

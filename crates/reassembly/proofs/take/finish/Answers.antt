@@ -1,6 +1,6 @@
 -- `reassembly::take::finish` meets its contract.
 use Rattle.reassembly.specs.Take.{slot_no}
-use Rattle.reassembly.specs.Laws.Take.{finish-complete, finish-pending}
+use Rattle.reassembly.proofs.Laws.Take.{finish-complete, finish-pending}
 use Rattle.reassembly.proofs.take.finish.Goals as goal
 
 pub returns-then-all_received : goal.returns-then-all_received

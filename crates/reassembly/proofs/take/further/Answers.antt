@@ -1,7 +1,7 @@
 -- `reassembly::take::further` meets its contract.
 use Rattle.reassembly.specs.Take.{slot_no}
 use Rattle.reassembly.specs.Take.{seg_of}
-use Rattle.reassembly.specs.Laws.Take.{further_refused, further-stored}
+use Rattle.reassembly.proofs.Laws.Take.{further_refused, further-stored}
 use Rattle.reassembly.proofs.take.further.Goals as goal
 
 pub returns-then-some_received : goal.returns-then-some_received

@@ -1,7 +1,7 @@
 -- `reassembly::take::open` meets its contract.
 use Rattle.reassembly.specs.Take.{slot_no}
 use Rattle.reassembly.specs.Take.{seg_of}
-use Rattle.reassembly.specs.Laws.Take.{open_stored}
+use Rattle.reassembly.proofs.Laws.Take.{open_stored}
 use Rattle.reassembly.proofs.take.open.Goals as goal
 
 pub returns : goal.returns

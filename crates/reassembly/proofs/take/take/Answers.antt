@@ -1,7 +1,7 @@
 -- `reassembly::take::take` meets its contract: each way out cites its law.
 use mathlib.Core.Path.{sym, ◌∙◌}
 use Rattle.reassembly.specs.Take.{seg_of}
-use Rattle.reassembly.specs.Laws.Take.{no_peer, no_memory, take-rejected, take-further, take_open, further_is, open_is}
+use Rattle.reassembly.proofs.Laws.Take.{no_peer, no_memory, take-rejected, take-further, take_open, further_is, open_is}
 use Rattle.reassembly.proofs.take.take.Goals as goal
 
 pub returns-then-peer-ge-PEERS : goal.returns-then-peer-ge-PEERS

@@ -3,7 +3,7 @@ use mathlib.Core.Path.{◌≡◌}
 use Prim.Native.Nat.{◌≤◌, ◌*◌, ◌-◌}
 use native.Mathlib.Omega.{arith}
 use Rattle.reference.specs.Layout.{begins}
-use Rattle.reference.specs.Laws.Places.{begins-none, begins-more}
+use Rattle.reference.proofs.Laws.Places.{begins-none, begins-more}
 use Rattle.reference.proofs.buffer.begin_of.Statement.{statement}
 use Rattle.reference.proofs.buffer.begin_of.Tie as tie
 

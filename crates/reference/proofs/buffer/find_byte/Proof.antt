@@ -7,9 +7,9 @@ use Prim.Native.Nat.{ℕ, ◌≤◌, ◌<◌, ◌*◌, ◌-◌}
 use native.Mathlib.Omega.{arith}
 use lib.ListN.{get_or}
 use borrow.Author.Rules.{rules}
-use Rattle.reassembly.specs.Laws.Base.{either}
+use Rattle.reassembly.proofs.Laws.Base.{either}
 use Rattle.reference.specs.Layout.{no_extent, kept, begins, has_byte, place_in, found_byte}
-use Rattle.reference.specs.Laws.Places.{begins-none, begins-more, place_none, place_here, place_kept, place_inside-none, place_inside, has_low, has_high}
+use Rattle.reference.proofs.Laws.Places.{begins-none, begins-more, place_none, place_here, place_kept, place_inside-none, place_inside, has_low, has_high}
 use Rattle.reference.specs.declared.buffer.Extent.{Extent}
 use Rattle.reference.proofs.buffer.find_byte.Statement.{statement}
 use Rattle.reference.proofs.buffer.find_byte.Tie as tie

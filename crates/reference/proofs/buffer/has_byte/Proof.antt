@@ -1,6 +1,6 @@
 -- `reference::buffer::has_byte` meets its contract.
 use borrow.Author.Rules.{rules}
-use Rattle.reference.specs.Laws.Places.{has-before, has-from}
+use Rattle.reference.proofs.Laws.Places.{has-before, has-from}
 use Rattle.reference.proofs.buffer.has_byte.Statement.{statement}
 use Rattle.reference.proofs.buffer.has_byte.Tie as tie
 

@@ -7,7 +7,7 @@ use lib.ListN.{length, take, length-set}
 use borrow.Author.Rules.{rules}
 use Rattle.reference.specs.Reassembler.{rebuilt}
 use Rattle.reference.specs.Layout.{kept, place_in, parts_in}
-use Rattle.reference.specs.Laws.Places.{found_place, no_place, byte_missing, byte_there, rebuilt-none, rebuilt-more, rebuilds_not, rebuilds_all}
+use Rattle.reference.proofs.Laws.Places.{found_place, no_place, byte_missing, byte_there, rebuilt-none, rebuilt-more, rebuilds_not, rebuilds_all}
 use Rattle.reference.proofs.buffer.rebuild.Statement.{statement}
 use Rattle.reference.proofs.buffer.rebuild.Tie as tie
 

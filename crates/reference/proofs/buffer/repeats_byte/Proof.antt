@@ -4,11 +4,11 @@ use mathlib.Core.Bool.{false}
 use Prim.Native.Nat.{ℕ, ◌<◌, ◌+◌, ◌-◌}
 use native.Mathlib.Omega.{arith}
 use borrow.Author.Rules.{rules}
-use Rattle.lookup.specs.Laws.Search.{more_not}
-use Rattle.reassembly.specs.Laws.Base.{some_below-some, some_below-none}
+use Rattle.lookup.proofs.Laws.Search.{more_not}
+use Rattle.reassembly.proofs.Laws.Base.{some_below-some, some_below-none}
 use Rattle.reference.specs.Reassembler.{is_some}
 use Rattle.reference.specs.Layout.{kept, place_in}
-use Rattle.reference.specs.Laws.Places.{is_there, not_there}
+use Rattle.reference.proofs.Laws.Places.{is_there, not_there}
 use Rattle.reference.proofs.buffer.repeats_byte.Statement.{statement}
 use Rattle.reference.proofs.buffer.repeats_byte.Tie as tie
 

@@ -1,6 +1,6 @@
 -- `reference::buffer::store` meets its contract.
 use borrow.Author.Rules.{rules}
-use Rattle.reference.specs.Laws.Places.{not_stored}
+use Rattle.reference.proofs.Laws.Places.{not_stored}
 use Rattle.reference.proofs.Lent.{written}
 use Rattle.reference.proofs.buffer.store.Statement.{statement}
 use Rattle.reference.proofs.buffer.store.Tie as tie

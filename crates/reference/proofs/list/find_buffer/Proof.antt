@@ -5,9 +5,9 @@ use Prim.Native.Nat.{ℕ, ◌<◌, ◌-◌}
 use native.Mathlib.Omega.{arith}
 use borrow.Author.Rules.{rules}
 use borrow.Author.Tests.{ne_eqb}
-use Rattle.lookup.specs.Laws.Search.{more_not}
+use Rattle.lookup.proofs.Laws.Search.{more_not}
 use Rattle.reference.specs.Layout.{bears_at}
-use Rattle.reference.specs.Laws.Lists.{found_buffer_lem, no_buffer_lem, pending_most}
+use Rattle.reference.proofs.Laws.Lists.{found_buffer_lem, no_buffer_lem, pending_most}
 use Rattle.reference.proofs.list.find_buffer.Statement.{statement}
 use Rattle.reference.proofs.list.find_buffer.Tie as tie
 

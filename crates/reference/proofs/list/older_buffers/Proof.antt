@@ -5,9 +5,9 @@ use native.Mathlib.Omega.{arith}
 use lib.ListN.{take, length}
 use Rattle.reference.specs.declared.list.Buffers.{Buffers}
 use borrow.Author.Rules.{rules}
-use Rattle.reassembly.specs.Laws.Base.{either}
+use Rattle.reassembly.proofs.Laws.Base.{either}
 use Rattle.reference.specs.Layout.{buffers_of, older_buffers}
-use Rattle.reference.specs.Laws.Lists.{pending_most, older_begin, older_grows, older_goes, older-room, older-end}
+use Rattle.reference.proofs.Laws.Lists.{pending_most, older_begin, older_grows, older_goes, older-room, older-end}
 use Rattle.reference.proofs.list.older_buffers.Statement.{statement}
 use Rattle.reference.proofs.list.older_buffers.Tie as tie
 

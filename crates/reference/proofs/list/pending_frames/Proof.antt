@@ -1,7 +1,7 @@
 -- `reference::list::pending_frames` meets its contract.
 use mathlib.Core.Path.{◌∙◌}
 use borrow.Author.Rules.{rules}
-use Rattle.reference.specs.Laws.Lists.{pending_count}
+use Rattle.reference.proofs.Laws.Lists.{pending_count}
 use Rattle.reference.proofs.Sizes.{room_for_frames}
 use Rattle.reference.proofs.list.pending_frames.Statement.{statement}
 use Rattle.reference.proofs.list.pending_frames.Tie as tie

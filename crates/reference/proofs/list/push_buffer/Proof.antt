@@ -2,7 +2,7 @@
 use mathlib.Core.Path.{refl}
 use native.Mathlib.Omega.{arith}
 use borrow.Author.Rules.{rules}
-use Rattle.reference.specs.Laws.Lists.{pushed}
+use Rattle.reference.proofs.Laws.Lists.{pushed}
 use Rattle.reference.proofs.Sizes.{room_for_frames}
 use Rattle.reference.proofs.list.push_buffer.Statement.{statement}
 use Rattle.reference.proofs.list.push_buffer.Tie as tie

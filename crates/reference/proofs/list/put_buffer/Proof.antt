@@ -3,7 +3,7 @@ use mathlib.Core.Path.{refl, sym, ◌∙◌}
 use Prim.Native.Nat.{ℕ, ◌<◌}
 use native.Mathlib.Omega.{arith}
 use borrow.Author.Rules.{rules}
-use Rattle.reference.specs.Laws.Lists.{pending_most, at-pending, no_buffer-found, put_last, put_there}
+use Rattle.reference.proofs.Laws.Lists.{pending_most, at-pending, no_buffer-found, put_last, put_there}
 use Rattle.reference.proofs.list.put_buffer.Statement.{statement}
 use Rattle.reference.proofs.list.put_buffer.Tie as tie
 

@@ -2,7 +2,7 @@
 use mathlib.Core.Path.{sym, ◌∙◌}
 use borrow.Author.Rules.{rules}
 use borrow.Author.Tests.{not-true, not-false}
-use Rattle.reference.specs.Laws.Lists.{spare_0, spare_1, spare_2, spare_3}
+use Rattle.reference.proofs.Laws.Lists.{spare_0, spare_1, spare_2, spare_3}
 use Rattle.reference.proofs.list.spare_block.Statement.{statement}
 use Rattle.reference.proofs.list.spare_block.Tie as tie
 

@@ -6,10 +6,10 @@ use native.Mathlib.Omega.{arith}
 use lib.Dec.{eqb}
 use lib.ListN.{get_or}
 use borrow.Author.Tests.{ne_eqb}
-use Rattle.lookup.specs.Laws.Search.{more_not}
+use Rattle.lookup.proofs.Laws.Search.{more_not}
 use borrow.Author.Rules.{rules}
 use Rattle.reference.specs.Layout.{no_buffer}
-use Rattle.reference.specs.Laws.Lists.{in_use, not_in_use, pending_most}
+use Rattle.reference.proofs.Laws.Lists.{in_use, not_in_use, pending_most}
 use Rattle.reference.proofs.list.uses_block.Statement.{statement}
 use Rattle.reference.proofs.list.uses_block.Tie as tie
 

@@ -4,10 +4,10 @@ use Prim.Native.Nat.{◌≤◌, ◌<◌, ◌-◌}
 use native.Mathlib.Omega.{arith}
 use lib.ListN.{take, length}
 use borrow.Author.Rules.{rules}
-use Rattle.reassembly.specs.Laws.Base.{either}
+use Rattle.reassembly.proofs.Laws.Base.{either}
 use Rattle.reference.specs.Keyed.{without}
 use Rattle.reference.specs.Layout.{identifier_in, buffers_of}
-use Rattle.reference.specs.Laws.Lists.{pending_most, without_begin, without-kept, without_gone, without-room, without_end}
+use Rattle.reference.proofs.Laws.Lists.{pending_most, without_begin, without-kept, without_gone, without-room, without_end}
 use Rattle.reference.proofs.list.without_buffer.Statement.{statement}
 use Rattle.reference.proofs.list.without_buffer.Tie as tie
 

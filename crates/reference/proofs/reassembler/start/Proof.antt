@@ -1,6 +1,6 @@
 -- `reference::reassembler::start` meets its contract.
 use mathlib.Core.Path.{refl}
-use Rattle.reference.specs.Laws.Tick.{begun_is}
+use Rattle.reference.proofs.Laws.Tick.{begun_is}
 use borrow.Author.Rules.{rules}
 use Rattle.reference.proofs.reassembler.start.Statement.{statement}
 use Rattle.reference.proofs.reassembler.start.Tie as tie

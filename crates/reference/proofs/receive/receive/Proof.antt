@@ -6,13 +6,13 @@ use mathlib.Core.List.{[], ◌∷◌}
 use native.Mathlib.Omega.{arith}
 use denote.Enum.Declared.{tag_of}
 use types.Run.{OneOf}
-use Rattle.reassembly.specs.Laws.Base.{either}
+use Rattle.reassembly.proofs.Laws.Base.{either}
 use Rattle.endpoint.specs.Stages.{brings_segment}
-use Rattle.endpoint.specs.Laws.Receive.{open_below}
+use Rattle.endpoint.proofs.Laws.Receive.{open_below}
 use Rattle.endpoint.specs.declared.receive.Content.{Content}
 use Rattle.endpoint.specs.declared.receive.Content.TheVariants as A
 use Rattle.endpoint.specs.contracts.receive.Content as C
-use Rattle.reference.specs.Laws.Receive.{small_out, untaken_out, segment_out}
+use Rattle.reference.proofs.Laws.Receive.{small_out, untaken_out, segment_out}
 use borrow.Author.Rules.{rules}
 use Rattle.reference.proofs.receive.receive.Statement.{statement}
 use Rattle.reference.proofs.receive.receive.Tie as tie

@@ -1,5 +1,5 @@
 -- `reference::receive::settle` meets its contract.
-use Rattle.reference.specs.Laws.Receive.{settle_rejected, settle_many, settle_pending, settle_complete}
+use Rattle.reference.proofs.Laws.Receive.{settle_rejected, settle_many, settle_pending, settle_complete}
 use borrow.Author.Rules.{rules}
 use Rattle.reference.proofs.receive.settle.Statement.{statement}
 use Rattle.reference.proofs.receive.settle.Tie as tie

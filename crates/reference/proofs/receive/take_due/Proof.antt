@@ -1,8 +1,8 @@
 -- `reference::receive::take_due` meets its contract.
 use mathlib.Core.Path.{refl, ◌∙◌}
 use mathlib.Core.Bool.{false}
-use Rattle.reassembly.specs.Laws.Answers.{view_packet}
-use Rattle.reference.specs.Laws.Receive.{due_out}
+use Rattle.reassembly.proofs.Laws.Answers.{view_packet}
+use Rattle.reference.proofs.Laws.Receive.{due_out}
 use borrow.Author.Rules.{rules}
 use Rattle.reference.proofs.receive.take_due.Statement.{statement}
 use Rattle.reference.proofs.receive.take_due.Tie as tie

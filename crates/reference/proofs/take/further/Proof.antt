@@ -5,7 +5,7 @@ use native.Mathlib.Omega.{arith}
 use Rattle.reassembly.specs.Take.{seg_of}
 use Rattle.reference.specs.Reassembler.{most_segments}
 use Rattle.reference.specs.Layout.{kept, buffers_of}
-use Rattle.reference.specs.Laws.Take.{repeats_places, found-room, further_differs, further-repeats, further-many, further_joins}
+use Rattle.reference.proofs.Laws.Take.{repeats_places, found-room, further_differs, further-repeats, further-many, further_joins}
 use borrow.Author.Rules.{rules}
 use Rattle.reference.proofs.take.further.Statement.{statement}
 use Rattle.reference.proofs.take.further.Tie as tie

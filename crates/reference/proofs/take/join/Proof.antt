@@ -8,7 +8,7 @@ use lib.Seq.{length-take-le}
 use Rattle.reassembly.specs.Take.{seg_of}
 use Rattle.reference.specs.Keyed.{find}
 use Rattle.reference.specs.Layout.{kept, begins, block_at, identifier_in, buffers_of}
-use Rattle.reference.specs.Laws.Take.{joined-waits, joined-complete}
+use Rattle.reference.proofs.Laws.Take.{joined-waits, joined-complete}
 use Rattle.reference.specs.declared.buffer.Buffer.{Buffer}
 use borrow.Author.Rules.{rules}
 use Rattle.reference.proofs.take.join.Statement.{statement}

@@ -4,7 +4,7 @@ use Prim.Native.Nat.{ℕ}
 use native.Mathlib.Omega.{arith}
 use Rattle.reassembly.specs.Take.{seg_of}
 use Rattle.reference.specs.Layout.{blank}
-use Rattle.reference.specs.Laws.Take.{opened-full, opened_joins}
+use Rattle.reference.proofs.Laws.Take.{opened-full, opened_joins}
 use borrow.Author.Rules.{rules}
 use Rattle.reference.proofs.take.open.Statement.{statement}
 use Rattle.reference.proofs.take.open.Tie as tie

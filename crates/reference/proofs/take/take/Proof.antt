@@ -4,8 +4,8 @@ use native.Mathlib.Omega.{arith}
 use lib.ListN.{get_or}
 use Rattle.reassembly.specs.Take.{seg_of, Fits}
 use Rattle.reference.specs.Layout.{no_buffer}
-use Rattle.reference.specs.Laws.Take.{taken-empty, taken-short, taken_long, taken_past, as_new, as_further}
-use Rattle.reference.specs.Laws.Lists.{pending_most, at-pending, buffer_found, no_buffer-found}
+use Rattle.reference.proofs.Laws.Take.{taken-empty, taken-short, taken_long, taken_past, as_new, as_further}
+use Rattle.reference.proofs.Laws.Lists.{pending_most, at-pending, buffer_found, no_buffer-found}
 use borrow.Author.Rules.{rules}
 use Rattle.reference.proofs.take.take.Statement.{statement}
 use Rattle.reference.proofs.take.take.Tie as tie

@@ -5,7 +5,7 @@ use Prim.Native.Nat.{◌≤◌, ◌<◌, ◌-◌}
 use native.Mathlib.Omega.{arith}
 use lib.ListN.{length}
 use Rattle.reference.specs.Layout.{buffers_of}
-use Rattle.reference.specs.Laws.Tick.{older_peers, none-older, one_older_lem, all-older, ticked_is}
+use Rattle.reference.proofs.Laws.Tick.{older_peers, none-older, one_older_lem, all-older, ticked_is}
 use Rattle.reference.proofs.Sizes.{room_for_peers}
 use Rattle.reference.proofs.tick.tick.Statement.{statement}
 use Rattle.reference.proofs.tick.tick.Tie as tie

@@ -4,7 +4,7 @@ use mathlib.Core.Path.{◌≡◌}
 use native.Mathlib.Omega.{arith}
 use lib.ListN.{length}
 use borrow.Author.Rules.{rules}
-use Rattle.rerun.specs.Laws.Line.{counts}
+use Rattle.rerun.proofs.Laws.Line.{counts}
 use Rattle.rerun.proofs.files.read_front.Statement.{statement}
 use Rattle.rerun.proofs.files.read_front.Tie as tie
 

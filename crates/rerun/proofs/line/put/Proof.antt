@@ -1,7 +1,7 @@
 -- `rerun::line::put` meets its contract.
 use native.Mathlib.Omega.{arith}
 use mathlib.Core.Path.{refl}
-use Rattle.rerun.specs.Laws.Line.{put_text}
+use Rattle.rerun.proofs.Laws.Line.{put_text}
 use borrow.Author.Rules.{rules}
 use Rattle.rerun.proofs.line.put.Statement.{statement}
 use Rattle.rerun.proofs.line.put.Tie as tie

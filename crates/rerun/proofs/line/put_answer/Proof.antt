@@ -6,7 +6,7 @@ use mathlib.Core.Option.{none}
 use native.Mathlib.Omega.{arith}
 use lib.ListN.{length, take}
 use Rattle.rerun.specs.Rerun.{answered, line_text}
-use Rattle.rerun.specs.Laws.Line.{delivered_line, pending_line, dropped_line}
+use Rattle.rerun.proofs.Laws.Line.{delivered_line, pending_line, dropped_line}
 use borrow.Author.Rules.{rules}
 use Rattle.rerun.proofs.line.put_answer.Statement.{statement}
 use Rattle.rerun.proofs.line.put_answer.Tie as tie

@@ -2,7 +2,7 @@
 use mathlib.Core.Path.{◌≡◌, ◌∙◌}
 use native.Mathlib.Omega.{arith}
 use lib.ListN.{length}
-use Rattle.rerun.specs.Laws.Line.{counts, bad_settings_text}
+use Rattle.rerun.proofs.Laws.Line.{counts, bad_settings_text}
 use borrow.Author.Rules.{rules}
 use Rattle.rerun.proofs.line.put_bad_settings.Statement.{statement}
 use Rattle.rerun.proofs.line.put_bad_settings.Tie as tie

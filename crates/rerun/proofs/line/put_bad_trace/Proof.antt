@@ -2,7 +2,7 @@
 use mathlib.Core.Path.{◌≡◌, ◌∙◌}
 use native.Mathlib.Omega.{arith}
 use lib.ListN.{length}
-use Rattle.rerun.specs.Laws.Line.{counts, bad-trace_text}
+use Rattle.rerun.proofs.Laws.Line.{counts, bad-trace_text}
 use borrow.Author.Rules.{rules}
 use Rattle.rerun.proofs.line.put_bad_trace.Statement.{statement}
 use Rattle.rerun.proofs.line.put_bad_trace.Tie as tie

@@ -6,7 +6,7 @@ use native.Mathlib.Omega.{arith}
 use lib.ListN.{length, take}
 use Rattle.io.specs.Digits.{last_digits}
 use Rattle.rerun.specs.Rerun.{decimal}
-use Rattle.rerun.specs.Laws.Decimal.{decimal_is}
+use Rattle.rerun.proofs.Laws.Decimal.{decimal_is}
 use borrow.Author.Rules.{rules}
 use Rattle.rerun.proofs.line.put_number.Statement.{statement}
 use Rattle.rerun.proofs.line.put_number.Tie as tie

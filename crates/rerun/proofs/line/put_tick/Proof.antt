@@ -1,7 +1,7 @@
 -- `rerun::line::put_tick` meets its contract.
 use native.Mathlib.Omega.{arith}
 use lib.ListN.{take}
-use Rattle.rerun.specs.Laws.Line.{tick_line}
+use Rattle.rerun.proofs.Laws.Line.{tick_line}
 use borrow.Author.Rules.{rules}
 use Rattle.rerun.proofs.line.put_tick.Statement.{statement}
 use Rattle.rerun.proofs.line.put_tick.Tie as tie

@@ -7,7 +7,7 @@ use lib.ListN.{length, take, drop}
 use borrow.Author.Rules.{rules}
 use Rattle.endpoint.specs.declared.tick.TickResult.{TickResult}
 use Rattle.rerun.specs.Standing.{goes_on, Ready}
-use Rattle.rerun.specs.Laws.Standing.{stands, standing_is, ready-parts, tick_turned, packet_turned, left_is, left, on, through, fed_by}
+use Rattle.rerun.proofs.Laws.Standing.{stands, standing_is, ready-parts, tick_turned, packet_turned, left_is, left, on, through, fed_by}
 use Rattle.rerun.proofs.run.advance.Statement.{statement}
 use Rattle.rerun.proofs.run.advance.Tie as tie
 

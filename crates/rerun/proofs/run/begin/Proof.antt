@@ -1,6 +1,6 @@
 -- `rerun::run::begin` meets its contract.
 use mathlib.Core.Path.{refl}
-use Rattle.rerun.specs.Laws.Standing.{begin_ready, begin_goes}
+use Rattle.rerun.proofs.Laws.Standing.{begin_ready, begin_goes}
 use Rattle.rerun.proofs.run.begin.Statement.{statement}
 use Rattle.rerun.proofs.run.begin.Tie as tie
 

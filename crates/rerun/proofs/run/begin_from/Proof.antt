@@ -1,8 +1,8 @@
 -- `rerun::run::begin_from` meets its contract.
 use mathlib.Core.Path.{◌≡◌}
 use native.Mathlib.Omega.{arith}
-use Rattle.rerun.specs.Laws.Standing.{started-good, started-bad}
-use Rattle.rerun.specs.Laws.Line.{counts}
+use Rattle.rerun.proofs.Laws.Standing.{started-good, started-bad}
+use Rattle.rerun.proofs.Laws.Line.{counts}
 use borrow.Author.Rules.{rules}
 use Rattle.rerun.proofs.run.begin_from.Statement.{statement}
 use Rattle.rerun.proofs.run.begin_from.Tie as tie

@@ -2,9 +2,9 @@
 use mathlib.Core.Path.{◌≡◌}
 use native.Mathlib.Omega.{arith}
 use borrow.Author.Tests.{eqb-true, eqb-false}
-use Rattle.wire.specs.Laws.Bytes.{case_b}
+use Rattle.wire.proofs.Laws.Bytes.{case_b}
 use lib.Dec.{eqb}
-use Rattle.rerun.specs.Laws.Standing.{ends_elsewhere, ends_between, ends_within}
+use Rattle.rerun.proofs.Laws.Standing.{ends_elsewhere, ends_between, ends_within}
 use Rattle.rerun.proofs.run.ends_badly.Statement.{statement}
 use Rattle.rerun.proofs.run.ends_badly.Tie as tie
 

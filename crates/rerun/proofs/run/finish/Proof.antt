@@ -6,7 +6,7 @@ use native.Mathlib.Omega.{arith}
 use borrow.Author.Tests.{not-true, not-false}
 use Rattle.wire.specs.Checks.{pick}
 use Rattle.rerun.specs.Rerun.{bad_trace}
-use Rattle.rerun.specs.Laws.Line.{counts}
+use Rattle.rerun.proofs.Laws.Line.{counts}
 use borrow.Author.Rules.{rules}
 use Rattle.rerun.proofs.run.finish.Statement.{statement}
 use Rattle.rerun.proofs.run.finish.Tie as tie

@@ -1,8 +1,8 @@
 -- `rerun::run::read_header_step` meets its contract.
 use mathlib.Core.Path.{sym, ◌∙◌}
 use lib.ListN.{take}
-use Rattle.trace.specs.Laws.Reader.{never_tick, never_packet}
-use Rattle.rerun.specs.Laws.Standing.{stepped-header, stepped-header-more, stepped-header-broken}
+use Rattle.trace.proofs.Laws.Reader.{never_tick, never_packet}
+use Rattle.rerun.proofs.Laws.Standing.{stepped-header, stepped-header-more, stepped-header-broken}
 use borrow.Author.Rules.{rules}
 use Rattle.rerun.proofs.run.read_header_step.Statement.{statement}
 use Rattle.rerun.proofs.run.read_header_step.Tie as tie

@@ -1,8 +1,8 @@
 -- `rerun::run::read_record_step` meets its contract.
 use mathlib.Core.Path.{sym, ◌∙◌}
 use lib.ListN.{take}
-use Rattle.trace.specs.Laws.Reader.{never_header}
-use Rattle.rerun.specs.Laws.Standing.{stepped-more, stepped-tick, stepped-packet, stepped-broken}
+use Rattle.trace.proofs.Laws.Reader.{never_header}
+use Rattle.rerun.proofs.Laws.Standing.{stepped-more, stepped-tick, stepped-packet, stepped-broken}
 use borrow.Author.Rules.{rules}
 use Rattle.rerun.proofs.run.read_record_step.Statement.{statement}
 use Rattle.rerun.proofs.run.read_record_step.Tie as tie

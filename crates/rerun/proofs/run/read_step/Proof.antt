@@ -3,7 +3,7 @@ use Prim.Native.Nat.{ℕ}
 use mathlib.Core.Path.{refl, sym, subst}
 use lib.ListN.{take}
 use Rattle.rerun.specs.Standing.{Stepped}
-use Rattle.rerun.specs.Laws.Standing.{stepped-nowhere}
+use Rattle.rerun.proofs.Laws.Standing.{stepped-nowhere}
 use Rattle.rerun.proofs.run.read_step.Statement.{statement}
 use Rattle.rerun.proofs.run.read_step.Tie as tie
 

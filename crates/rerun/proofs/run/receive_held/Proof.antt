@@ -4,9 +4,9 @@ use mathlib.Core.Path.{◌∙◌}
 use mathlib.Core.List.{List}
 use native.Mathlib.Omega.{arith}
 use lib.ListN.{length, take, drop}
-use Rattle.wire.specs.Laws.Bytes.{drop-take}
+use Rattle.wire.proofs.Laws.Bytes.{drop-take}
 use Rattle.reassembly.specs.Slots.{most_peers}
-use Rattle.endpoint.specs.Laws.Receive.{open_below, settled_is, settled_out}
+use Rattle.endpoint.proofs.Laws.Receive.{open_below, settled_is, settled_out}
 use borrow.Author.Rules.{rules}
 use Rattle.rerun.proofs.run.receive_held.Statement.{statement}
 use Rattle.rerun.proofs.run.receive_held.Tie as tie

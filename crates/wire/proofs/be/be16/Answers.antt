@@ -1,6 +1,6 @@
 -- `wire::be::be16` meets its contract.
 use Rattle.std.proofs.Common.{arith}
-use Rattle.wire.specs.Laws.Bytes.{be_split}
+use Rattle.wire.proofs.Laws.Bytes.{be_split}
 use Rattle.wire.proofs.be.be16.Goals as goal
 
 pub returns : goal.returns

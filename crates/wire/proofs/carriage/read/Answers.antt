@@ -1,6 +1,6 @@
 -- `wire::carriage::read` meets its contract.
 use Rattle.std.proofs.Common.{◌∙◌}
-use Rattle.wire.specs.Laws.Carriage.{by_udp, by_gre, by_tcp, by_none}
+use Rattle.wire.proofs.Laws.Carriage.{by_udp, by_gre, by_tcp, by_none}
 use Rattle.wire.proofs.carriage.read.Goals as goal
 
 pub returns-then-protocol-eq-PROTOCOL_UDP : goal.returns-then-protocol-eq-PROTOCOL_UDP

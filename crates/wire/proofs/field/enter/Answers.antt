@@ -1,6 +1,6 @@
 -- `wire::field::enter` meets its contract.
 use Rattle.std.proofs.Common.{sym, ◌∙◌, leb-true}
-use Rattle.wire.specs.Laws.Field.{entered_no, entered_yes}
+use Rattle.wire.proofs.Laws.Field.{entered_no, entered_yes}
 use Rattle.wire.proofs.field.enter.Goals as goal
 
 pub returns-then-not-lies : goal.returns-then-not-lies

@@ -1,6 +1,6 @@
 -- `wire::field::get16` meets its contract.
 use Rattle.std.proofs.Common.{sym, ◌∙◌, leb-true}
-use Rattle.wire.specs.Laws.Field.{field_no, field_yes}
+use Rattle.wire.proofs.Laws.Field.{field_no, field_yes}
 use Rattle.wire.proofs.field.get16.Goals as goal
 
 pub returns-then-not-lies : goal.returns-then-not-lies

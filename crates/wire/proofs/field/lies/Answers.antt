@@ -1,6 +1,6 @@
 -- `wire::field::lies` meets its contract.
 use Rattle.std.proofs.Common.{arith}
-use Rattle.wire.specs.Laws.Field.{lies_no, lies_is}
+use Rattle.wire.proofs.Laws.Field.{lies_no, lies_is}
 use Rattle.wire.proofs.field.lies.Goals as goal
 
 pub returns-then-length-n : goal.returns-then-length-n

@@ -1,8 +1,8 @@
 -- `wire::frame::read` meets its contract.
 use Rattle.std.proofs.Common.{sym, arith}
-use Rattle.wire.specs.Laws.Checks.{deciding}
+use Rattle.wire.proofs.Laws.Checks.{deciding}
 use Rattle.wire.specs.Frame.{frame_checks}
-use Rattle.wire.specs.Laws.Frame.{frame_exit}
+use Rattle.wire.proofs.Laws.Frame.{frame_exit}
 use Rattle.wire.proofs.frame.read.Goals as goal
 
 pub returns-then-s-lt-FRAME_MIN : goal.returns-then-s-lt-FRAME_MIN

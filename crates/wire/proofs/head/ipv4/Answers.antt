@@ -1,7 +1,7 @@
 -- `wire::head::ipv4` meets its contract.
 use Rattle.std.proofs.Common.{ℕ, List, ap, ◌∙◌, zero-add}
 use Rattle.wire.specs.Sum.{total, ones}
-use Rattle.wire.specs.Laws.Write.{ipv4_head-from}
+use Rattle.wire.proofs.Laws.Write.{ipv4_head-from}
 use Rattle.wire.proofs.head.ipv4.Goals as goal
 
 pub returns : goal.returns

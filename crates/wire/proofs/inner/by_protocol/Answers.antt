@@ -1,6 +1,6 @@
 -- `wire::inner::by_protocol` meets its contract.
 use Rattle.std.proofs.Common.{arith}
-use Rattle.wire.specs.Laws.Inner.{by_tcp, by_udp, by_other}
+use Rattle.wire.proofs.Laws.Inner.{by_tcp, by_udp, by_other}
 use Rattle.wire.proofs.inner.by_protocol.Goals as goal
 
 pub returns-then-protocol-eq-PROTOCOL_TCP : goal.returns-then-protocol-eq-PROTOCOL_TCP

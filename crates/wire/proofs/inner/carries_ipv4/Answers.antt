@@ -1,6 +1,6 @@
 -- `wire::inner::carries_ipv4` meets its contract.
 use Rattle.std.proofs.Common.{sym, refl, arith}
-use Rattle.wire.specs.Laws.Inner.{ipv4_is, no_ipv4}
+use Rattle.wire.proofs.Laws.Inner.{ipv4_is, no_ipv4}
 use Rattle.wire.proofs.inner.carries_ipv4.Goals as goal
 
 pub returns-then-frame-lt-FRAME_MIN : goal.returns-then-frame-lt-FRAME_MIN

@@ -1,6 +1,6 @@
 -- `wire::inner::carries_ipv6` meets its contract.
 use Rattle.std.proofs.Common.{sym, arith}
-use Rattle.wire.specs.Laws.Inner.{ipv6_is, no_ipv6}
+use Rattle.wire.proofs.Laws.Inner.{ipv6_is, no_ipv6}
 use Rattle.wire.proofs.inner.carries_ipv6.Goals as goal
 
 pub returns-then-frame-lt-FRAME_MIN : goal.returns-then-frame-lt-FRAME_MIN

@@ -1,6 +1,6 @@
 -- `wire::inner::carries_transport` meets its contract.
 use Rattle.std.proofs.Common.{sym, ◌∙◌}
-use Rattle.wire.specs.Laws.Inner.{test-found, test-none}
+use Rattle.wire.proofs.Laws.Inner.{test-found, test-none}
 use Rattle.wire.proofs.inner.carries_transport.Goals as goal
 
 pub returns-in-Found : goal.returns-in-Found

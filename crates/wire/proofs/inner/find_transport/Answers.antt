@@ -1,6 +1,6 @@
 -- `wire::inner::find_transport` meets its contract.
 use Rattle.std.proofs.Common.{sym, ◌∙◌, arith}
-use Rattle.wire.specs.Laws.Inner.{ipv4_says, ipv6_says, by_ipv4_lem, by_ipv6, by_none}
+use Rattle.wire.proofs.Laws.Inner.{ipv4_says, ipv6_says, by_ipv4_lem, by_ipv6, by_none}
 use Rattle.wire.proofs.inner.find_transport.Goals as goal
 
 pub over_ipv4-requires : goal.over_ipv4-requires

@@ -1,6 +1,6 @@
 -- `wire::inner::hints_of` meets its contract.
 use Rattle.std.proofs.Common.{sym, ◌∙◌}
-use Rattle.wire.specs.Laws.Inner.{hints_by_lem}
+use Rattle.wire.proofs.Laws.Inner.{hints_by_lem}
 use Rattle.wire.proofs.inner.hints_of.Goals as goal
 
 pub returns-in-Found : goal.returns-in-Found

@@ -1,6 +1,6 @@
 -- `wire::inner::over_ipv4` meets its contract.
 use Rattle.std.proofs.Common.{◌∙◌, arith}
-use Rattle.wire.specs.Laws.Inner.{first_fragment, later_fragment, over_first, over-later}
+use Rattle.wire.proofs.Laws.Inner.{first_fragment, later_fragment, over_first, over-later}
 use Rattle.wire.proofs.inner.over_ipv4.Goals as goal
 
 pub returns-then-low5-ne0 : goal.returns-then-low5-ne0

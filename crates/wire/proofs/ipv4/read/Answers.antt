@@ -2,9 +2,9 @@
 use Rattle.std.proofs.Common.{◌≡◌, ℕ, ◌*◌, ◌%◌, List, take, sym, ap, ◌∙◌, zero-add, arith, length-take, length-take-le}
 use Rattle.wire.specs.Bytes.{be_at}
 use Rattle.wire.specs.Sum.{total, ones}
-use Rattle.wire.specs.Laws.Checks.{deciding}
+use Rattle.wire.proofs.Laws.Checks.{deciding}
 use Rattle.wire.specs.Ipv4.{ipv4_checks}
-use Rattle.wire.specs.Laws.Ipv4.{ipv4_exit, ipv4_accepts}
+use Rattle.wire.proofs.Laws.Ipv4.{ipv4_exit, ipv4_accepts}
 use Rattle.wire.proofs.ipv4.read.Goals as goal
 use Rattle.wire.proofs.ipv4.read.Goals.{After-sum}
 

@@ -1,6 +1,6 @@
 -- `wire::le::le32` meets its contract.
 use Rattle.std.proofs.Common.{arith}
-use Rattle.wire.specs.Laws.Le.{le_split}
+use Rattle.wire.proofs.Laws.Le.{le_split}
 use Rattle.wire.proofs.le.le32.Goals as goal
 
 pub returns : goal.returns

@@ -1,6 +1,6 @@
 -- `wire::le::le8` meets its contract.
 use Rattle.std.proofs.Common.{sym}
-use Rattle.wire.specs.Laws.Le.{le_one}
+use Rattle.wire.proofs.Laws.Le.{le_one}
 use Rattle.wire.proofs.le.le8.Goals as goal
 
 pub returns : goal.returns

@@ -1,8 +1,8 @@
 -- `wire::nvgre::read` meets its contract.
 use Rattle.std.proofs.Common.{sym, arith}
-use Rattle.wire.specs.Laws.Checks.{deciding}
+use Rattle.wire.proofs.Laws.Checks.{deciding}
 use Rattle.wire.specs.Nvgre.{nvgre_checks}
-use Rattle.wire.specs.Laws.Nvgre.{nvgre-flags, nvgre_exit, nvgre_accepts}
+use Rattle.wire.proofs.Laws.Nvgre.{nvgre-flags, nvgre_exit, nvgre_accepts}
 use Rattle.wire.proofs.nvgre.read.Goals as goal
 
 pub returns-then-s-lt-GRE_HEADER : goal.returns-then-s-lt-GRE_HEADER

@@ -1,6 +1,6 @@
 -- `wire::ones::add` meets its contract.
 use Rattle.std.proofs.Common.{refl, arith}
-use Rattle.wire.specs.Laws.Ones.{add_carry}
+use Rattle.wire.proofs.Laws.Ones.{add_carry}
 use Rattle.wire.proofs.ones.add.Goals as goal
 
 pub returns : goal.returns

@@ -1,6 +1,6 @@
 -- `wire::ones::around64` meets its contract.
 use Rattle.std.proofs.Common.{◌^◌, arith}
-use Rattle.wire.specs.Laws.Ones.{around_is}
+use Rattle.wire.proofs.Laws.Ones.{around_is}
 use Rattle.wire.proofs.ones.around64.Goals as goal
 
 pub overflow_add-result : goal.overflow_add-result

@@ -1,6 +1,6 @@
 -- `wire::ones::fold` meets its contract.
 use Rattle.std.proofs.Common.{arith}
-use Rattle.wire.specs.Laws.Ones.{fold_is}
+use Rattle.wire.proofs.Laws.Ones.{fold_is}
 use Rattle.wire.proofs.ones.fold.Goals as goal
 
 pub returns : goal.returns

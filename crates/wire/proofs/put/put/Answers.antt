@@ -1,6 +1,6 @@
 -- `wire::put::put` meets its contract.
 use Rattle.std.proofs.Common.{arith}
-use Rattle.wire.specs.Laws.Bytes.{laid_part}
+use Rattle.wire.proofs.Laws.Bytes.{laid_part}
 use Rattle.wire.proofs.put.put.Goals as goal
 
 pub returns : goal.returns

@@ -1,8 +1,8 @@
 -- `wire::segment::read` meets its contract.
 use Rattle.std.proofs.Common.{sym, arith}
-use Rattle.wire.specs.Laws.Checks.{deciding}
+use Rattle.wire.proofs.Laws.Checks.{deciding}
 use Rattle.wire.specs.Segment.{segment_checks}
-use Rattle.wire.specs.Laws.Segment.{segment_exit, segment_accepts}
+use Rattle.wire.proofs.Laws.Segment.{segment_exit, segment_accepts}
 use Rattle.wire.proofs.segment.read.Goals as goal
 
 pub returns-then-s-lt-TCP_HEADER : goal.returns-then-s-lt-TCP_HEADER

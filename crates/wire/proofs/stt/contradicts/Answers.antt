@@ -1,7 +1,7 @@
 -- `wire::stt::contradicts` meets its contract.
 use Rattle.std.proofs.Common.{◌-◌, length, drop, ap, ◌∙◌, arith, length-drop, take_all}
 use Rattle.wire.specs.Inner.{carries_transport}
-use Rattle.wire.specs.Laws.Stt.{contradicts_not, contradicts_by}
+use Rattle.wire.proofs.Laws.Stt.{contradicts_not, contradicts_by}
 use Rattle.wire.proofs.stt.contradicts.Goals as goal
 
 pub returns-then-low2-ne3 : goal.returns-then-low2-ne3

@@ -1,8 +1,8 @@
 -- `wire::stt::read` meets its contract.
 use Rattle.std.proofs.Common.{sym, ◌∙◌, arith}
-use Rattle.wire.specs.Laws.Checks.{deciding}
+use Rattle.wire.proofs.Laws.Checks.{deciding}
 use Rattle.wire.specs.Stt.{stt_checks}
-use Rattle.wire.specs.Laws.Stt.{stt_exit, stt_accepts}
+use Rattle.wire.proofs.Laws.Stt.{stt_exit, stt_accepts}
 use Rattle.wire.proofs.stt.read.Goals as goal
 
 pub returns-then-s-lt-STT_HEADER : goal.returns-then-s-lt-STT_HEADER

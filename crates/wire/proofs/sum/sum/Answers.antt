@@ -1,7 +1,7 @@
 -- `wire::sum::sum` meets its contract. The invariant of both loops: what was added, with what is left to add, folds to the same as the whole.
 use Rattle.std.proofs.Common.{◌≡◌, ℕ, ◌+◌, ◌*◌, drop, refl, ap, ◌∙◌, arith}
 use Rattle.wire.specs.Sum.{total, ones}
-use Rattle.wire.specs.Laws.Sum.{total_four, total-two, total_one, total-none}
+use Rattle.wire.proofs.Laws.Sum.{total_four, total-two, total_one, total-none}
 use Rattle.wire.proofs.sum.sum.Goals as goal
 
 pub loop-i-init : goal.loop-i-init

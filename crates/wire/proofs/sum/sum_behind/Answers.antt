@@ -1,8 +1,8 @@
 -- `wire::sum::sum_behind` meets its contract.
 use Rattle.std.proofs.Common.{length, ap, ◌∙◌, arith, rules}
 use Rattle.wire.specs.Sum.{swapped}
-use Rattle.wire.specs.Laws.Sum.{pseudo-ones}
-use Rattle.wire.specs.Laws.Le.{rest-none}
+use Rattle.wire.proofs.Laws.Sum.{pseudo-ones}
+use Rattle.wire.proofs.Laws.Le.{rest-none}
 use Rattle.wire.proofs.sum.sum_behind.Goals as goal
 
 pub returns : goal.returns

@@ -1,6 +1,6 @@
 -- `wire::udp::judged` meets its contract.
 use Rattle.std.proofs.Common.{sym, ◌∙◌}
-use Rattle.wire.specs.Laws.Udp.{sum-none, sum-some}
+use Rattle.wire.proofs.Laws.Udp.{sum-none, sum-some}
 use Rattle.wire.proofs.udp.judged.Goals as goal
 
 pub returns-then-be16-eq0 : goal.returns-then-be16-eq0

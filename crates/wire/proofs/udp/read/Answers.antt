@@ -1,8 +1,8 @@
 -- `wire::udp::read` meets its contract.
 use Rattle.std.proofs.Common.{◌-◌, length, drop, sym, ap, ◌∙◌, arith, length-drop, take_all}
-use Rattle.wire.specs.Laws.Checks.{deciding}
+use Rattle.wire.proofs.Laws.Checks.{deciding}
 use Rattle.wire.specs.Udp.{udp_checks}
-use Rattle.wire.specs.Laws.Udp.{udp_exit, udp_accepts}
+use Rattle.wire.proofs.Laws.Udp.{udp_exit, udp_accepts}
 use Rattle.wire.specs.Vxlan.{vxlan_of}
 use Rattle.wire.proofs.udp.read.Goals as goal
 

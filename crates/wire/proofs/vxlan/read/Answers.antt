@@ -1,8 +1,8 @@
 -- `wire::vxlan::read` meets its contract.
 use Rattle.std.proofs.Common.{sym, arith}
-use Rattle.wire.specs.Laws.Checks.{deciding}
+use Rattle.wire.proofs.Laws.Checks.{deciding}
 use Rattle.wire.specs.Vxlan.{vxlan_checks}
-use Rattle.wire.specs.Laws.Vxlan.{vxlan_exit, vxlan_accepts}
+use Rattle.wire.proofs.Laws.Vxlan.{vxlan_exit, vxlan_accepts}
 use Rattle.wire.proofs.vxlan.read.Goals as goal
 
 pub returns-then-s-lt-VXLAN_HEADER : goal.returns-then-s-lt-VXLAN_HEADER

@@ -1,7 +1,7 @@
 -- `wire::wide::by128` meets its contract. The invariant: both sums, with the rest still to be added, fold to the same as the first and all the bytes.
 use Rattle.std.proofs.Common.{◌≡◌, ℕ, ◌-◌, ◌%◌, length, ap, ◌∙◌, add-zero, arith}
 use Rattle.wire.specs.Sum.{with_rest, blocks}
-use Rattle.wire.specs.Laws.Le.{rest-opened, rest-two, rest-carried}
+use Rattle.wire.proofs.Laws.Le.{rest-opened, rest-two, rest-carried}
 use Rattle.wire.proofs.wide.by128.Goals as goal
 
 pub loop-i-init : goal.loop-i-init

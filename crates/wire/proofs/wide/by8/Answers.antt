@@ -1,7 +1,7 @@
 -- `wire::wide::by8` meets its contract.
 use Rattle.std.proofs.Common.{arith}
 use Rattle.wire.specs.Sum.{blocks}
-use Rattle.wire.specs.Laws.Le.{block_none, block_one, rest_around}
+use Rattle.wire.proofs.Laws.Le.{block_none, block_one, rest_around}
 use Rattle.wire.proofs.wide.by8.Goals as goal
 
 pub returns-then-n-lt8 : goal.returns-then-n-lt8

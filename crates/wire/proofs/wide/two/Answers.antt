@@ -1,5 +1,5 @@
 -- `wire::wide::two` meets its contract.
-use Rattle.wire.specs.Laws.Le.{rest_twice}
+use Rattle.wire.proofs.Laws.Le.{rest_twice}
 use Rattle.wire.proofs.wide.two.Goals as goal
 
 pub returns : goal.returns

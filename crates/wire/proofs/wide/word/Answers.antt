@@ -1,5 +1,5 @@
 -- `wire::wide::word` meets its contract.
-use Rattle.wire.specs.Laws.Le.{rest_around}
+use Rattle.wire.proofs.Laws.Le.{rest_around}
 use Rattle.wire.proofs.wide.word.Goals as goal
 
 pub returns : goal.returns

@@ -1,8 +1,8 @@
 -- `wire::write::frame_fits` meets its contract.
 use Rattle.std.proofs.Common.{sym, arith}
-use Rattle.wire.specs.Laws.Checks.{deciding}
+use Rattle.wire.proofs.Laws.Checks.{deciding}
 use Rattle.wire.specs.Write.{fit_checks}
-use Rattle.wire.specs.Laws.Write.{fits_exit}
+use Rattle.wire.proofs.Laws.Write.{fits_exit}
 use Rattle.wire.proofs.write.frame_fits.Goals as goal
 
 pub returns-then-n-lt-FRAME_MIN : goal.returns-then-n-lt-FRAME_MIN

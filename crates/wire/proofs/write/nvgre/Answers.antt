@@ -1,5 +1,5 @@
 -- `wire::write::nvgre` meets its contract.
-use Rattle.wire.specs.Laws.Write.{fits_facts, refused, nvgre-done}
+use Rattle.wire.proofs.Laws.Write.{fits_facts, refused, nvgre-done}
 use Rattle.wire.proofs.write.nvgre.Goals as goal
 
 pub returns-then-not-frame_fits : goal.returns-then-not-frame_fits

@@ -1,5 +1,5 @@
 -- `wire::write::nvgre_packet` meets its contract.
-use Rattle.wire.specs.Laws.Write.{nvgre-written}
+use Rattle.wire.proofs.Laws.Write.{nvgre-written}
 use Rattle.wire.proofs.write.nvgre_packet.Goals as goal
 
 pub returns : goal.returns

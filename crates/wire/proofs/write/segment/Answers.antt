@@ -1,6 +1,6 @@
 -- `wire::write::segment` meets its contract.
 use Rattle.std.proofs.Common.{arith, rules}
-use Rattle.wire.specs.Laws.Write.{segment-fits_facts, refused, segment-done}
+use Rattle.wire.proofs.Laws.Write.{segment-fits_facts, refused, segment-done}
 use Rattle.wire.proofs.write.segment.Goals as goal
 
 pub returns-then-not-segment_fits : goal.returns-then-not-segment_fits

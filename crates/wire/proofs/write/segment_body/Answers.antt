@@ -1,6 +1,6 @@
 -- `wire::write::segment_body` meets its contract.
 use Rattle.std.proofs.Common.{arith}
-use Rattle.wire.specs.Laws.Write.{segment_sealed}
+use Rattle.wire.proofs.Laws.Write.{segment_sealed}
 use Rattle.wire.proofs.write.segment_body.Goals as goal
 
 pub returns : goal.returns

@@ -1,6 +1,6 @@
 -- `wire::write::segment_bytes` meets its contract.
 use Rattle.std.proofs.Common.{arith}
-use Rattle.wire.specs.Laws.Write.{segment-pieces}
+use Rattle.wire.proofs.Laws.Write.{segment-pieces}
 use Rattle.wire.proofs.write.segment_bytes.Goals as goal
 
 pub returns : goal.returns

@@ -1,6 +1,6 @@
 -- `wire::write::segment_packet` meets its contract.
 use Rattle.std.proofs.Common.{refl, arith}
-use Rattle.wire.specs.Laws.Write.{segment_landed}
+use Rattle.wire.proofs.Laws.Write.{segment_landed}
 use Rattle.wire.proofs.write.segment_packet.Goals as goal
 
 pub returns : goal.returns

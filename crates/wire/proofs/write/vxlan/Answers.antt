@@ -1,5 +1,5 @@
 -- `wire::write::vxlan` meets its contract.
-use Rattle.wire.specs.Laws.Write.{fits_facts, refused, vxlan-done}
+use Rattle.wire.proofs.Laws.Write.{fits_facts, refused, vxlan-done}
 use Rattle.wire.proofs.write.vxlan.Goals as goal
 
 pub returns-then-not-frame_fits : goal.returns-then-not-frame_fits

@@ -1,5 +1,5 @@
 -- `wire::write::vxlan_packet` meets its contract.
-use Rattle.wire.specs.Laws.Write.{vxlan-written}
+use Rattle.wire.proofs.Laws.Write.{vxlan-written}
 use Rattle.wire.proofs.write.vxlan_packet.Goals as goal
 
 pub returns : goal.returns
