@@ -10,7 +10,7 @@ pub use Rattle.reassembly.specs.Receive.{view_of}
 -- Where the part begins, a block and an offset in it: at `start` of the slice, or, where the part does not fit, at the packet's start. Numbers
 -- here do not wrap.
 abbrev pub part_start : Bor (List ℕ) → Bor (List ℕ) → ℕ → ℕ → ℕ × ℕ
-part_start packet s start len = cond (leb (start + len) (length s.now)) (s.ref_ptr.0, s.ref_ptr.1 + start) packet.ptr
+part_start packet s start len = cond (leb (start + len) (length s.now)) (s.ref_ptr.0, s.ref_ptr.1 + start) packet.ref_ptr
 
 -- the slice is the one that the place names
 abbrev pub start_of : Bor (List ℕ) → Bor (List ℕ) → Place → ℕ × ℕ

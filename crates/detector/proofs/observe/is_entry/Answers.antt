@@ -1,6 +1,5 @@
 -- `detector::observe::is_entry` meets its contract.
 use mathlib.Core.Path.{sym}
-use borrow.Author.Rules.{rules}
 use Rattle.detector.proofs.Laws.Observe.{other-address, by_tenant}
 use Rattle.detector.proofs.observe.is_entry.Goals as goal
 

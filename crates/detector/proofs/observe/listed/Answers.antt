@@ -1,6 +1,5 @@
 -- `detector::observe::listed` meets its contract.
 use mathlib.Core.Path.{◌∙◌}
-use borrow.Author.Rules.{rules}
 use Rattle.detector.proofs.Laws.Observe.{judged-known, judged-duplicate}
 use Rattle.detector.proofs.observe.listed.Goals as goal
 

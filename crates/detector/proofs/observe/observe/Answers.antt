@@ -1,5 +1,4 @@
 -- `detector::observe::observe` meets its contract: what `observe_in` leaves makes up the detector.
-use borrow.Author.Rules.{rules}
 use Rattle.detector.proofs.Laws.Observe.{together}
 use Rattle.detector.proofs.observe.observe.Goals as goal
 
