@@ -11,7 +11,7 @@ use Rattle.reference.specs.contracts.reassembler.Reassembler as R
 use Rattle.reference.proofs.reassembler.Reassembler.TheLaws as R'
 
 pub room_for_frames : (s : Buffers) → Is P.the_row s (LL.vals P.the_type P'.the_laws s) → length s.buffers ≡ 4
-room_for_frames s is = sym (length-map s.buffers _) ∙ (LL.owed P.the_type P'.the_laws s (LL.vals P.the_type P'.the_laws s) is).0.1.0.1
+room_for_frames s is = sym (length-map s.buffers _) (LL.owed P.the_type P'.the_laws s (LL.vals P.the_type P'.the_laws s) is).0.1.0.1
 
 pub room_for_peers : (r : Reassembler) → Is R.the_row r (LL.vals R.the_type R'.the_laws r) → length r.peers ≡ 8
-room_for_peers r is = sym (length-map r.peers _) ∙ (LL.owed R.the_type R'.the_laws r (LL.vals R.the_type R'.the_laws r) is).1.0.1.0.1
+room_for_peers r is = sym (length-map r.peers _) (LL.owed R.the_type R'.the_laws r (LL.vals R.the_type R'.the_laws r) is).1.0.1.0.1

@@ -14,7 +14,6 @@ use Rattle.reassembly.specs.Base.{table}
 use Rattle.reassembly.specs.Slots.{most_peers}
 use Rattle.reassembly.proofs.Laws.Base.{case_o, clash, table_ext}
 use Rattle.endpoint.specs.Config.{Config, config_of, with_rows, free_row, add_peer, add_binding, set_up, most_bindings}
-use Rattle.endpoint.proofs.Laws.Demand1.{blank}
 use Rattle.endpoint.specs.Demand1.{IsId, InRange, NotStarted, Configured}
 use Rattle.endpoint.specs.Reached.{add, Typed, Reached}
 use Rattle.endpoint.specs.Relist.{started_by, relisted, peer_of, binding_of}
