@@ -3,24 +3,21 @@ ghost use Rattle.std.specs.Prelude.{◌≡◌};
 ghost use Rattle.niulassenc.specs.About.{version_of, endpoint_bytes, detector_bytes};
 
 // 0.6.0: the major number times 65,536, the minor number times 256, and the patch.
-#[unsafe(no_mangle)]
-pub extern "C" fn niulassenc_version() -> u32
+pub fn niulassenc_version() -> u32
     ensures { result ≡ version_of 0 6 0 }
 {
     1536
 }
 
 // How many bytes a caller's endpoint takes.
-#[unsafe(no_mangle)]
-pub extern "C" fn niulassenc_endpoint_bytes() -> u32
+pub fn niulassenc_endpoint_bytes() -> u32
     ensures { result ≡ endpoint_bytes }
 {
     1072
 }
 
 // How many bytes a caller's detector takes.
-#[unsafe(no_mangle)]
-pub extern "C" fn niulassenc_detector_bytes() -> u32
+pub fn niulassenc_detector_bytes() -> u32
     ensures { result ≡ detector_bytes }
 {
     1544

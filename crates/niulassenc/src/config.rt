@@ -18,8 +18,7 @@ pub struct Started {
 }
 
 // Starts an endpoint: our own address, the port on which STT is expected, and the largest outer packet that is written.
-#[unsafe(no_mangle)]
-pub extern "C" fn niulassenc_start(own: u32, port: u32, mtu: u32) -> Started
+pub fn niulassenc_start(own: u32, port: u32, mtu: u32) -> Started
     ensures { result ≡ started_of (start_of own port mtu) }
 {
     let started = config::start(own, port, mtu);
@@ -86,8 +85,7 @@ pub(crate) fn binding_added(
 }
 
 // Lists a peer.
-#[unsafe(no_mangle)]
-pub extern "C" fn niulassenc_add_peer(endpoint: &mut Endpoint, address: u32) -> Addition
+pub fn niulassenc_add_peer(endpoint: &mut Endpoint, address: u32) -> Addition
     ensures { (result ≡ addition_of (add_peer_of endpoint.old address).answer)
         × (endpoint.new ≡ (add_peer_of endpoint.old address).endpoint) }
 {
@@ -101,8 +99,7 @@ pub extern "C" fn niulassenc_add_peer(endpoint: &mut Endpoint, address: u32) -> 
 }
 
 // Binds a network of a listed peer to a tenant.
-#[unsafe(no_mangle)]
-pub extern "C" fn niulassenc_add_binding(
+pub fn niulassenc_add_binding(
     endpoint: &mut Endpoint,
     peer: u32,
     kind: u32,

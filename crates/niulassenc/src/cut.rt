@@ -6,8 +6,7 @@ use endpoint::answer::Place;
 use endpoint::view;
 
 // The part of the packet or of the memory, of these lengths, that the place names: the one that a view of it gives (`ViewRule`).
-#[unsafe(no_mangle)]
-pub extern "C" fn niulassenc_cut(
+pub fn niulassenc_cut(
     packet_length: usize,
     memory_length: usize,
     start: usize,

@@ -8,8 +8,7 @@ use detector::observe::{Observation, observe_in};
 use detector::source;
 
 // A detector with no entry.
-#[unsafe(no_mangle)]
-pub extern "C" fn niulassenc_detector_start() -> Detector
+pub fn niulassenc_detector_start() -> Detector
     ensures { result ≡ empty }
 {
     start()
@@ -17,8 +16,7 @@ pub extern "C" fn niulassenc_detector_start() -> Detector
 
 // Observes a delivered frame, by its tenant, the peer that sent it and its source address. Only a new one makes an entry. The detector's own call does it: this
 // one lends the fields on.
-#[unsafe(no_mangle)]
-pub extern "C" fn niulassenc_observe(
+pub fn niulassenc_observe(
     detector: &mut Detector,
     tenant: u16,
     peer: u16,
@@ -39,8 +37,7 @@ pub extern "C" fn niulassenc_observe(
 }
 
 // The source address of a frame, bytes 6 to 11, as a number: 02:00:00:00:00:01 is 0x020000000001. 0 of a frame under 12 bytes.
-#[unsafe(no_mangle)]
-pub extern "C" fn niulassenc_source(frame: &[u8]) -> u64
+pub fn niulassenc_source(frame: &[u8]) -> u64
     ensures { result ≡ source_of frame.now }
 {
     source::source(frame)

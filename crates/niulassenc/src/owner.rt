@@ -30,8 +30,7 @@ pub(crate) fn owner_in(owners: &[u8; BINDINGS], count: u16, binding: u32) -> u16
 }
 
 // The number of the peer that the binding is of; 0xFFFF where no such binding is listed.
-#[unsafe(no_mangle)]
-pub extern "C" fn niulassenc_owner(endpoint: &Endpoint, binding: u32) -> u16
+pub fn niulassenc_owner(endpoint: &Endpoint, binding: u32) -> u16
     ensures { result ≡ or_none (owner_of (config_of endpoint.now) binding) }
 {
     owner_in(&endpoint.owners, endpoint.binding_count, binding)

@@ -105,12 +105,7 @@ pub(crate) fn delivered(
 }
 
 // Receives a packet. The memory is lent to every receive of an endpoint; a delivered STT frame lies there until the next one.
-#[unsafe(no_mangle)]
-pub extern "C" fn niulassenc_receive(
-    endpoint: &mut Endpoint,
-    packet: &[u8],
-    memory: &mut [u8],
-) -> Receipt
+pub fn niulassenc_receive(endpoint: &mut Endpoint, packet: &[u8], memory: &mut [u8]) -> Receipt
     ensures { (result ≡ flat_of (values_of (step_of endpoint.old memory.old packet.now).answer))
         × ((endpoint.new ≡ (receipt_of endpoint.old (step_of endpoint.old memory.old packet.now)).endpoint)
         × (memory.new ≡ (step_of endpoint.old memory.old packet.now).mem)) }

@@ -52,8 +52,7 @@ pub(crate) fn saved<'a>(
 }
 
 // Saves the endpoint's configuration as an image at the front of the output. The endpoint is only read; its pending frames are no part of the image.
-#[unsafe(no_mangle)]
-pub extern "C" fn niulassenc_save(endpoint: &Endpoint, output: &mut [u8]) -> Saving
+pub fn niulassenc_save(endpoint: &Endpoint, output: &mut [u8]) -> Saving
     ensures { (result ≡ saving_of (save_values_of (save_of (config_of endpoint.now) output.old).answer))
         × (output.new ≡ (save_of (config_of endpoint.now) output.old).output) }
 {
@@ -73,8 +72,7 @@ pub extern "C" fn niulassenc_save(endpoint: &Endpoint, output: &mut [u8]) -> Sav
 }
 
 // Makes an endpoint of an image. A bad one gives the endpoint of a refused start, with every number 0.
-#[unsafe(no_mangle)]
-pub extern "C" fn niulassenc_load(image: &[u8]) -> Started
+pub fn niulassenc_load(image: &[u8]) -> Started
     ensures { result ≡ started_of_load (load_of image.now) }
 {
     let loaded = load(image);

@@ -53,8 +53,7 @@ pub(crate) fn wrapped<'a>(
 
 // Writes the packet that carries the frame out on the binding, or that carries its segment of this number, at the front of the output. The
 // endpoint is only read.
-#[unsafe(no_mangle)]
-pub extern "C" fn niulassenc_wrap(
+pub fn niulassenc_wrap(
     endpoint: &Endpoint,
     binding: u32,
     frame: &[u8],

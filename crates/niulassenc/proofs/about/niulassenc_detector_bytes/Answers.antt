@@ -3,15 +3,11 @@ use mathlib.Core.Path.{◌≡◌, refl}
 use prog.Memory.{size}
 use Rattle.detector.proofs.detector.Detector.TheLaws as T'
 use Rattle.niulassenc.specs.About.{detector_bytes}
-use Rattle.niulassenc.proofs.about.niulassenc_detector_bytes.Statement.{statement}
-use Rattle.niulassenc.proofs.about.niulassenc_detector_bytes.Tie as tie
+use Rattle.niulassenc.proofs.about.niulassenc_detector_bytes.Goals as goal
 
 -- as the code is compiled
 laid_out : size T'.mir ≡ detector_bytes
 laid_out = refl
 
-returns : tie.Need-returns
+pub returns : goal.returns
 returns c = refl
-
-pub niulassenc_detector_bytes_spec : {M : Type 1} → statement M
-niulassenc_detector_bytes_spec = tie.close (tie.spec returns)
