@@ -91,7 +91,7 @@ offer_of peer O.Pending size m = B.Pending
 offer_of peer O.NoMemory size m = B.Refused D.MemoryTooSmall
 offer_of peer (O.Complete s) size m =
     let at : ℕ = (most_slots * peer + s) * 1728 in
-    offer_at at (part_of_slice m at size)
+    offer_at at (part m at (at + size))
 
 -- a complete frame lies in the memory
 unfoldable pub Lies : (peer : ℕ) → Outcome → (size : ℕ) → List ℕ → Type 0

@@ -1,5 +1,5 @@
 // Receiving: from an outer packet to a tenant's frame (document 01, "The numbered answers"), in three stages. Each takes what the last one gave.
-ghost use Rattle.std.specs.Prelude.{◌≡◌, ◌≤◌, min, length};
+ghost use Rattle.std.specs.Prelude.{◌+◌, ◌^◌, ◌<◌, ◌≡◌, ◌≤◌, min, length};
 ghost use Rattle.wire.specs.Bytes.{Bytes};
 ghost use Rattle.reassembly.specs.Receive.{part_of_slice};
 ghost use Rattle.reassembly.specs.Slots.{most_peers};
@@ -178,11 +178,11 @@ pub fn open(
     }
 }
 
-// A complete STT frame of `size` bytes that lies in the memory from `at` on: 28, 29. One that the memory does not hold is an empty one, which is refused.
-pub fn complete(memory: &[u8], at: usize, size: usize) -> Offer
-    ensures { result ≡ offer_at at (part_of_slice memory.now at size) }
+// A complete STT frame that lies in the memory from `at` on: 28, 29.
+fn complete(at: usize, frame: &[u8]) -> Offer
+    requires { at + length frame.now < 2 ^ 64 }
+    ensures { result ≡ offer_at at frame.now }
 {
-    let frame = part(memory, memory, at, size);
     let header = wire::stt::read(frame);
     match header {
         SttRead::Refused(r) => Offer::Refused(broken(0, r)),
@@ -198,6 +198,14 @@ pub fn complete(memory: &[u8], at: usize, size: usize) -> Offer
     }
 }
 
+// The same of any part of the memory. One that the memory does not hold is an empty one, which is refused.
+pub fn complete_in(memory: &[u8], at: usize, size: usize) -> Offer
+    ensures { result ≡ offer_at at (part_of_slice memory.now at size) }
+{
+    let frame = part(memory, memory, at, size);
+    complete(at, frame)
+}
+
 // What there is to deliver once a segment is taken, by what taking it gave.
 fn settled(peer: usize, outcome: Outcome, size: u16, memory: &[u8]) -> Offer
     requires { Lies peer outcome size memory.now }
@@ -209,7 +217,8 @@ fn settled(peer: usize, outcome: Outcome, size: u16, memory: &[u8]) -> Offer
         Outcome::NoMemory => Offer::Refused(Drop::MemoryTooSmall),
         Outcome::Complete(s) => {
             let at = (SLOTS * peer + s) * SLOT_BYTES;
-            complete(memory, at, size as usize)
+            let end = at + size as usize;
+            complete(at, &memory[at..end])
         }
     }
 }

@@ -1,5 +1,5 @@
 -- What the functions of `receive` give, over plain values, and the laws by which they add up to `step_of`.
-use Prim.Native.Nat.{ℕ, ◌+◌, ◌-◌, ◌*◌, ◌<◌, ◌≤◌, min}
+use Prim.Native.Nat.{◌^◌, ℕ, ◌+◌, ◌-◌, ◌*◌, ◌<◌, ◌≤◌, min}
 use Rattle.std.specs.Prelude.{◌≡◌, Bool, cond, get_or, take, drop, ltb, leb, eqb}
 use Rattle.std.proofs.Math.Path.{refl, sym, ap}
 use Rattle.std.proofs.Common.{◌∙◌, arith, length-take, length-drop, drop-drop}
@@ -165,10 +165,11 @@ module _ (peer : ℕ) (o : Outcome) (size : ℕ) (m : List ℕ) where
   unfolding offer_of
   settled_memory e = rw e
 
-  pub settled-complete : (s : ℕ) → o ≡ O.Complete s
-      → offer_at ((most_slots * peer + s) * 1728) (part_of_slice m ((most_slots * peer + s) * 1728) size) ≡ offer_of peer o size m
+  pub settled-complete : (s : ℕ) → o ≡ O.Complete s → (frame : List ℕ)
+      → frame ≡ part m ((most_slots * peer + s) * 1728) ((most_slots * peer + s) * 1728 + size)
+      → offer_at ((most_slots * peer + s) * 1728) frame ≡ offer_of peer o size m
   unfolding offer_of
-  settled-complete s e = rw e
+  settled-complete s e frame f = rw (e, f)
 
 -- a segment that was taken: what its outcome tells of the memory
 lies_by : (peer : ℕ) (row : Peer) (m : List ℕ) (g : Seg) (o : Outcome) → (take_in peer row m g).outcome ≡ o
@@ -264,6 +265,11 @@ part_view : (k : List ℕ) (at end : ℕ) → at ≤ end → end ≤ length k �
 part_view k at end l b =
     part-fits k at (end - at) (omega arith) ∙ sym (part_is k at end)
 
+part_from : (k : List ℕ) (at n : ℕ) → at + n ≤ length k → part_of_slice k at n ≡ part k at (at + n)
+part_from k at n f =
+    let size : at + n - at ≡ n = omega arith in
+    part-fits k at n f ∙ ap (λ (x : ℕ). take x (drop at k)) (sym size) ∙ sym (part_is k at (at + n))
+
 -- a part of some bytes lies in the slice
 pub part-inside : (s : List ℕ) (start len : ℕ) → 0 < length (part_of_slice s start len) → start + length (part_of_slice s start len) ≤ length s
 part-inside s start len has =
@@ -271,6 +277,16 @@ part-inside s start len has =
     (λ b. let fits : start + len ≤ length s = leb-true (start + len) (length s) b in omega (arith, part-size s start len fits))
     (λ b. let empty : length (part_of_slice s start len) ≡ 0 = ap (λ (x : List ℕ). length x) (part_past s start len (leb-false (start + len) (length s) b)) in
     absurd (omega arith))
+
+-- where it begins and how long it is: both together are a number of 64 bits
+pub part_room : (s : List ℕ) (start len : ℕ) (frame : List ℕ) → frame ≡ part_of_slice s start len → start < 2 ^ 64 → length s < 2 ^ 64
+    → start + length frame < 2 ^ 64
+part_room s start len frame is fits most =
+    let same : length frame ≡ length (part_of_slice s start len) = ap (λ (x : List ℕ). length x) is in
+    case_b (leb (start + len) (length s))
+    (λ b. let inside : start + len ≤ length s = leb-true (start + len) (length s) b in omega (arith, part-size s start len inside))
+    (λ b. let empty : length (part_of_slice s start len) ≡ 0 = ap (λ (x : List ℕ). length x) (part_past s start len (leb-false (start + len) (length s) b)) in
+    omega arith)
 
 -- so an STT frame that is read lies in the memory, with its header
 pub header-inside : (m : List ℕ) (at n : ℕ) (frame : List ℕ) (context : ℕ) → frame ≡ part_of_slice m at n → stt_of frame ≡ T.Header context
@@ -334,10 +350,12 @@ verdict_out (bad d) i n frame = sym (bad_reply answers d i n frame)
 verdict_out (good t) i n frame = sym (good_reply answers t i n frame)
 
 slot_out : (c : Config) (p : ℕ) (k m : List ℕ) (i n : ℕ) → 18 ≤ n → slot_start i + n ≤ length m → (note : Note)
-    → deliver_of c.networks c.kinds c.owners c.tenants c.bindings p (offer_at (i * 1728) (part_of_slice m (i * 1728) n)) k m
+    → deliver_of c.networks c.kinds c.owners c.tenants c.bindings p (offer_at (i * 1728) (part m (i * 1728) (i * 1728 + n))) k m
     ≡ (frame_answer answers (judge_of c p note (frame_in bytes_of m i n)) i n (frame_in bytes_of m i n)).reply
 slot_out c p k m i n long inside note =
-    ap (λ (at : ℕ). deliver_of c.networks c.kinds c.owners c.tenants c.bindings p (offer_at at (part_of_slice m at n)) k m) (sym (slot-start i))
+    ap (λ (at : ℕ). deliver_of c.networks c.kinds c.owners c.tenants c.bindings p (offer_at at (part m at (at + n))) k m) (sym (slot-start i))
+    ∙ ap (λ (f : List ℕ). deliver_of c.networks c.kinds c.owners c.tenants c.bindings p (offer_at (slot_start i) f) k m)
+    (sym (part_from m (slot_start i) n inside))
     ∙ judged_out c p k m (slot_start i) n long inside note
     ∙ ap (λ (f : List ℕ). answer_at (judge_of c p note f) (record { start = slot_start i + 18; length = n - 18; in_memory = true })) (slot-part m i n inside)
     ∙ verdict_out (judge_of c p note (frame_in bytes_of m i n)) i n (frame_in bytes_of m i n)
