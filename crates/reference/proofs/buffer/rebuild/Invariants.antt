@@ -8,7 +8,10 @@ use Rattle.reference.specs.Layout.{kept, parts_in}
 use Rattle.reference.proofs.buffer.rebuild.Given as goal
 
 abbrev pub invariant-loop-i : goal.invariant-loop-i
-invariant-loop-i l = (l.i ≤ l.n) × (length l.frame ≡ length l.initial.frame) × (rebuilt (parts_in l.b.extents l.memory l.block (kept l.b)) l.i ≡ some (take l.i l.frame))
+invariant-loop-i l =
+    (l.i ≤ l.n)
+    × (length l.frame ≡ length l.initial.frame)
+    × (rebuilt (parts_in l.b.extents l.memory l.block (kept l.b)) l.i ≡ some (take l.i l.frame))
 
 abbrev pub decreases-loop-i : goal.decreases-loop-i
 decreases-loop-i l = l.n - l.i

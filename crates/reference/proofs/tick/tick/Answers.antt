@@ -16,8 +16,11 @@ older_buffers-requires c = tt
 pub loop-p-preserved : goal.loop-p-preserved
 loop-p-preserved c =
     let n = room_for_peers c.args.r c.well_formed.0 in
-    let h : c.loop-p.p < length c.args.r.peers = omega arith in
-    (omega arith, c.loop-p.invariant.1, one_older_lem c.args.r.peers c.loop-p.next.peers c.loop-p.p c.older_buffers.result h c.loop-p.invariant.2 c.older_buffers.ensures)
+    let h : c.loop-p.p < length c.args.r.peers = omega arith in (
+      omega arith,
+      c.loop-p.invariant.1,
+      one_older_lem c.args.r.peers c.loop-p.next.peers c.loop-p.p c.older_buffers.result h c.loop-p.invariant.2 c.older_buffers.ensures,
+    )
 
 pub returns : goal.returns
 returns c =
