@@ -2,7 +2,7 @@
 -- is put into the list, goes, or grows older is read back as the definition's.
 use Rattle.std.specs.Prelude.{◌≡◌, ◌⊎◌, ◌≢◌, ℕ, suc, ◌+◌, ◌*◌, ◌≤◌, ◌<◌, length, ltb}
 use Rattle.std.proofs.Math.Path.{refl, sym}
-use Rattle.std.proofs.Common.{ap, ◌∙◌, inl, inr, arith}
+use Rattle.std.proofs.Common.{ap, subst, ◌∙◌, inl, inr, arith}
 use Rattle.std.proofs.Math.Bool.{true, false}
 use mathlib.Core.List.{List, [], ◌∷◌}
 use Rattle.std.proofs.Math.Option.{Option, none, some}
@@ -130,7 +130,8 @@ this_found id (x ∷ xs) b a e =
     (λ q. let z : some x ≡ some b = rw q at e in
     let y : x ≡ b = cc in
     let i : x.identifier ≡ id = eqb-true x.identifier id q in
-    rw (← y) (inl (i, refl), each_so (Other x) (ThisOr id x.block) xs (λ c d. inr (λ w. d.1 (w ∙ sym i), d.0)) a.0))
+    subst (λ (t : Buffer). Each (ThisOr id t.block) (x ∷ xs)) y
+    (inl (i, refl), each_so (Other x) (ThisOr id x.block) xs (λ c d. inr (λ w. d.1 (w ∙ sym i), d.0)) a.0))
     (λ q. let e' : find identifier_in id xs ≡ some b = rw q at e in
     let d : Other x b = each-find identifier_in (Other x) id xs b a.0 e' in
     (inr (eqb-false x.identifier id q, λ w. d.0 (sym w)), this_found id xs b a.1 e'))

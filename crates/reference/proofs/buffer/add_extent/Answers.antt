@@ -1,6 +1,5 @@
 -- `reference::buffer::add_extent` meets its contract.
 use native.Mathlib.Numerals.{add-one}
-use borrow.Author.Rules.{rules}
 use Rattle.reference.proofs.buffer.add_extent.Goals as goal
 
 pub returns : goal.returns

@@ -1,8 +1,6 @@
 -- `reference::buffer::begin_of` meets its contract. The loop's invariant: `at` is where segment j begins.
 use mathlib.Core.Path.{◌≡◌}
-use Prim.Native.Nat.{◌≤◌, ◌*◌, ◌-◌}
 use native.Mathlib.Omega.{arith}
-use Rattle.reference.specs.Layout.{begins}
 use Rattle.reference.proofs.Laws.Places.{begins-none, begins-more}
 use Rattle.reference.proofs.buffer.begin_of.Goals as goal
 

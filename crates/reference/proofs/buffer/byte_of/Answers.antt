@@ -1,7 +1,6 @@
 -- `reference::buffer::byte_of` meets its contract.
 use mathlib.Core.Path.{sym}
 use lib.ListN.{get_or-eq_default}
-use borrow.Author.Rules.{rules}
 use Rattle.reference.proofs.buffer.byte_of.Goals as goal
 
 pub returns : goal.returns

@@ -2,16 +2,14 @@
 -- begins.
 use mathlib.Core.Path.{◌≡◌, sym, ◌∙◌}
 use mathlib.Core.Bool.{true}
-use mathlib.Core.Option.{some}
-use Prim.Native.Nat.{ℕ, ◌≤◌, ◌<◌, ◌*◌, ◌-◌}
+use Prim.Native.Nat.{◌<◌, ◌*◌}
 use native.Mathlib.Omega.{arith}
 use lib.ListN.{get_or}
-use borrow.Author.Rules.{rules}
-use Rattle.reassembly.proofs.Laws.Base.{either}
-use Rattle.reference.specs.Layout.{no_extent, kept, begins, has_byte, place_in, found_byte}
+use Rattle.reference.specs.Layout.{no_extent, kept, has_byte}
 use Rattle.reference.proofs.Laws.Places.{begins-none, begins-more, place_none, place_here, place_kept, place_inside-none, place_inside, has_low, has_high}
 use Rattle.reference.specs.declared.buffer.Extent.{Extent}
 use Rattle.reference.proofs.buffer.find_byte.Goals as goal
+use Rattle.reference.proofs.buffer.find_byte.Goals.{then-has_byte, else-has_byte}
 
 pub loop-j-init : goal.loop-j-init
 loop-j-init c =
@@ -42,14 +40,16 @@ overflow_add-at c = omega (arith, c.kept_segments-n.ensures)
 
 pub loop-j-preserved : goal.loop-j-preserved
 loop-j-preserved c =
-    let a = c.args in
-    (
+    let a = c.args in (
       omega arith,
       begins-more a.b.extents c.loop-j.j c.loop-j.at c.loop-j.invariant.1,
       omega arith,
-      either c.if-has_byte.branch
-          (λ t. t.2 ∙ place_here a.b.extents c.loop-j.j a.i c.loop-j.at c.loop-j.invariant.1 (sym c.has_byte.ensures ∙ t.0.taken))
-          (λ t. t.1 ∙ place_kept a.b.extents c.loop-j.j a.i c.loop-j.found c.loop-j.invariant.3 (sym c.has_byte.ensures ∙ t.0.left)),
+      elim c.if-has_byte.branch [
+        | then-has_byte w ↦ w.found-is
+            ∙ place_here a.b.extents c.loop-j.j a.i c.loop-j.at c.loop-j.invariant.1 (sym c.has_byte.ensures ∙ w.if-has_byte.true)
+        | else-has_byte w ↦ w.found-is
+            ∙ place_kept a.b.extents c.loop-j.j a.i c.loop-j.found c.loop-j.invariant.3 (sym c.has_byte.ensures ∙ w.if-has_byte.false)
+      ],
       place_inside a.b.extents c.loop-j.j a.i c.loop-j.at c.loop-j.invariant.1 c.loop-j.invariant.2 (omega arith) c.loop-j.invariant.4,
     )
 

@@ -1,5 +1,4 @@
 -- `reference::buffer::has_byte` meets its contract.
-use borrow.Author.Rules.{rules}
 use Rattle.reference.proofs.Laws.Places.{has-before, has-from}
 use Rattle.reference.proofs.buffer.has_byte.Goals as goal
 

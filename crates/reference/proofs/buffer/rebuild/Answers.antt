@@ -1,11 +1,9 @@
 -- `reference::buffer::rebuild` meets its contract. The loop's invariant: the first i bytes of the frame are rebuilt.
 use mathlib.Core.Path.{◌≡◌, refl, sym, ap, ◌∙◌}
 use mathlib.Core.Option.{some}
-use Prim.Native.Nat.{ℕ, ◌<◌, ◌≤◌, ◌-◌}
+use Prim.Native.Nat.{ℕ, ◌<◌}
 use native.Mathlib.Omega.{arith}
-use lib.ListN.{length, take, length-set}
-use borrow.Author.Rules.{rules}
-use Rattle.reference.specs.Reassembler.{rebuilt}
+use lib.ListN.{length-set}
 use Rattle.reference.specs.Layout.{kept, place_in, parts_in}
 use Rattle.reference.proofs.Laws.Places.{found_place, no_place, byte_missing, byte_there, rebuilt-none, rebuilt-more, rebuilds_not, rebuilds_all}
 use Rattle.reference.proofs.buffer.rebuild.Goals as goal

@@ -1,9 +1,7 @@
 -- `reference::buffer::repeats_byte` meets its contract. The loop's invariant: none of the first i bytes is there.
-use mathlib.Core.Path.{◌≡◌, sym, ◌∙◌}
-use mathlib.Core.Bool.{false}
-use Prim.Native.Nat.{ℕ, ◌<◌, ◌+◌, ◌-◌}
+use mathlib.Core.Path.{sym, ◌∙◌}
+use Prim.Native.Nat.{◌+◌}
 use native.Mathlib.Omega.{arith}
-use borrow.Author.Rules.{rules}
 use Rattle.lookup.proofs.Laws.Search.{more_not}
 use Rattle.reassembly.proofs.Laws.Base.{some_below-some, some_below-none}
 use Rattle.reference.specs.Reassembler.{is_some}

@@ -1,14 +1,9 @@
 -- `reference::buffer::repeats_byte` meets its contract. The loop's invariant: none of the first i bytes is there.
-use mathlib.Core.Path.{◌≡◌, sym, ◌∙◌}
+use mathlib.Core.Path.{◌≡◌}
 use mathlib.Core.Bool.{false}
 use Prim.Native.Nat.{ℕ, ◌<◌, ◌+◌, ◌-◌}
-use native.Mathlib.Omega.{arith}
-use borrow.Author.Rules.{rules}
-use Rattle.lookup.proofs.Laws.Search.{more_not}
-use Rattle.reassembly.proofs.Laws.Base.{some_below-some, some_below-none}
 use Rattle.reference.specs.Reassembler.{is_some}
 use Rattle.reference.specs.Layout.{kept, place_in}
-use Rattle.reference.proofs.Laws.Places.{is_there, not_there}
 use Rattle.reference.proofs.buffer.repeats_byte.Given as goal
 
 abbrev pub invariant-loop-i : goal.invariant-loop-i

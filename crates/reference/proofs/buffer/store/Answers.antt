@@ -1,7 +1,6 @@
 -- `reference::buffer::store` meets its contract.
-use borrow.Author.Rules.{rules}
 use Rattle.reference.proofs.Laws.Places.{not_stored}
-use Rattle.reference.proofs.Lent.{written}
+use Rattle.reference.proofs.Lent.{laid}
 use Rattle.reference.proofs.buffer.store.Goals as goal
 
 pub returns-then-memory-end : goal.returns-then-memory-end
@@ -11,5 +10,5 @@ returns-then-memory-end c =
 
 pub returns : goal.returns
 returns c =
-    written c.args.memory.now c.copy.new.1.0 c.args.bytes.now c.args.at c.if-memory-end.false
-    c.copy.ensures.1
+    laid c.args.memory.now c.copy_from_slice.new.self c.args.bytes.now c.args.at c.if-memory-end.false
+    c.copy_from_slice.ensures.after

@@ -1,9 +1,5 @@
 -- `reference::list::find_buffer` meets its contract. The loop's invariant: no frame before i bears the identifier.
-use mathlib.Core.Path.{◌≡◌}
-use mathlib.Core.Bool.{false}
-use Prim.Native.Nat.{ℕ, ◌<◌, ◌-◌}
 use native.Mathlib.Omega.{arith}
-use borrow.Author.Rules.{rules}
 use borrow.Author.Tests.{ne_eqb}
 use Rattle.lookup.proofs.Laws.Search.{more_not}
 use Rattle.reference.specs.Layout.{bears_at}

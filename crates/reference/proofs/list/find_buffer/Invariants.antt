@@ -2,12 +2,7 @@
 use mathlib.Core.Path.{◌≡◌}
 use mathlib.Core.Bool.{false}
 use Prim.Native.Nat.{ℕ, ◌<◌, ◌-◌}
-use native.Mathlib.Omega.{arith}
-use borrow.Author.Rules.{rules}
-use borrow.Author.Tests.{ne_eqb}
-use Rattle.lookup.proofs.Laws.Search.{more_not}
 use Rattle.reference.specs.Layout.{bears_at}
-use Rattle.reference.proofs.Laws.Lists.{found_buffer_lem, no_buffer_lem, pending_most}
 use Rattle.reference.proofs.list.find_buffer.Given as goal
 
 abbrev pub invariant-loop-i : goal.invariant-loop-i

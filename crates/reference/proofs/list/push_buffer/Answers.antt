@@ -1,7 +1,6 @@
 -- `reference::list::push_buffer` meets its contract.
 use mathlib.Core.Path.{refl}
 use native.Mathlib.Omega.{arith}
-use borrow.Author.Rules.{rules}
 use Rattle.reference.proofs.Laws.Lists.{pushed}
 use Rattle.reference.proofs.Sizes.{room_for_frames}
 use Rattle.reference.proofs.list.push_buffer.Goals as goal
@@ -18,5 +17,5 @@ overflow_add-next c = omega (arith, c.pending_frames-last.ensures, c.requires)
 pub returns : goal.returns
 returns c =
     let a = c.args in
-    pushed a.s _ a.b c.pending_frames-last.result (room_for_frames a.s c.well-formed.0) c.pending_frames-last.ensures
+    pushed a.s _ a.b c.pending_frames-last.result (room_for_frames a.s c.well_formed.0) c.pending_frames-last.ensures
     (omega (arith, c.pending_frames-last.ensures, c.requires)) refl refl

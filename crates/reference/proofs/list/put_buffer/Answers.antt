@@ -2,7 +2,6 @@
 use mathlib.Core.Path.{refl, sym, ◌∙◌}
 use Prim.Native.Nat.{ℕ, ◌<◌}
 use native.Mathlib.Omega.{arith}
-use borrow.Author.Rules.{rules}
 use Rattle.reference.proofs.Laws.Lists.{pending_most, at-pending, no_buffer-found, put_last, put_there}
 use Rattle.reference.proofs.list.put_buffer.Goals as goal
 

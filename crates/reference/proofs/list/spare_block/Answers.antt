@@ -1,7 +1,5 @@
 -- `reference::list::spare_block` meets its contract.
 use mathlib.Core.Path.{sym, ◌∙◌}
-use borrow.Author.Rules.{rules}
-use borrow.Author.Tests.{not-true, not-false}
 use Rattle.reference.proofs.Laws.Lists.{spare_0, spare_1, spare_2, spare_3}
 use Rattle.reference.proofs.list.spare_block.Goals as goal
 

@@ -1,13 +1,9 @@
 -- `reference::list::uses_block` meets its contract. The loop's invariant: no frame before i uses the block.
-use mathlib.Core.Path.{◌≡◌}
-use mathlib.Core.Bool.{false}
-use Prim.Native.Nat.{ℕ, ◌<◌, ◌-◌}
 use native.Mathlib.Omega.{arith}
 use lib.Dec.{eqb}
 use lib.ListN.{get_or}
 use borrow.Author.Tests.{ne_eqb}
 use Rattle.lookup.proofs.Laws.Search.{more_not}
-use borrow.Author.Rules.{rules}
 use Rattle.reference.specs.Layout.{no_buffer}
 use Rattle.reference.proofs.Laws.Lists.{in_use, not_in_use, pending_most}
 use Rattle.reference.proofs.list.uses_block.Goals as goal

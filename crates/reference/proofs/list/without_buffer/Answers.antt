@@ -1,14 +1,12 @@
 -- `reference::list::without_buffer` meets its contract. The loop's invariant: `left` has those of the first i frames that bear another identifier.
-use mathlib.Core.Path.{◌≡◌, ap, ◌∙◌}
-use Prim.Native.Nat.{◌≤◌, ◌<◌, ◌-◌}
+use mathlib.Core.Path.{ap, ◌∙◌}
+use Prim.Native.Nat.{◌<◌}
 use native.Mathlib.Omega.{arith}
-use lib.ListN.{take, length}
-use borrow.Author.Rules.{rules}
-use Rattle.reassembly.proofs.Laws.Base.{either}
-use Rattle.reference.specs.Keyed.{without}
-use Rattle.reference.specs.Layout.{identifier_in, buffers_of}
+use lib.ListN.{length}
+use Rattle.reference.specs.Layout.{buffers_of}
 use Rattle.reference.proofs.Laws.Lists.{pending_most, without_begin, without-kept, without_gone, without-room, without_end}
 use Rattle.reference.proofs.list.without_buffer.Goals as goal
+use Rattle.reference.proofs.list.without_buffer.Goals.{then-b-identifier, else-b-identifier}
 
 pub loop-i-init : goal.loop-i-init
 loop-i-init c =
@@ -31,9 +29,12 @@ loop-i-preserved c =
     let a = c.args in
     let b : c.loop-i.i < length (buffers_of a.s) = omega (arith, c.pending_frames-n.ensures) in (
       omega arith,
-      either c.if-b-identifier.branch
-          (λ t. without-kept a.s c.loop-i.left a.identifier c.loop-i.i b c.loop-i.invariant.1 c.if-b-identifier.left t.0.taken (ap buffers_of t.2 ∙ t.1.ensures))
-          (λ t. ap buffers_of t.1 ∙ without_gone a.s c.loop-i.left a.identifier c.loop-i.i b c.loop-i.invariant.1 t.0.left),
+      elim c.if-b-identifier.branch [
+        | then-b-identifier w ↦ without-kept a.s c.loop-i.left a.identifier c.loop-i.i b c.loop-i.invariant.1 c.if-b-identifier.left
+            w.if-b-identifier.true (ap buffers_of w.left-is ∙ w.push_buffer-left.ensures)
+        | else-b-identifier w ↦ ap buffers_of w.left-is
+            ∙ without_gone a.s c.loop-i.left a.identifier c.loop-i.i b c.loop-i.invariant.1 w.if-b-identifier.false
+      ],
     )
 
 pub returns : goal.returns

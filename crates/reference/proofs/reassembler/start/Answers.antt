@@ -1,7 +1,6 @@
 -- `reference::reassembler::start` meets its contract.
 use mathlib.Core.Path.{refl}
 use Rattle.reference.proofs.Laws.Tick.{begun_is}
-use borrow.Author.Rules.{rules}
 use Rattle.reference.proofs.reassembler.start.Goals as goal
 
 pub returns : goal.returns

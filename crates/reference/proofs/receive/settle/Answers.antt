@@ -1,6 +1,5 @@
 -- `reference::receive::settle` meets its contract.
 use Rattle.reference.proofs.Laws.Receive.{settle_rejected, settle_many, settle_pending, settle_complete}
-use borrow.Author.Rules.{rules}
 use Rattle.reference.proofs.receive.settle.Goals as goal
 
 pub returns-in-Rejected : goal.returns-in-Rejected

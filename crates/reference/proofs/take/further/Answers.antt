@@ -6,7 +6,6 @@ use Rattle.reassembly.specs.Take.{seg_of}
 use Rattle.reference.specs.Reassembler.{most_segments}
 use Rattle.reference.specs.Layout.{kept, buffers_of}
 use Rattle.reference.proofs.Laws.Take.{repeats_places, found-room, further_differs, further-repeats, further-many, further_joins}
-use borrow.Author.Rules.{rules}
 use Rattle.reference.proofs.take.further.Goals as goal
 
 pub returns-then-b-segment : goal.returns-then-b-segment

@@ -3,7 +3,6 @@ use mathlib.Core.Path.{◌≡◌, ◌∙◌, sym, ap}
 use Prim.Native.Nat.{ℕ, ◌+◌, ◌≤◌}
 use native.Mathlib.Omega.{arith}
 use lib.ListN.{length}
-use borrow.Author.Tests.{not-true, not-false}
 use lib.Seq.{length-take-le}
 use Rattle.reassembly.specs.Take.{seg_of}
 use Rattle.reference.specs.Keyed.{find}
@@ -18,7 +17,7 @@ rebuild-requires c =
     let size : c.add_extent-longer.result.frame_length ≡ c.args.b.frame_length =
     ap (λ (x : Buffer). x.frame_length) c.add_extent-longer.ensures in
     let low : block_at c.args.peer c.args.b.block ≤ 16777216 =
-    omega (arith, c.requires.0, c.struct_known-1.given) in
+    omega arith in
     (low, omega (arith, c.requires.4))
 
 pub put_buffer-requires : goal.put_buffer-requires
@@ -38,7 +37,7 @@ returns-then-not-rebuild c =
     c.add_extent-longer.result c.rebuild.result
     c.rebuild.new.frame at c.store.ensures
     c.add_extent-longer.ensures c.rebuild.ensures
-    c.put_buffer.result (not-true c.rebuild.result c.if-not-rebuild.true) c.put_buffer.ensures
+    c.put_buffer.result c.if-not-rebuild.true c.put_buffer.ensures
 
 pub slice_bounds-store-end : goal.slice_bounds-store-end
 slice_bounds-store-end c =
@@ -65,5 +64,4 @@ returns c =
     c.add_extent-longer.ensures
     c.rebuild.ensures
     c.without_buffer.result c.store-2.new.memory
-    (not-false c.rebuild.result
-    c.if-not-rebuild.false) c.without_buffer.ensures c.store-2.ensures
+    c.if-not-rebuild.false c.without_buffer.ensures c.store-2.ensures

@@ -5,7 +5,6 @@ use native.Mathlib.Omega.{arith}
 use Rattle.reassembly.specs.Take.{seg_of}
 use Rattle.reference.specs.Layout.{blank}
 use Rattle.reference.proofs.Laws.Take.{opened-full, opened_joins}
-use borrow.Author.Rules.{rules}
 use Rattle.reference.proofs.take.open.Goals as goal
 
 pub returns-then-pending_frames-ge-FRAMES : goal.returns-then-pending_frames-ge-FRAMES

@@ -6,7 +6,6 @@ use Rattle.reassembly.specs.Take.{seg_of, Fits}
 use Rattle.reference.specs.Layout.{no_buffer}
 use Rattle.reference.proofs.Laws.Take.{taken-empty, taken-short, taken_long, taken_past, as_new, as_further}
 use Rattle.reference.proofs.Laws.Lists.{pending_most, at-pending, buffer_found, no_buffer-found}
-use borrow.Author.Rules.{rules}
 use Rattle.reference.proofs.take.take.Goals as goal
 
 pub returns-then-bytes-eq0 : goal.returns-then-bytes-eq0
@@ -59,10 +58,10 @@ returns-in_default c =
       most = c.if-segment-gt-STT_FRAME_MAX.false;
       inside = c.if-segment-end.false;
     } in
-    as_new a.peer a.s a.memory.now (seg_of a.segment a.bytes.now) fits c.«open».result
-    c.«open».new.1.1.1.1.0
+    as_new a.peer a.s a.memory.now (seg_of a.segment a.bytes.now) fits c.open.result
+    c.open.new.memory
     (no_buffer-found a.s a.segment.identifier (sym c.in_default.is
-    ∙ c.find_buffer-found.ensures)) c.«open».ensures
+    ∙ c.find_buffer-found.ensures)) c.open.ensures
 
 pub offset_bounds-s-i : goal.offset_bounds-s-i
 offset_bounds-s-i c =

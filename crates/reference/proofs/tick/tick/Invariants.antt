@@ -1,12 +1,9 @@
 -- `reference::tick::tick` meets its contract. The loop's invariant: the frames of the peers before p are older, and all else is as it came.
-use mathlib.Core.Path.{◌≡◌, refl, ◌∙◌}
+use mathlib.Core.Path.{◌≡◌}
 use mathlib.Core.List.{map}
-use Prim.Native.Nat.{◌≤◌, ◌<◌, ◌-◌}
-use native.Mathlib.Omega.{arith}
-use lib.ListN.{length}
+use Prim.Native.Nat.{◌≤◌, ◌-◌}
 use Rattle.reference.specs.Layout.{buffers_of}
-use Rattle.reference.proofs.Laws.Tick.{older_peers, none-older, one_older_lem, all-older, ticked_is}
-use Rattle.reference.proofs.Sizes.{room_for_peers}
+use Rattle.reference.proofs.Laws.Tick.{older_peers}
 use Rattle.reference.proofs.tick.tick.Given as goal
 
 abbrev pub invariant-loop-p : goal.invariant-loop-p
