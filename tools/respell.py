@@ -5,6 +5,9 @@ usage: tools/respell.py [--list]     at the top of the repository, right after t
 
 It renames what the .antt files of crates/ declare, wherever a whole word of that spelling stands in .antt files, in clauses and `ghost use` lines of
 .rt files, in must-fail edits and, in backticks or in camel case, in comments and pages. Goals' names, functions of src/, types and modules stay.
+
+The rules are below; tools/respell-chosen.txt has the names for which they give one that is taken, and tools/respell-table.txt, where it is there, the whole
+table: the one that was made where the port began, so that another commit is spelled alike.
 """
 
 import os
@@ -20,6 +23,8 @@ WORDS = set(
 )
 # where the plain spelling is taken already: a parameter, a field, a source function's word or another definition
 CHOSEN = {}
+# what the rules and the choices made of the repository where the port began; with it, another commit gets the same spelling
+TABLE_FILE = os.path.join(os.path.dirname(os.path.realpath(__file__)), "respell-table.txt")
 CHOSEN_FILE = os.path.join(os.path.dirname(os.path.realpath(__file__)), "respell-chosen.txt")
 
 
@@ -129,6 +134,9 @@ def main():
             if len(words) == 2:
                 CHOSEN[words[0]] = words[1]
     table, names, brought = mapping(root)
+    if os.path.exists(TABLE_FILE):
+        rows = [line.split() for line in read(TABLE_FILE).split("\n")]
+        table = {words[0]: words[1] for words in rows if len(words) == 2}
     # names that fall together
     bad = 0
     back = {}

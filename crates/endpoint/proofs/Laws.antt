@@ -4,9 +4,11 @@ pub mod Search
 pub mod View
 pub mod ConfigExits
 pub mod Config
+pub mod Changed
 pub mod Tick
 pub mod WrapExits
 pub mod Receive
+pub mod Stands
 pub mod Formats
 pub mod Demand1
 pub mod Demand3

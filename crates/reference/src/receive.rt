@@ -128,7 +128,7 @@ fn settle<'r>(
         Outcome::TooMany => Reply::TooManySegments,
         Outcome::Pending => Reply::Answer(Received::Pending),
         Outcome::Complete => {
-            let offer = receive::complete(memory, REBUILT, size as usize);
+            let offer = receive::complete_in(memory, REBUILT, size as usize);
             Reply::Answer(deliver(e, peer, offer, packet, memory))
         }
     }

@@ -1,17 +1,17 @@
 -- What the functions of `receive` give, over plain values, and the laws by which they add up to `step_of`.
-use Prim.Native.Nat.{◌^◌, ℕ, ◌+◌, ◌-◌, ◌*◌, ◌<◌, ◌≤◌, min}
-use Rattle.std.specs.Prelude.{◌≡◌, Bool, cond, get_or, take, drop, ltb, leb, eqb}
+use Prim.Native.Nat.{ℕ, ◌+◌, ◌-◌, ◌*◌, ◌<◌, ◌≤◌, min}
+use Rattle.std.specs.Prelude.{◌≡◌, Bool, cond, get_or, drop, ltb, eqb}
 use Rattle.std.proofs.Math.Path.{refl, sym, ap}
-use Rattle.std.proofs.Common.{◌∙◌, arith, length-take, length-drop, drop-drop}
+use Rattle.std.proofs.Common.{◌∙◌}
 use Rattle.std.proofs.Math.Bool.{true, false}
-use mathlib.Core.List.{List}
+use mathlib.Core.List.{List, []}
 use Rattle.std.proofs.Math.Option.{Option, none, some}
-use Rattle.std.proofs.Math.ListN.{length}
-use borrow.Author.Tests.{lt-ltb, le-ltb, eq-eqb, ne_eqb, ltb-true, ltb-false, leb-true, leb-false}
+use native.Mathlib.Omega.{arith}
+use Rattle.std.proofs.Math.ListN.{length, take}
+use borrow.Author.Tests.{lt-ltb, le-ltb, eq-eqb, ne_eqb}
 use Rattle.wire.specs.Bytes.{part}
-use Rattle.wire.proofs.Laws.Bytes.{part_is, part_length, drop-take}
+use Rattle.wire.proofs.Laws.Bytes.{part_is, part_length}
 use Rattle.wire.proofs.Laws.Ipv4.{ipv4_bounds}
-use Rattle.wire.proofs.Laws.Stt.{stt-room}
 use Rattle.wire.proofs.Laws.Carriage.{tunnel_within, segment-within}
 use Rattle.wire.specs.Ipv4.{ipv4_of}
 use Rattle.wire.specs.Carriage.{carriage_of}
@@ -29,14 +29,14 @@ use Rattle.wire.specs.declared.stt.SttRead.{SttRead}
 use Rattle.wire.specs.declared.stt.SttRead.TheVariants as T
 use Rattle.wire.specs.declared.frame.FrameRead.TheVariants as F
 use Rattle.reassembly.specs.Slots.{Note, no_row, most_peers, most_slots}
-use Rattle.reassembly.proofs.Laws.Answers.{part-fits, part_past, view_packet, view_memory, slot_no_lem, bad_reply, good_reply, rejected_reply, pending_reply}
-use Rattle.reassembly.proofs.Laws.Answers.{no_memory_reply}
+use Rattle.reassembly.proofs.Laws.TakeFacts.{length-frame}
+use Rattle.reassembly.proofs.Laws.Answers.{part-fits, view_packet, view_memory, slot_no_lem, bad_reply, good_reply, rejected_reply, pending_reply, no_memory_reply}
 use Rattle.reassembly.proofs.Laws.Answers.{complete_reply}
-use Rattle.reassembly.proofs.Laws.Store.{slot-inside}
+use Rattle.reassembly.proofs.Laws.Store.{handed, slot-inside}
 use Rattle.reassembly.specs.Take.{Seg, seg_of, frame_in}
 use Rattle.reassembly.specs.Store.{bytes_of, take_in, slot_start, taken_of}
 use Rattle.reassembly.specs.Receive.{Answer, Reading as Made, other_sender, direct, segment, Verdict, bad, good, frame_answer, take_answer, part_of_slice, view_of}
-use Rattle.reassembly.proofs.Laws.Base.{case_b, clash}
+use Rattle.reassembly.proofs.Laws.Base.{case_b}
 use Rattle.reassembly.specs.SetUp.{Kept, peer_of}
 use Rattle.reassembly.proofs.Laws.SetUp.{peer-other, peer-direct, peer-segment}
 use Rattle.reassembly.specs.declared.take.Taken.{Taken}
@@ -165,8 +165,7 @@ module _ (peer : ℕ) (o : Outcome) (size : ℕ) (m : List ℕ) where
   unfolding offer_of
   settled_memory e = rw e
 
-  pub settled-complete : (s : ℕ) → o ≡ O.Complete s → (frame : List ℕ)
-      → frame ≡ part m ((most_slots * peer + s) * 1728) ((most_slots * peer + s) * 1728 + size)
+  pub settled-complete : (s : ℕ) → o ≡ O.Complete s → (frame : List ℕ) → frame ≡ part m ((most_slots * peer + s) * 1728) ((most_slots * peer + s) * 1728 + size)
       → offer_at ((most_slots * peer + s) * 1728) frame ≡ offer_of peer o size m
   unfolding offer_of
   settled-complete s e frame f = rw (e, f)
@@ -257,64 +256,21 @@ module _ (networks kinds owners tenants : List ℕ) (n peer : ℕ) (o : Offer) (
 
 -- ---- views
 
-part-size : (s : List ℕ) (start len : ℕ) → start + len ≤ length s → length (part_of_slice s start len) ≡ len
-part-size s start len f =
-    ap (λ (x : List ℕ). length x) (part-fits s start len f) ∙ omega (arith, length-take len (drop start s), length-drop start s)
-
-part_view : (k : List ℕ) (at end : ℕ) → at ≤ end → end ≤ length k → part_of_slice k at (end - at) ≡ part k at end
+pub part_view : (k : List ℕ) (at end : ℕ) → at ≤ end → end ≤ length k → part_of_slice k at (end - at) ≡ part k at end
 part_view k at end l b =
     part-fits k at (end - at) (omega arith) ∙ sym (part_is k at end)
 
-part_from : (k : List ℕ) (at n : ℕ) → at + n ≤ length k → part_of_slice k at n ≡ part k at (at + n)
-part_from k at n f =
-    let size : at + n - at ≡ n = omega arith in
-    part-fits k at n f ∙ ap (λ (x : ℕ). take x (drop at k)) (sym size) ∙ sym (part_is k at (at + n))
-
--- a part of some bytes lies in the slice
-pub part-inside : (s : List ℕ) (start len : ℕ) → 0 < length (part_of_slice s start len) → start + length (part_of_slice s start len) ≤ length s
-part-inside s start len has =
-    case_b (leb (start + len) (length s))
-    (λ b. let fits : start + len ≤ length s = leb-true (start + len) (length s) b in omega (arith, part-size s start len fits))
-    (λ b. let empty : length (part_of_slice s start len) ≡ 0 = ap (λ (x : List ℕ). length x) (part_past s start len (leb-false (start + len) (length s) b)) in
-    absurd (omega arith))
-
--- where it begins and how long it is: both together are a number of 64 bits
-pub part_room : (s : List ℕ) (start len : ℕ) (frame : List ℕ) → frame ≡ part_of_slice s start len → start < 2 ^ 64 → length s < 2 ^ 64
-    → start + length frame < 2 ^ 64
-part_room s start len frame is fits most =
-    let same : length frame ≡ length (part_of_slice s start len) = ap (λ (x : List ℕ). length x) is in
-    case_b (leb (start + len) (length s))
-    (λ b. let inside : start + len ≤ length s = leb-true (start + len) (length s) b in omega (arith, part-size s start len inside))
-    (λ b. let empty : length (part_of_slice s start len) ≡ 0 = ap (λ (x : List ℕ). length x) (part_past s start len (leb-false (start + len) (length s) b)) in
-    omega arith)
-
--- so an STT frame that is read lies in the memory, with its header
-pub header-inside : (m : List ℕ) (at n : ℕ) (frame : List ℕ) (context : ℕ) → frame ≡ part_of_slice m at n → stt_of frame ≡ T.Header context
-    → (18 ≤ length frame) × (at + 18 ≤ length m)
-header-inside m at n frame context is read =
-    let long : 18 ≤ length frame = stt-room frame context read in
-    let same : length frame ≡ length (part_of_slice m at n) = ap (λ (x : List ℕ). length x) is in
-    (long, omega (arith, part-inside m at n (omega arith)))
-
--- the inner frame of an STT frame that lies in the memory
-pub inner_view : (k m : List ℕ) (at n : ℕ) → 18 ≤ n → at + n ≤ length m
-    → view_of k m (record { in_lent_memory = true; start = at + 18; len = n - 18 }) ≡ drop 18 (part_of_slice m at n)
-inner_view k m at n l f =
-    view_memory k m (record { in_lent_memory = true; start = at + 18; len = n - 18 }) refl
-    ∙ part-fits m (at + 18) (n - 18) (omega arith)
-    ∙ sym (ap (λ (x : List ℕ). drop 18 x) (part-fits m at n f) ∙ drop-take 18 n (drop at m) ∙ ap (λ (x : List ℕ). take (n - 18) x) (drop-drop 18 at m))
-
-slot-part : (m : List ℕ) (i n : ℕ) → slot_start i + n ≤ length m → part_of_slice m (slot_start i) n ≡ frame_in bytes_of m i n
-slot-part m i n f = part-fits m (slot_start i) n f ∙ sym (frame-part m i n f)
-
 pub slot_view : (k m : List ℕ) (i n : ℕ) → 18 ≤ n → slot_start i + n ≤ length m
     → view_of k m (record { in_lent_memory = true; start = slot_start i + 18; len = n - 18 }) ≡ drop 18 (frame_in bytes_of m i n)
-slot_view k m i n l f = inner_view k m (slot_start i) n l f ∙ ap (λ (x : List ℕ). drop 18 x) (slot-part m i n f)
+slot_view k m i n l f =
+    view_memory k m (record { in_lent_memory = true; start = slot_start i + 18; len = n - 18 }) refl
+    ∙ part-fits m (slot_start i + 18) (n - 18) (omega arith)
+    ∙ sym (handed m i n l f)
 
 -- ---- a frame delivered, as the theory of runs has it
 
 -- VXLAN and NVGRE: it lies in the packet
-tunnel_out : (networks kinds owners tenants : List ℕ) (n peer kind network at end : ℕ) (k m : List ℕ) → at ≤ end → end ≤ length k
+pub tunnel_out : (networks kinds owners tenants : List ℕ) (n peer kind network at end : ℕ) (k m : List ℕ) → at ≤ end → end ≤ length k
     → deliver_of networks kinds owners tenants n peer (B.Frame
     (record { network = network; place = record { start = at; length = end - at; in_memory = false }; kind = kind })) k m
     ≡ tunnel_from networks kinds owners tenants n peer kind network at (part k at end)
@@ -322,46 +278,43 @@ unfolding deliver_of tunnel_from
 tunnel_out networks kinds owners tenants n peer kind network at end k m l b =
     rw (view_packet k m (record { in_lent_memory = false; start = at; len = end - at }) refl, part_view k at end l b, part_length k at end b)
 
--- STT: it lies in the memory
-module _ (c : Config) (p : ℕ) (k m : List ℕ) (at n : ℕ) (long : 18 ≤ n) (inside : at + n ≤ length m) where
-  header_out : (x : SttRead) → deliver_of c.networks c.kinds c.owners c.tenants c.bindings p (stt_offer at n x) k m
-      ≡ answer_at (by_stt x (λ context. inner_from c.networks c.kinds c.owners c.tenants c.bindings p 3 context (drop 18 (part_of_slice m at n))))
-      (record { start = at + 18; length = n - 18; in_memory = true })
-  unfolding deliver_of
-  header_out (T.Refused r) = refl
-  header_out (T.Header context) = rw (inner_view k m at n long inside)
-
-  judged_out : (note : Note) → deliver_of c.networks c.kinds c.owners c.tenants c.bindings p (offer_at at (part_of_slice m at n)) k m
-      ≡ answer_at (judge_of c p note (part_of_slice m at n)) (record { start = at + 18; length = n - 18; in_memory = true })
-  unfolding judge_of stt_from offer_at
-  judged_out note = rw (part-size m at n inside) (header_out (stt_of (part_of_slice m at n)))
-
--- the same with an endpoint's own columns
-pub judged_by : (e : Endpoint) (p : ℕ) (k m : List ℕ) (at n : ℕ) → 18 ≤ n → at + n ≤ length m → (note : Note)
-    → delivered_by e p (offer_at at (part_of_slice m at n)) k m
-    ≡ answer_at (judge_of (config_of e) p note (part_of_slice m at n)) (record { start = at + 18; length = n - 18; in_memory = true })
-unfolding config_of
-judged_by e p k m at n long inside note = judged_out (config_of e) p k m at n long inside note
-
--- in slot i of the memory
+-- STT: it lies in slot i
 verdict_out : (x : Verdict answers) (i n : ℕ) (frame : List ℕ) → answer_at x (record { start = slot_start i + 18; length = n - 18; in_memory = true })
     ≡ (frame_answer answers x i n frame).reply
 verdict_out (bad d) i n frame = sym (bad_reply answers d i n frame)
 verdict_out (good t) i n frame = sym (good_reply answers t i n frame)
 
-slot_out : (c : Config) (p : ℕ) (k m : List ℕ) (i n : ℕ) → 18 ≤ n → slot_start i + n ≤ length m → (note : Note)
-    → deliver_of c.networks c.kinds c.owners c.tenants c.bindings p (offer_at (i * 1728) (part m (i * 1728) (i * 1728 + n))) k m
-    ≡ (frame_answer answers (judge_of c p note (frame_in bytes_of m i n)) i n (frame_in bytes_of m i n)).reply
-slot_out c p k m i n long inside note =
-    ap (λ (at : ℕ). deliver_of c.networks c.kinds c.owners c.tenants c.bindings p (offer_at at (part m at (at + n))) k m) (sym (slot-start i))
-    ∙ ap (λ (f : List ℕ). deliver_of c.networks c.kinds c.owners c.tenants c.bindings p (offer_at (slot_start i) f) k m)
-    (sym (part_from m (slot_start i) n inside))
-    ∙ judged_out c p k m (slot_start i) n long inside note
-    ∙ ap (λ (f : List ℕ). answer_at (judge_of c p note f) (record { start = slot_start i + 18; length = n - 18; in_memory = true })) (slot-part m i n inside)
-    ∙ verdict_out (judge_of c p note (frame_in bytes_of m i n)) i n (frame_in bytes_of m i n)
+module _ (c : Config) (p : ℕ) (k after : List ℕ) (i n : ℕ) (long : 18 ≤ n) (inside : slot_start i + n ≤ length after) where
+  abbrev whole : List ℕ
+  whole = frame_in bytes_of after i n
+
+  header_out : (x : SttRead) → deliver_of c.networks c.kinds c.owners c.tenants c.bindings p (stt_offer (slot_start i) n x) k after
+      ≡ (frame_answer answers (by_stt x (λ context. inner_from c.networks c.kinds c.owners c.tenants c.bindings p 3 context (drop 18 whole))) i n
+      whole).reply
+  unfolding deliver_of
+  header_out (T.Refused r) = sym (bad_reply answers (broken_at 0 r) i n whole)
+  header_out (T.Header context) =
+      rw (slot_view k after i n long inside) (verdict_out (inner_from c.networks c.kinds c.owners c.tenants c.bindings p 3 context
+      (drop 18 whole)) i n whole)
+
+  judged_out : (note : Note) → deliver_of c.networks c.kinds c.owners c.tenants c.bindings p
+      (offer_at (i * 1728) (part after (i * 1728) (i * 1728 + n))) k after
+      ≡ (frame_answer answers (judge_of c p note whole) i n whole).reply
+  unfolding judge_of stt_from offer_at
+  judged_out note =
+      let at : slot_start i ≡ i * 1728 = slot-start i in
+      let size : i * 1728 + n - i * 1728 ≡ n = omega arith in
+      let same : part after (i * 1728) (i * 1728 + n) ≡ whole =
+      part_is after (i * 1728) (i * 1728 + n) ∙ ap (λ (x : ℕ). take x (drop (i * 1728) after)) size ∙ ap (λ (x : ℕ). take n (drop x after)) (sym at)
+      ∙ sym (frame-part after i n inside) in
+      ap (λ (f : List ℕ). deliver_of c.networks c.kinds c.owners c.tenants c.bindings p (stt_offer (i * 1728) (length f) (stt_of f)) k after) same
+      ∙ ap (λ (s : ℕ). deliver_of c.networks c.kinds c.owners c.tenants c.bindings p (stt_offer (i * 1728) s (stt_of whole)) k after)
+      (length-frame bytes_of after i n)
+      ∙ ap (λ (a : ℕ). deliver_of c.networks c.kinds c.owners c.tenants c.bindings p (stt_offer a n (stt_of whole)) k after) (sym at)
+      ∙ header_out (stt_of whole)
 
 module _ (c : Config) (p : ℕ) (row : Peer) (k m : List ℕ) (g : Seg) where
-  offer_out : (o : Outcome) → (take_in p row m g).outcome ≡ o
+  pub offer_out : (o : Outcome) → (take_in p row m g).outcome ≡ o
       → deliver_of c.networks c.kinds c.owners c.tenants c.bindings p (offer_of p o g.frame_length (take_in p row m g).mem) k
       (take_in p row m g).mem
       ≡ (take_answer answers (judge_of c) bytes_of p g (take_in p row m g) o).reply
@@ -377,7 +330,7 @@ module _ (c : Config) (p : ℕ) (row : Peer) (k m : List ℕ) (g : Seg) where
       let inside : slot_start (most_slots * p + s) + n ≤ length after =
       rw (slot_no_lem p s) at
       (slot-inside after p s n (omega (arith, w.memory, take-length p row m g)) w.is_peer_lem w.is_slot (omega (arith, w.fits.most))) in
-      slot_out c p k after (most_slots * p + s) n (omega (arith, w.fits.least)) inside note
+      judged_out c p k after (most_slots * p + s) n (omega (arith, w.fits.least)) inside note
       ∙ ap (λ (i : ℕ). (frame_answer answers (judge_of c p note (frame_in bytes_of after i n)) i n (frame_in bytes_of after i n)).reply) (sym (slot_no_lem p s))
       ∙ sym (ap (λ (a : Answer answers). a.reply) (complete_reply answers (judge_of c) bytes_of p g (take_in p row m g) s))
 
@@ -392,113 +345,55 @@ settle_of networks kinds owners tenants n x row k m =
 abbrev pub settled_by : Endpoint → Arrival → Peer → (packet memory : List ℕ) → Step
 settled_by e x row k m = settle_of e.networks e.kinds e.owners e.tenants (min e.binding_count most_bindings) x row k m
 
--- WHAT AN OPENED PACKET STANDS FOR, by what the header layer makes of it: an answer, whatever the memory holds; or a segment of its peer's, a part of the
--- packet
-pub record Direct (e : Endpoint) (k : List ℕ) (x : Arrival) (a : Received) : Type 0 where
-  pub untaken : brings_segment x.content ≡ false
-  pub answer : (m : List ℕ) → delivered_by e x.peer (untaken_of x.content) k m ≡ a
-
-pub record Brings (k : List ℕ) (x : Arrival) (p : ℕ) (g : Seg) : Type 0 where
-  pub peer : x.peer ≡ p
-  pub due : Due
-  pub content : x.content ≡ A.Segment due
-  pub bytes : seg_of due.header (part_of_slice k due.start due.length) ≡ g
-
-abbrev pub StandsFor : Endpoint → (packet : List ℕ) → Arrival → Made answers → Type 0
-StandsFor e k x (other_sender a) = (x.peer ≡ 0) × Direct e k x a
-StandsFor e k x (direct p a) = (x.peer ≡ p) × Direct e k x a
-StandsFor e k x (segment p g) = Brings k x p g
-
-module _ (e : Endpoint) (k : List ℕ) where
-  refused_stands : (p : ℕ) (d : Drop) → Direct e k (record { peer = p; content = A.Refused d }) (R.Dropped d)
-  unfolding deliver_of
-  refused_stands p d = record { untaken = refl; answer = λ m. refl }
-
-  carried-stands : (h : Ipv4) → (h.start ≤ h.end) × (h.end ≤ length k) → (p : ℕ) (x : Carried)
-      → carriage_of h.protocol h.source h.destination e.port (part k h.start h.end) ≡ x
-      → StandsFor e k (record { peer = p; content = carried_from h.start h.end x }) (by_payload (config_of e) p h.start h.end k x)
-  unfolding config_of
-  carried-stands h b p (C.Refused r) q = (refl, refused_stands p (broken_at h.start r))
-  carried-stands h b p (C.Tunnel t) q =
-      let in-payload : t.start ≤ length (part k h.start h.end) =
-      tunnel_within h.protocol h.source h.destination e.port (part k h.start h.end) t q in (
-        refl,
-        record {
-          untaken = refl;
-          answer = λ m.
-              tunnel_out e.networks e.kinds e.owners e.tenants (min e.binding_count most_bindings)
-              p t.kind t.network (h.start + t.start) h.end k m
-              (omega (arith, part_length k h.start h.end b.1)) b.1;
-        },
-      )
-  carried-stands h b p (C.Segment g) q =
-      let in-payload : g.start ≤ length (part k h.start h.end) =
-      segment-within h.protocol h.source h.destination e.port (part k h.start h.end) g q in
-      record {
-        peer = refl;
-        due = record { header = g; start = h.start + g.start; length = h.end - (h.start + g.start) };
-        content = refl;
-        bytes = ap (seg_of g) (part_view k (h.start + g.start) h.end (omega (arith, part_length k h.start h.end b.1)) b.1);
-      }
-
-  peer-stands : (h : Ipv4) → (h.start ≤ h.end) × (h.end ≤ length k) → (o : Option ℕ)
-      → StandsFor e k (open_peer o (content_from e.port h k)) (by_peer (config_of e) h k o)
-  unfolding content_from config_of
-  peer-stands h b none = (refl, refused_stands 0 D.UnknownPeer)
-  peer-stands h b (some p) = carried-stands h b p (carriage_of h.protocol h.source h.destination e.port (part k h.start h.end)) refl
-
-  ours-stands : (h : Ipv4) → (h.start ≤ h.end) × (h.end ≤ length k) → (b : Bool)
-      → StandsFor e k
-      (cond b (open_peer (lowest (has_address e.addresses h.source) (min e.peer_count most_peers)) (content_from e.port h k)) (from_other D.NotForUs))
-      (by_destination (config_of e) h k b)
-  unfolding find_peer config_of
-  ours-stands h b true = peer-stands h b (find_peer (config_of e) h.source)
-  ours-stands h b false = (refl, refused_stands 0 D.NotForUs)
-
-  ip_stands : (x : Ipv4Read) → ipv4_of k ≡ x
-      → StandsFor e k (open_ip x (open_header e.addresses e.own e.port (min e.peer_count most_peers) k)) (by_ipv4 (config_of e) k x)
-  unfolding config_of
-  ip_stands (I.Refused r) q = (refl, refused_stands 0 (D.Format r 0))
-  ip_stands (I.Packet h) q = ours-stands h (ipv4_bounds k h q) (eqb h.destination e.own)
-
-  pub opened-stands : (room : ℕ) → 55296 ≤ room → StandsFor e k (opened_by e k room) (header_of (config_of e) k)
-  unfolding open_of header_of
-  opened-stands room enough = rw (le-ltb room 55296 enough) (ip_stands (ipv4_of k) refl)
-
--- so what it brings tells what the header layer made of it
-pub stands-segment : (e : Endpoint) (k : List ℕ) (x : Arrival) (y : Made answers) (d : Due) → StandsFor e k x y → x.content ≡ A.Segment d
-    → y ≡ segment x.peer (seg_of d.header (part_of_slice k d.start d.length))
-stands-segment e k x (other_sender a) d s q = clash (cc (s.1.untaken, q))
-stands-segment e k x (direct p a) d s q = clash (cc (s.1.untaken, q))
-stands-segment e k x (segment p g) d s q =
-    let same : s.due ≡ d = cc (s.content, q) in
-    rw (← same, s.bytes, s.peer)
-
--- ---- so the stages add up to the step
-
 module _ (e : Endpoint) (m k : List ℕ) where
   -- a packet that was opened, settled with its sender's row
   abbrev staged : Arrival → Step
   staged x = settled_by e x (row_at e x.peer) k m
 
-  -- what a packet stands for is what the stages make of it
-  other_adds : (x : Arrival) (p : ℕ) (a : Received) → x.peer ≡ p → Direct e k x a → staged x ≡ unchanged e p m a
-  unfolding settle_of
-  other_adds x p a q d = rw (nothing-taken (row_at e x.peer) x k m d.untaken, d.answer m, q)
-
-  stands_adds : (x : Arrival) (y : Made answers) → StandsFor e k x y → staged x ≡ stepped e m y
-  unfolding settle_of take_of config_of
-  stands_adds x (other_sender a) s = other_adds x 0 a s.0 s.1
-  stands_adds x (direct p a) s = other_adds x p a s.0 s.1
-  stands_adds x (segment p g) s =
-      let d : Due = s.due in
-      let bytes : List ℕ = part_of_slice k d.start d.length in
+  carried-adds : (h : Ipv4) → (h.start ≤ h.end) × (h.end ≤ length k) → (p : ℕ) (x : Carried)
+      → carriage_of h.protocol h.source h.destination e.port (part k h.start h.end) ≡ x
+      → staged (record { peer = p; content = carried_from h.start h.end x }) ≡ stepped e m (by_payload (config_of e) p h.start h.end k x)
+  unfolding settle_of take_of deliver_of config_of
+  carried-adds h b p (C.Refused r) q = refl
+  carried-adds h b p (C.Tunnel t) q =
+      let in-payload : t.start ≤ length (part k h.start h.end) =
+      tunnel_within h.protocol h.source h.destination e.port (part k h.start h.end) t q in
+      ap (unchanged e p m)
+      (tunnel_out e.networks e.kinds e.owners e.tenants (min e.binding_count most_bindings)
+      p t.kind t.network (h.start + t.start) h.end k m
+      (omega (arith, part_length k h.start h.end b.1)) b.1)
+  carried-adds h b p (C.Segment g) q =
+      let in-payload : g.start ≤ length (part k h.start h.end) =
+      segment-within h.protocol h.source h.destination e.port (part k h.start h.end) g q in
+      let bytes : List ℕ = part k (h.start + g.start) h.end in
       rw (
-        s.content,
-        s.peer,
-        ← s.bytes,
-        offer_out (config_of e) p (row_at e p) k m (seg_of d.header bytes) (take_in p (row_at e p) m (seg_of d.header bytes)).outcome refl,
+        part_view k (h.start + g.start) h.end (omega (arith, part_length k h.start h.end b.1)) b.1,
+        offer_out (config_of e) p (row_at e p) k m (seg_of g bytes) (take_in p (row_at e p) m (seg_of g bytes)).outcome refl,
       )
+
+  peer-adds : (h : Ipv4) → (h.start ≤ h.end) × (h.end ≤ length k) → (o : Option ℕ) → staged (open_peer o (content_from e.port h k))
+      ≡ stepped e m (by_peer (config_of e) h k o)
+  unfolding settle_of take_of deliver_of content_from config_of
+  peer-adds h b none = refl
+  peer-adds h b (some p) = carried-adds h b p (carriage_of h.protocol h.source h.destination e.port (part k h.start h.end)) refl
+
+  ours-adds : (h : Ipv4) → (h.start ≤ h.end) × (h.end ≤ length k) → (b : Bool)
+      → staged (cond b (open_peer (lowest (has_address e.addresses h.source) (min e.peer_count most_peers)) (content_from e.port h k))
+      (from_other D.NotForUs)) ≡ stepped e m (by_destination (config_of e) h k b)
+  unfolding settle_of take_of deliver_of find_peer config_of
+  ours-adds h b true = peer-adds h b (find_peer (config_of e) h.source)
+  ours-adds h b false = refl
+
+  ip-adds : (x : Ipv4Read) → ipv4_of k ≡ x → staged (open_ip x (open_header e.addresses e.own e.port (min e.peer_count most_peers) k))
+      ≡ stepped e m (by_ipv4 (config_of e) k x)
+  unfolding settle_of take_of deliver_of config_of
+  ip-adds (I.Refused r) q = refl
+  ip-adds (I.Packet h) q = ours-adds h (ipv4_bounds k h q) (eqb h.destination e.own)
+
+  header-adds : staged (open_ip (ipv4_of k) (open_header e.addresses e.own e.port (min e.peer_count most_peers) k)) ≡ stepped e m
+      (header_of (config_of e) k)
+  unfolding header_of
+  header-adds = ip-adds (ipv4_of k) refl
 
 -- ---- what the layers promise to the theory of runs, for a configuration of at most eight peers
 
@@ -612,27 +507,28 @@ config_few e = omega arith
 
 -- ---- the stages in turn are the step
 
-stands_below : (e : Endpoint) (k : List ℕ) (x : Arrival) (y : Made answers) → StandsFor e k x y → Kept answers y → x.peer < most_peers
-stands_below e k x (other_sender a) s l = omega (arith, s.0)
-stands_below e k x (direct p a) s l = omega (arith, s.0, l.0)
-stands_below e k x (segment p g) s l = omega (arith, s.peer, l)
+stepped-below : (e : Endpoint) (m : List ℕ) (x : Made answers) → Kept answers x → (stepped e m x).peer < most_peers
+stepped-below e m (other_sender a) l = omega arith
+stepped-below e m (direct p a) l = l.0
+stepped-below e m (segment p g) l = l
 
 module _ (e : Endpoint) (k : List ℕ) where
+  peer-settled : (m : List ℕ) (x : Arrival) → (staged e m k x).peer ≡ x.peer
+  unfolding settle_of
+  peer-settled m x = refl
+
   pub open_below : (room : ℕ) → (opened_by e k room).peer < most_peers
+  unfolding open_of
   open_below room =
       case_b (ltb room 55296)
-      (λ b. rw (← open_memory e.addresses e.own e.port (min e.peer_count most_peers) k room (ltb-true room 55296 b)) (omega arith))
-      (λ b. stands_below e k (opened_by e k room) (header_of (config_of e) k) (opened-stands e k room (ltb-false room 55296 b))
-      (header-kept (config_of e) (config_few e) k))
+      (λ b. rw b (omega arith))
+      (λ b. rw (b, ← peer-settled [] (open_ip (ipv4_of k) (open_header e.addresses e.own e.port (min e.peer_count most_peers) k)), header-adds e [] k)
+      (stepped-below e [] (header_of (config_of e) k) (header-kept (config_of e) (config_few e) k)))
 
   module _ (m : List ℕ) where
     pub stages_step : staged e m k (opened_by e k (length m)) ≡ step_of e m k
-    unfolding step_of
-    stages_step =
-        case_b (ltb (length m) 55296)
-        (λ b. rw (b, ← open_memory e.addresses e.own e.port (min e.peer_count most_peers) k (length m) (ltb-true (length m) 55296 b))
-        (other_adds e m k (from_other D.MemoryTooSmall) 0 (R.Dropped D.MemoryTooSmall) refl (refused_stands e k 0 D.MemoryTooSmall)))
-        (λ b. rw b (stands_adds e m k (opened_by e k (length m)) (header_of (config_of e) k) (opened-stands e k (length m) (ltb-false (length m) 55296 b))))
+    unfolding open_of step_of settle_of take_of deliver_of
+    stages_step = case_b (ltb (length m) 55296) (λ b. rw b) (λ b. rw b (header-adds e m k))
 
     -- with the row as the code reads it
     pub settled_is : (x : Arrival) → x ≡ opened_by e k (length m) → settled_by e x (get_or e.peers x.peer no_row) k m ≡ step_of e m k

@@ -15,7 +15,7 @@ use Rattle.reassembly.proofs.Laws.TakeIn.{table-part}
 use Rattle.endpoint.specs.Config.{Config, config_of}
 use Rattle.endpoint.specs.Receive.{answers, layers, answer_at, judge_of, header_of}
 use Rattle.endpoint.specs.Stages.{offer_at, brings_segment, untaken_of, opened_by, delivered_by}
-use Rattle.endpoint.proofs.Laws.Receive.{StandsFor, opened-stands, stands-segment, judged_by}
+use Rattle.endpoint.proofs.Laws.Stands.{StandsFor, opened-stands, stands-segment, judged_by}
 use Rattle.endpoint.specs.declared.answer.Drop.TheVariants as D
 use Rattle.endpoint.specs.declared.answer.Received.{Received}
 use Rattle.endpoint.specs.declared.answer.Received.TheVariants as R

@@ -4,7 +4,7 @@ use Rattle.std.proofs.Common.{sym, ap, ◌∙◌, add-one}
 use Rattle.std.proofs.lemmas.List.{length-map}
 use Rattle.std.proofs.Math.ListN.{get_or-map}
 use Rattle.reassembly.proofs.Laws.Base.{map-set}
-use Rattle.endpoint.proofs.Laws.Tick.{changed_before, before_at, before_more, before-none, before-all}
+use Rattle.endpoint.proofs.Laws.Changed.{changed_before, before_at, before_more, before-none, before-all}
 use Rattle.endpoint.specs.Config.{Config, config_of}
 use Rattle.endpoint.specs.Receive.{answers, layers}
 use Rattle.endpoint.specs.declared.config.Endpoint.{Endpoint}

@@ -2,7 +2,7 @@
 use native.Mathlib.Omega.{arith}
 use mathlib.Core.Path.{◌∙◌, ap}
 use Rattle.endpoint.specs.Stages.{offer_at}
-use Rattle.endpoint.proofs.Laws.Receive.{part_room}
+use Rattle.endpoint.proofs.Laws.Stands.{part_room}
 use Rattle.endpoint.proofs.receive.complete_in.Goals as goal
 
 pub complete-requires : goal.complete-requires

@@ -12,4 +12,4 @@ pub returns-in-Pending : goal.returns-in-Pending
 returns-in-Pending c = settle_pending _ _ _ _ _ _ c.in-Pending.is
 
 pub returns-in-Complete : goal.returns-in-Complete
-returns-in-Complete c = settle_complete _ _ _ _ _ _ c.in-Complete.is _ _ c.complete-offer.ensures c.deliver.ensures
+returns-in-Complete c = settle_complete _ _ _ _ _ _ c.in-Complete.is _ _ c.complete_in-offer.ensures c.deliver.ensures

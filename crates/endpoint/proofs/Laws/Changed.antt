@@ -1,0 +1,37 @@
+-- A loop that changes each entry of a list in turn.
+use Rattle.std.specs.Prelude.{◌≡◌, length, get_or, set, take}
+use Rattle.std.proofs.Common.{◌∙◌, not-suc-le-zero, le_of_suc-le-suc}
+use Rattle.std.proofs.Math.Path.{refl, ap}
+use mathlib.Core.List.{List, [], ◌∷◌, ◌++◌, map, append-nil}
+use Prim.Native.Nat.{ℕ, zero, suc, ◌<◌}
+use Rattle.std.proofs.Math.ListN.{drop}
+use Rattle.std.proofs.Math.Seq.{take-length, drop-length}
+
+-- a loop that changes each entry of a list: those before p are changed
+module _ {A : Type 0} (f : A → A) where
+  unfoldable pub changed_before : List A → ℕ → List A
+  changed_before l p = map f (take p l) ++ drop p l
+
+  -- what a turn finds at p is as it came
+  pub before_at : (l : List A) (p : ℕ) (d : A) → p < length l → get_or (changed_before l p) p d ≡ get_or l p d
+  unfolding changed_before
+  before_at [] p d h = absurd (not-suc-le-zero h)
+  before_at (x ∷ l) zero d h = refl
+  before_at (x ∷ l) (suc p) d h = before_at l p d (le_of_suc-le-suc h)
+
+  pub before_more : (l : List A) (p : ℕ) (d : A) → p < length l → set (changed_before l p) p (f (get_or l p d)) ≡ changed_before l (suc p)
+  unfolding changed_before
+  before_more [] p d h = absurd (not-suc-le-zero h)
+  before_more (x ∷ l) zero d h = refl
+  before_more (x ∷ l) (suc p) d h = ap (λ (t : List A). f x ∷ t) (before_more l p d (le_of_suc-le-suc h))
+
+  pub before-none : (l : List A) → changed_before l 0 ≡ l
+  unfolding changed_before
+  before-none l = refl
+
+  pub before-all : (l : List A) → changed_before l (length l) ≡ map f l
+  unfolding changed_before
+  before-all l =
+      ap (λ (t : List A). map f t ++ drop (length l) l) (take-length l)
+      ∙ ap (λ (t : List A). map f l ++ t) (drop-length l)
+      ∙ append-nil (map f l)
