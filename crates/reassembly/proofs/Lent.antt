@@ -5,7 +5,7 @@ use mathlib.Core.List.{List, ◌++◌, append-nil, append_assoc}
 use native.Mathlib.Nat.{zero-add}
 use native.Mathlib.Omega.{arith}
 use lib.ListN.{length, take, drop, get_or, replicate, length-drop, length-replicate, take-append-drop}
-use lib.Seq.{take_all, drop-length, drop-drop, sets, sets-eq, length-sets, length-take-le, get_or-drop}
+use lib.Seq.{take_all, take-length, drop-length, drop-drop, sets, sets-eq, length-sets, length-take-le, get_or-drop}
 use borrow.Rule.Slice.PartMut.{mid_of, put_mid, Post-is}
 use Rattle.reassembly.specs.Base.{some_below, all_below}
 use Rattle.reassembly.proofs.Laws.Base.{some_below_ext, all_below_ext}
@@ -24,11 +24,6 @@ written a m s l =
     rest_put a m (s ++ drop (length s) (mid_of a (length m - a) m)) (omega arith)
     ∙ rw (rest_mid a m, drop-drop) (sym (append_assoc (take a m) s (drop (a + length s) m)) ∙ sym (sets-eq s m a l))
 
--- a part as long as s was written over
-filled : (a n : ℕ) (m x s : List ℕ) → a + length s ≤ length m → x ≡ s → n ≡ length s → put_mid a n m x ≡ sets m a s
-filled a n m x s l e k =
-    rw (e, k, drop-drop) (sym (append_assoc (take a m) s (drop (a + length s) m)) ∙ sym (sets-eq s m a l))
-
 -- bits were set in the part
 flagged : (b a n : ℕ) (m : List ℕ) → b ≤ length m → put_mid b (length m - b) m (set_bits (mid_of b (length m - b) m) 0 a n) ≡ set_bits m b a n
 flagged b a n m l =
@@ -46,17 +41,19 @@ cleared m x k lk o e =
     let n : length {A = ℕ} (replicate 192 0) ≡ 192 = length-replicate {A = ℕ} 192 0 in
     ap (λ (t : List ℕ). put_mid b (length m - b) m t) e ∙ written b m (replicate 192 0) (omega arith)
 
--- `memory::put`: x is what the copy left in its part of n bytes, and y what the map's leaf left in its own
-pub landed : (m x y s : List ℕ) (k at n : ℕ) → k < 32 → at + length s ≤ 1532 → 55296 ≤ length m
-    → x ≡ s → n ≡ length s
-    → (m₁ : List ℕ) → m₁ ≡ put_mid (k * 1728 + at) n m x
+-- `memory::put`: x is what the copying leaf left in its part, and y what the map's leaf left in its own
+pub landed : (m x y s : List ℕ) (k at : ℕ) → k < 32 → at + length s ≤ 1532 → 55296 ≤ length m
+    → x ≡ take (length s) s ++ drop (length s) (mid_of (k * 1728 + at) (length m - (k * 1728 + at)) m)
+    → (m₁ : List ℕ) → m₁ ≡ put_mid (k * 1728 + at) (length m - (k * 1728 + at)) m x
     → y ≡ set_bits (mid_of (k * 1728 + 1536) (length m₁ - (k * 1728 + 1536)) m₁) 0 at (length s)
     → put_mid (k * 1728 + 1536) (length m₁ - (k * 1728 + 1536)) m₁ y ≡ put_at m k at s
 unfolding put_at slot_start map_start
-landed m x y s k at n lk f o ex en m₁ e₁ ey =
+landed m x y s k at lk f o ex m₁ e₁ ey =
     let p : ℕ = k * 1728 + at in
     let b : ℕ = k * 1728 + 1536 in
-    let z : m₁ ≡ sets m p s = e₁ ∙ filled p n m x s (omega arith) ex en in
+    let z : m₁ ≡ sets m p s =
+    e₁ ∙ ap (λ (t : List ℕ). put_mid p (length m - p) m t) (ex ∙ ap (λ (t : List ℕ). t ++ drop (length s) (mid_of p (length m - p) m)) (take-length s))
+    ∙ written p m s (omega arith) in
     ap (λ (t : List ℕ). put_mid b (length m₁ - b) m₁ t) ey
     ∙ flagged b at (length s) m₁ (omega (arith, ap length z, length-sets m p s))
     ∙ ap (λ (t : List ℕ). set_bits t b at (length s)) z

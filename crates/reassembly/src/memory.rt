@@ -5,6 +5,7 @@ ghost use Rattle.reassembly.specs.Store.{received_at, clear_at, put_at};
 
 use crate::map;
 use crate::number::{FRAME_BYTES, SLOT_BYTES};
+use wire::copy::copy;
 
 // Forgets what slot k received: all of its map. The frame's bytes stay.
 pub(crate) fn clear(memory: &mut [u8], k: usize)
@@ -22,7 +23,7 @@ pub(crate) fn put(memory: &mut [u8], k: usize, offset: usize, bytes: &[u8])
 {
     let place = k * SLOT_BYTES + offset;
     let start = k * SLOT_BYTES + FRAME_BYTES;
-    memory[place..place + bytes.len()].copy_from_slice(bytes);
+    copy(bytes, &mut memory[place..]);
     map::set_bits(&mut memory[start..], offset, bytes.len());
 }
 

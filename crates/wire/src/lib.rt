@@ -4,6 +4,7 @@
 mod be;
 mod bits;
 pub mod carriage;
+pub mod copy;
 pub mod field;
 pub mod frame;
 mod head;

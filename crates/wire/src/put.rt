@@ -2,13 +2,14 @@
 ghost use Rattle.std.specs.Prelude.{◌≡◌, ◌+◌, ◌≤◌, length};
 ghost use Rattle.wire.specs.Bytes.{laid, part};
 
+use crate::copy::copy;
+
 // The bytes of src, from a place of out on.
 pub(crate) fn put(out: &mut [u8], at: usize, src: &[u8])
     requires { at + length src.now ≤ length out.old }
     ensures { out.new ≡ laid out.old at src.now }
 {
-    let end = at + src.len();
-    out[at..end].copy_from_slice(src);
+    copy(src, &mut out[at..]);
 }
 
 // Those of its bytes from a up to e.
