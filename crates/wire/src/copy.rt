@@ -1,14 +1,17 @@
 // Bytes copied over others.
-ghost use Rattle.std.specs.Prelude.{◌≡◌, ◌++◌, ◌≤◌, length, drop};
+ghost use Rattle.std.specs.Prelude.{◌≡◌, ◌++◌, ◌≤◌, length, take, drop};
 
-// The bytes of src, over the first of dst. They are copied one by one, and not by std's `copy_from_slice`: that calls the C library's memmove, and whoever
-// links the library for C owes it memcpy and memset alone.
+// The bytes of src, over the first of dst; of a src that is longer than dst those that it has room for. They are copied one by one, and not by std's
+// `copy_from_slice`: that calls the C library's memmove, and whoever links the library for C owes it memcpy and memset alone.
 pub fn copy(src: &[u8], dst: &mut [u8])
-    requires { length src.now ≤ length dst.old }
-    ensures { dst.new ≡ src.now ++ drop (length src.now) dst.old }
+    ensures room { length src.now ≤ length dst.old → dst.new ≡ src.now ++ drop (length src.now) dst.old }
+    ensures no_room { length dst.old ≤ length src.now → dst.new ≡ take (length dst.old) src.now }
 {
     let mut i = 0;
     while i < src.len() {
+        if i == dst.len() {
+            return;
+        }
         dst[i] = src[i];
         i += 1;
     }

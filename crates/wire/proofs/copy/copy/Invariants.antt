@@ -4,7 +4,7 @@ use Rattle.std.proofs.Math.Seq.{paste}
 use Rattle.wire.proofs.copy.copy.Given as goal
 
 abbrev pub invariant-loop-i : goal.invariant-loop-i
-invariant-loop-i l = (l.i ≤ length l.src) × (l.dst ≡ paste l.fn.dst 0 l.src l.i) × (length l.dst ≡ length l.fn.dst)
+invariant-loop-i l = (l.i ≤ length l.src) × (l.i ≤ length l.fn.dst) × (l.dst ≡ paste l.fn.dst 0 l.src l.i)
 
 abbrev pub decreases-loop-i : goal.decreases-loop-i
 decreases-loop-i l = length l.src - l.i

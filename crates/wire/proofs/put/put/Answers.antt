@@ -10,4 +10,4 @@ returns c =
     let at = c.args.at in
     let src = c.args.src.now in
     laid_tail out at src _ (omega arith)
-    (c.copy.ensures ∙ ap (λ (s : List ℕ). s ++ drop (length src) (take (length out - at) (drop at out))) (sym (take-length src)))
+    (c.copy.ensures.room (omega arith) ∙ ap (λ (s : List ℕ). s ++ drop (length src) (take (length out - at) (drop at out))) (sym (take-length src)))
