@@ -6,6 +6,9 @@ pub(crate) const OUT: usize = 2097152;
 // An image has at most 815 bytes: of a longer file these are enough to refuse it.
 pub(crate) const SETTINGS: usize = 1024;
 
+// The system takes no longer path.
+pub(crate) const PATH: usize = 4096;
+
 // Where a run stands in its trace.
 pub(crate) const IN_HEADER: u8 = 0;
 

@@ -1,37 +1,38 @@
 // Standard output. A reader that is slow gets every line, and one that is gone does not go unnoticed.
-ghost use Rattle.std.specs.Prelude.{◌≤◌, length};
+ghost use Rattle.std.specs.Prelude.{◌≤◌, length, IfOk};
 
-use crate::files::is_passing;
+use crate::files::{is_passing, tell};
+use std::io::ErrorKind;
+use std::{io, thread};
 
-// Writes some bytes, and says how many; 0 where none can be written.
-fn write_some(text: &[u8]) -> usize
-    ensures { result ≤ length text.now }
+// Writes some bytes, and says how many.
+fn write_some(rt: &impl Print, text: &[u8]) -> io::Result<usize>
+    ensures { IfOk result (λ n. n ≤ length text.now) }
 {
-    let mut tries = u64::MAX;
-    while tries > 0 {
-        let put = libc::write(libc::STDOUT_FILENO, text);
-        if put >= 0 {
-            return io::count(put, text);
+    for _ in 0..u64::MAX {
+        match rt.write_some(text) {
+            Err(error) if is_passing(&error) => thread::yield_now(),
+            done => return done,
         }
-        if !is_passing(os::errno()) {
-            return 0;
-        }
-        libc::sched_yield();
-        tries -= 1;
     }
-    0
+    rt.write_some(text)
 }
 
 // Writes all of it, or says on standard error why not.
-pub(crate) fn write(text: &[u8]) -> bool {
+pub(crate) fn write(rt: &(impl Print + Eprint), text: &[u8]) -> bool {
     let mut done: usize = 0;
     while done < text.len() {
-        let n = write_some(&text[done..]);
-        if n == 0 {
-            os::fail(b"rerun: standard output");
-            return false;
+        match write_some(rt, &text[done..]) {
+            Ok(0) => {
+                tell(rt, "rerun: standard output", ErrorKind::WriteZero);
+                return false;
+            }
+            Ok(count) => done += count,
+            Err(error) => {
+                tell(rt, "rerun: standard output", error);
+                return false;
+            }
         }
-        done += n;
     }
     true
 }
