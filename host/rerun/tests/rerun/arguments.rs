@@ -3,6 +3,7 @@
 use crate::tester::{command, output, under_shell, Tester};
 use crate::traces::{settings, small};
 use std::ffi::{OsStr, OsString};
+use std::fs::File;
 use std::os::unix::ffi::OsStrExt;
 use std::path::{Path, PathBuf};
 use vectors::traces::lines;
@@ -71,13 +72,12 @@ fn further_arguments() {
     assert_eq!(tester.tally.ticks, 4 * 2);
 }
 
-/// Names of any bytes, and of nearly as many as the system takes, from the folder that
-/// the program is run in.
+/// Names of any text, and of nearly as many bytes as the system takes, from the folder
+/// that the program is run in.
 #[test]
 fn names_of_all_sorts() {
     let mut tester = Tester::new("names");
     let expected = lines(&settings(), &small());
-    let odd = OsStr::from_bytes(b"\xff\xfe \n-");
     for (image, trace) in [("-", "--"), ("a b", "c\td"), ("1", "2"), ("x.trp", "x.twn")] {
         tester.file(image, &settings());
         tester.file(trace, &small());
@@ -85,12 +85,38 @@ fn names_of_all_sorts() {
         command.current_dir(&tester.folder);
         tester.settle(&expected, &output(command));
     }
-    std::fs::write(tester.folder.join(odd), small()).expect("a file");
+    let odd = "\u{ff}\u{2713}\u{1f980} \n-";
+    tester.file(odd, &small());
     let long = "./".repeat(2040) + "1";
-    let mut command = command([OsStr::new(&long), odd]);
+    let mut command = command([&long, odd]);
     command.current_dir(&tester.folder);
     tester.settle(&expected, &output(command));
     assert_eq!(tester.tally.ticks, 5 * 2);
+}
+
+/// No file is opened by a name that is not UTF-8. What such a file has is read from
+/// standard input.
+#[test]
+fn names_that_are_no_text() {
+    let mut tester = Tester::new("no text");
+    let odd = OsStr::from_bytes(b"\xff\xfe \n-");
+    for (bytes, place) in [(settings(), 0), (small(), 1)] {
+        let mut names = [OsString::from("1"), OsString::from("2")];
+        tester.file("1", &settings());
+        tester.file("2", &small());
+        std::fs::write(tester.folder.join(odd), bytes).expect("a file");
+        names[place] = odd.into();
+        let mut by_name = command(&names);
+        by_name.current_dir(&tester.folder);
+        let none = ["bad settings\n", "bad trace\n"][place];
+        tester.settle(none, &output(by_name));
+        names[place] = "/dev/stdin".into();
+        let mut from_input = command(&names);
+        from_input.current_dir(&tester.folder);
+        from_input.stdin(File::open(tester.folder.join(odd)).expect("a file"));
+        tester.settle(&lines(&settings(), &small()), &output(from_input));
+    }
+    assert_eq!(tester.tally.ticks, 2 * 2);
 }
 
 /// A file that has no end is read no further than to its fault. The limit on its memory
