@@ -32,8 +32,8 @@ pub record Viewed (packet memory : Bor (List ℕ)) (p : Place) (r : Bor (List �
 unfoldable pub cut_within : (room : ℕ) → E.Place → E.Place
 cut_within room p = cond (leb (p.start + p.length) room) p (record { start = 0; length = 0; in_memory = false })
 
-unfoldable pub cut_of : (IsPacketLength memory_length : ℕ) → E.Place → E.Place
-cut_of IsPacketLength memory_length p = cond p.in_memory (cut_within memory_length p) (cut_within IsPacketLength p)
+unfoldable pub cut_of : (packet_length memory_length : ℕ) → E.Place → E.Place
+cut_of packet_length memory_length p = cond p.in_memory (cut_within memory_length p) (cut_within packet_length p)
 
 -- ---- THE RULE
 

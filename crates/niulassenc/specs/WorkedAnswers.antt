@@ -92,7 +92,7 @@ pub record WorkedAnswers : Type 0 where
   pub loaded : (e : Endpoint) → started_of_load (record { endpoint = e; answer = L.Done }) ≡ record { endpoint = e; code = 0 }
   pub not_loaded : (e : Endpoint) → started_of_load (record { endpoint = e; answer = L.BadImage }) ≡ record { endpoint = e; code = 24 }
   -- the part to cut: a place that fits its slice, as it is; of one that does not, the empty part at the packet's start
-  pub cut_fits : (IsPacketLength memory_length start length : ℕ) (in_lent_memory : Bool) → start + length ≤ cond in_lent_memory memory_length IsPacketLength
-      → cut_at IsPacketLength memory_length start length in_lent_memory ≡ record { start = start; length = length; in_memory = in_lent_memory }
-  pub cut_past : (IsPacketLength memory_length start length : ℕ) (in_lent_memory : Bool) → cond in_lent_memory memory_length IsPacketLength < start + length
-      → cut_at IsPacketLength memory_length start length in_lent_memory ≡ record { start = 0; length = 0; in_memory = false }
+  pub cut_fits : (packet_length memory_length start length : ℕ) (in_lent_memory : Bool) → start + length ≤ cond in_lent_memory memory_length packet_length
+      → cut_at packet_length memory_length start length in_lent_memory ≡ record { start = start; length = length; in_memory = in_lent_memory }
+  pub cut_past : (packet_length memory_length start length : ℕ) (in_lent_memory : Bool) → cond in_lent_memory memory_length packet_length < start + length
+      → cut_at packet_length memory_length start length in_lent_memory ≡ record { start = 0; length = 0; in_memory = false }

@@ -24,8 +24,8 @@ unfoldable pub begins_trace : List ℕ → Bool
 begins_trace s = leb 5 (length s) && headed s
 
 -- or a record: the length of a packet, and the most bytes of one and of its record
-unfoldable pub IsPacketLength : List ℕ → ℕ
-IsPacketLength s = be_at s 1 2
+unfoldable pub packet_length : List ℕ → ℕ
+packet_length s = be_at s 1 2
 
 abbrev pub packet_most : ℕ
 packet_most = 1600
@@ -39,8 +39,8 @@ record_at s =
     (pick (eqb (get_or s 0 0) 1) E.Tick
     (pick (eqb (get_or s 0 0) 2)
     (pick (ltb (length s) 3) E.More
-    (pick (ltb packet_most (IsPacketLength s)) E.Broken
-    (pick (ltb (length s) (3 + IsPacketLength s)) E.More E.Packet)))
+    (pick (ltb packet_most (packet_length s)) E.Broken
+    (pick (ltb (length s) (3 + packet_length s)) E.More E.Packet)))
     E.Broken))
 
 unfoldable pub record_end : List ℕ → ℕ
@@ -48,8 +48,8 @@ record_end s =
     pick (ltb (length s) 1) 0
     (pick (eqb (get_or s 0 0) 2)
     (pick (ltb (length s) 3) (length s)
-    (pick (ltb packet_most (IsPacketLength s)) 3
-    (pick (ltb (length s) (3 + IsPacketLength s)) (length s) (3 + IsPacketLength s))))
+    (pick (ltb packet_most (packet_length s)) 3
+    (pick (ltb (length s) (3 + packet_length s)) (length s) (3 + packet_length s))))
     1)
 
 -- the records, and what is left where none stands; `fuel` bounds their number
@@ -70,7 +70,7 @@ abbrev pub read_next : Event → (s : List ℕ) → (List ℕ → Reading) → R
 read_next E.More s next = stopped s
 read_next E.Header s next = stopped s
 read_next E.Tick s next = behind tick (next (drop 1 s))
-read_next E.Packet s next = behind (packet (part s 3 (3 + IsPacketLength s))) (next (drop (3 + IsPacketLength s) s))
+read_next E.Packet s next = behind (packet (part s 3 (3 + packet_length s))) (next (drop (3 + packet_length s) s))
 read_next E.Broken s next = stopped s
 
 unfoldable pub read_by : (fuel : ℕ) → List ℕ → Reading

@@ -425,8 +425,8 @@ module _ (e : Endpoint) (b : ℕ) (frame : List ℕ) (k identifier : ℕ) (outpu
   abbrev segments : ℕ
   segments = cond (eqb (kind_at e b) 3) ((18 + length frame + (e.mtu - 40) - 1) / (e.mtu - 40)) 1
 
-  abbrev IsPacketLength : ℕ
-  IsPacketLength =
+  abbrev packet_length : ℕ
+  packet_length =
       cond (eqb (kind_at e b) 1) (36 + length frame)
       (cond (eqb (kind_at e b) 2) (28 + length frame) (40 + (min (18 + length frame) (k * (e.mtu - 40) + (e.mtu - 40)) - k * (e.mtu - 40))))
 
@@ -439,9 +439,9 @@ module _ (e : Endpoint) (b : ℕ) (frame : List ℕ) (k identifier : ℕ) (outpu
 
   abbrev last_wrap_rows : T.Rows
   last_wrap_rows =
-      ((eqb (kind_at e b) 1 || eqb (kind_at e b) 2) && ltb e.mtu IsPacketLength ⇒ 22)
+      ((eqb (kind_at e b) 1 || eqb (kind_at e b) 2) && ltb e.mtu packet_length ⇒ 22)
       ∷ (leb segments k ⇒ 23)
-      ∷ (ltb (length output) IsPacketLength ⇒ 21)
+      ∷ (ltb (length output) packet_length ⇒ 21)
       ∷ []
 
   last-vxlan : kind_at e b ≡ 1 → last_number ≡ T.numbered last_wrap_rows

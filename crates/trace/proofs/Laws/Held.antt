@@ -8,7 +8,7 @@ use Rattle.wire.specs.Bytes.{be_at}
 use Rattle.wire.specs.Field.{field}
 use Rattle.wire.proofs.Laws.Bytes.{case_b, be_one, be-take, be_front}
 use Rattle.wire.proofs.Laws.Field.{field_in}
-use Rattle.trace.specs.Reader.{headed, header_at, header_end, IsPacketLength, packet_most, record_most, record_at, record_end}
+use Rattle.trace.specs.Reader.{headed, header_at, header_end, packet_length, packet_most, record_most, record_at, record_end}
 use Rattle.trace.proofs.Laws.Reader.{stands-nothing, stands-tick, stands-other, stands-short, stands-large, stands-cut, stands-packet}
 use Rattle.trace.proofs.Laws.Reader.{header-short, header-stands, header-other}
 use Rattle.trace.specs.declared.reader.Event.{Event}
@@ -223,8 +223,8 @@ module _ (m piece : List ℕ) (count : ℕ) (size : length m ≡ record_most) wh
           head : 3 ≤ length (take count m ++ piece)
           head = enough u₂ room3 k
 
-          size_is : v ≡ IsPacketLength (take count m ++ piece)
-          unfolding IsPacketLength
+          size_is : v ≡ packet_length (take count m ++ piece)
+          unfolding packet_length
           size_is = v-is ∙ held-field u₂ room3 k 1 2 (omega arith)
 
           pub exit_large : packet_most < v → Says r E.Broken n₂ count → Meets record_at record_end m piece count m₂ r
@@ -233,24 +233,24 @@ module _ (m piece : List ℕ) (count : ℕ) (size : length m ≡ record_most) wh
               meets record_at record_end m piece count m₂ n₂ E.Broken 3 r z x.event x.end (enough_used u₂ room3 k) u₂.held
 
           module _ (l : v ≤ packet_most) (m₃ : List ℕ) (n₃ : ℕ) (t₃ : Taken m₂ piece count (3 + v) m₃ n₃) where
-            small : IsPacketLength (take count m ++ piece) ≤ packet_most
+            small : packet_length (take count m ++ piece) ≤ packet_most
             small = rw (← size_is) l
 
-            u₃ : Taken m piece count (3 + IsPacketLength (take count m ++ piece)) m₃ n₃
+            u₃ : Taken m piece count (3 + packet_length (take count m ++ piece)) m₃ n₃
             u₃ = rw (← size_is) (again u₂ room3 t₃)
 
-            room : 3 + IsPacketLength (take count m ++ piece) ≤ length m
+            room : 3 + packet_length (take count m ++ piece) ≤ length m
             room = omega (arith, size, small)
 
             pub exit_cut : count + n₃ < 3 + v → Says r E.More n₃ count → Meets record_at record_end m piece count m₃ r
             exit_cut o z =
-                let o' : count + n₃ < 3 + IsPacketLength (take count m ++ piece) = rw (← size_is) o in
+                let o' : count + n₃ < 3 + packet_length (take count m ++ piece) = rw (← size_is) o in
                 let x = stands-cut (take count m ++ piece) head two small (few u₃ room o') in
                 meets record_at record_end m piece count m₃ n₃ E.More (length (take count m ++ piece)) r z x.event x.end (few_used u₃ room o') u₃.held
 
             pub exit_packet : 3 + v ≤ count + n₃ → Says r E.Packet n₃ count → Meets record_at record_end m piece count m₃ r
             exit_packet o z =
-                let o' : 3 + IsPacketLength (take count m ++ piece) ≤ count + n₃ = rw (← size_is) o in
+                let o' : 3 + packet_length (take count m ++ piece) ≤ count + n₃ = rw (← size_is) o in
                 let x = stands-packet (take count m ++ piece) head two small (enough u₃ room o') in
-                meets record_at record_end m piece count m₃ n₃ E.Packet (3 + IsPacketLength (take count m ++ piece)) r z x.event x.end
+                meets record_at record_end m piece count m₃ n₃ E.Packet (3 + packet_length (take count m ++ piece)) r z x.event x.end
                 (enough_used u₃ room o') u₃.held

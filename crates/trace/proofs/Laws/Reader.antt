@@ -12,7 +12,7 @@ use Rattle.wire.proofs.Laws.Bytes.{case_b, be_front, drop-take, part_is}
 use Rattle.trace.specs.Trace.{tick, packet}
 use Rattle.trace.specs.declared.reader.Event.{Event}
 use Rattle.trace.specs.declared.reader.Event.TheVariants as E
-use Rattle.trace.specs.Reader.{headed, header_at, header_end, begins_trace, IsPacketLength, packet_most, record_most, record_at, record_end}
+use Rattle.trace.specs.Reader.{headed, header_at, header_end, begins_trace, packet_length, packet_most, record_most, record_at, record_end}
 use Rattle.trace.specs.Reader.{Reading, behind, stopped, read_next, read_by, read_of, HeaderWaits, Waits}
 
 -- ---- what stands at the front, by cases
@@ -46,38 +46,38 @@ module _ (s : List ℕ) where
   }
 
   module _ (a : 3 ≤ length s) (b : get_or s 0 0 ≡ 2) where
-    pub stands-large : packet_most < IsPacketLength s → Stands s E.Broken 3
+    pub stands-large : packet_most < packet_length s → Stands s E.Broken 3
     unfolding record_at record_end
     stands-large c = record {
-      event = rw (le-ltb (length s) 1 (omega arith), b, le-ltb (length s) 3 a, lt-ltb packet_most (IsPacketLength s) c);
-      end = rw (le-ltb (length s) 1 (omega arith), b, le-ltb (length s) 3 a, lt-ltb packet_most (IsPacketLength s) c);
+      event = rw (le-ltb (length s) 1 (omega arith), b, le-ltb (length s) 3 a, lt-ltb packet_most (packet_length s) c);
+      end = rw (le-ltb (length s) 1 (omega arith), b, le-ltb (length s) 3 a, lt-ltb packet_most (packet_length s) c);
     }
 
-    module _ (c : IsPacketLength s ≤ packet_most) where
-      pub stands-cut : length s < 3 + IsPacketLength s → Stands s E.More (length s)
+    module _ (c : packet_length s ≤ packet_most) where
+      pub stands-cut : length s < 3 + packet_length s → Stands s E.More (length s)
       unfolding record_at record_end
       stands-cut d = record {
         event = rw (
           le-ltb (length s) 1 (omega arith),
           b,
           le-ltb (length s) 3 a,
-          le-ltb packet_most (IsPacketLength s) c,
-          lt-ltb (length s) (3 + IsPacketLength s) d,
+          le-ltb packet_most (packet_length s) c,
+          lt-ltb (length s) (3 + packet_length s) d,
         );
-        end = rw (le-ltb (length s) 1 (omega arith), b, le-ltb (length s) 3 a, le-ltb packet_most (IsPacketLength s) c, lt-ltb (length s) (3 + IsPacketLength s) d);
+        end = rw (le-ltb (length s) 1 (omega arith), b, le-ltb (length s) 3 a, le-ltb packet_most (packet_length s) c, lt-ltb (length s) (3 + packet_length s) d);
       }
 
-      pub stands-packet : 3 + IsPacketLength s ≤ length s → Stands s E.Packet (3 + IsPacketLength s)
+      pub stands-packet : 3 + packet_length s ≤ length s → Stands s E.Packet (3 + packet_length s)
       unfolding record_at record_end
       stands-packet d = record {
         event = rw (
           le-ltb (length s) 1 (omega arith),
           b,
           le-ltb (length s) 3 a,
-          le-ltb packet_most (IsPacketLength s) c,
-          le-ltb (length s) (3 + IsPacketLength s) d,
+          le-ltb packet_most (packet_length s) c,
+          le-ltb (length s) (3 + packet_length s) d,
         );
-        end = rw (le-ltb (length s) 1 (omega arith), b, le-ltb (length s) 3 a, le-ltb packet_most (IsPacketLength s) c, le-ltb (length s) (3 + IsPacketLength s) d);
+        end = rw (le-ltb (length s) 1 (omega arith), b, le-ltb (length s) 3 a, le-ltb packet_most (packet_length s) c, le-ltb (length s) (3 + packet_length s) d);
       }
 
 pub data Front (s : List ℕ) : Type 0 where
@@ -85,9 +85,9 @@ pub data Front (s : List ℕ) : Type 0 where
   ticks : 1 ≤ length s → get_or s 0 0 ≡ 1 → Front s
   other : 1 ≤ length s → (get_or s 0 0 ≡ 1 → ⊥) → (get_or s 0 0 ≡ 2 → ⊥) → Front s
   short : 1 ≤ length s → get_or s 0 0 ≡ 2 → length s < 3 → Front s
-  large : 3 ≤ length s → get_or s 0 0 ≡ 2 → packet_most < IsPacketLength s → Front s
-  cut : 3 ≤ length s → get_or s 0 0 ≡ 2 → IsPacketLength s ≤ packet_most → length s < 3 + IsPacketLength s → Front s
-  all : 3 ≤ length s → get_or s 0 0 ≡ 2 → IsPacketLength s ≤ packet_most → 3 + IsPacketLength s ≤ length s → Front s
+  large : 3 ≤ length s → get_or s 0 0 ≡ 2 → packet_most < packet_length s → Front s
+  cut : 3 ≤ length s → get_or s 0 0 ≡ 2 → packet_length s ≤ packet_most → length s < 3 + packet_length s → Front s
+  all : 3 ≤ length s → get_or s 0 0 ≡ 2 → packet_length s ≤ packet_most → 3 + packet_length s ≤ length s → Front s
 
 pub front : (s : List ℕ) → Front s
 front s =
@@ -98,10 +98,10 @@ front s =
     let b : get_or s 0 0 ≡ 2 = eqb-true (get_or s 0 0) 2 g in
     case_b (ltb (length s) 3) (λ k. short a b (ltb-true (length s) 3 k)) (λ k.
     let c : 3 ≤ length s = ltb-false (length s) 3 k in
-    case_b (ltb packet_most (IsPacketLength s)) (λ l. large c b (ltb-true packet_most (IsPacketLength s) l)) (λ l.
-    let d : IsPacketLength s ≤ packet_most = ltb-false packet_most (IsPacketLength s) l in
-    case_b (ltb (length s) (3 + IsPacketLength s)) (λ m. cut c b d (ltb-true (length s) (3 + IsPacketLength s) m))
-    (λ m. all c b d (ltb-false (length s) (3 + IsPacketLength s) m)))))
+    case_b (ltb packet_most (packet_length s)) (λ l. large c b (ltb-true packet_most (packet_length s) l)) (λ l.
+    let d : packet_length s ≤ packet_most = ltb-false packet_most (packet_length s) l in
+    case_b (ltb (length s) (3 + packet_length s)) (λ m. cut c b d (ltb-true (length s) (3 + packet_length s) m))
+    (λ m. all c b d (ltb-false (length s) (3 + packet_length s) m)))))
     (λ g. other a (eqb-false (get_or s 0 0) 1 f) (eqb-false (get_or s 0 0) 2 g))))
 
 -- and what an event says of the bytes
@@ -113,18 +113,18 @@ pub record IsTick (s : List ℕ) : Type 0 where
 pub record IsPacket (s : List ℕ) : Type 0 where
   pub head : 3 ≤ length s
   pub tag : get_or s 0 0 ≡ 2
-  pub small : IsPacketLength s ≤ packet_most
-  pub complete : 3 + IsPacketLength s ≤ length s
-  pub is : Stands s E.Packet (3 + IsPacketLength s)
+  pub small : packet_length s ≤ packet_most
+  pub complete : 3 + packet_length s ≤ length s
+  pub is : Stands s E.Packet (3 + packet_length s)
 
 pub data IsBroken (s : List ℕ) : Type 0 where
   no_tag : 1 ≤ length s → (get_or s 0 0 ≡ 1 → ⊥) → (get_or s 0 0 ≡ 2 → ⊥) → IsBroken s
-  too_large : 3 ≤ length s → get_or s 0 0 ≡ 2 → packet_most < IsPacketLength s → IsBroken s
+  too_large : 3 ≤ length s → get_or s 0 0 ≡ 2 → packet_most < packet_length s → IsBroken s
 
 pub data Lacks (s : List ℕ) : Type 0 where
   all_of_it : length s < 1 → Lacks s
   its_length : 1 ≤ length s → get_or s 0 0 ≡ 2 → length s < 3 → Lacks s
-  its_bytes : 3 ≤ length s → get_or s 0 0 ≡ 2 → IsPacketLength s ≤ packet_most → length s < 3 + IsPacketLength s → Lacks s
+  its_bytes : 3 ≤ length s → get_or s 0 0 ≡ 2 → packet_length s ≤ packet_most → length s < 3 + packet_length s → Lacks s
 
 abbrev pub Told : Event → List ℕ → Type 0
 Told E.More s = Lacks s
@@ -158,8 +158,8 @@ lacks h w = told h E.More w
 first_stays : (s t : List ℕ) → 1 ≤ length s → get_or (s ++ t) 0 0 ≡ get_or s 0 0
 first_stays s t a = get_or-append s t 0 0 a
 
-length_stays : (s t : List ℕ) → 3 ≤ length s → IsPacketLength (s ++ t) ≡ IsPacketLength s
-unfolding IsPacketLength
+length_stays : (s t : List ℕ) → 3 ≤ length s → packet_length (s ++ t) ≡ packet_length s
+unfolding packet_length
 length_stays s t a = be_front s t 1 2 a
 
 -- what is given stays, and ends where it did
@@ -184,7 +184,7 @@ stays s t e r m = by (front s)
     by (cut a b c d) = absurd (m (sym r ∙ (stands-cut s a b c d).event))
     by (all a b c d) =
         let x = stands-packet s a b c d in
-        let k : IsPacketLength (s ++ t) ≡ IsPacketLength s = length_stays s t a in
+        let k : packet_length (s ++ t) ≡ packet_length s = length_stays s t a in
         rw (sym r ∙ x.event, x.end, ← k)
         (stands-packet (s ++ t) (omega (arith, n)) (first_stays s t (omega arith) ∙ b) (omega (arith, n)) (omega (arith, n)))
 
@@ -268,8 +268,8 @@ next-same f g s h = by (front s)
     by (cut a b c d) = rw (stands-cut s a b c d).event
     by (all a b c d) =
         rw (stands-packet s a b c d).event
-        (ap (behind (packet (part s 3 (3 + IsPacketLength s))))
-        (h (drop (3 + IsPacketLength s) s) (omega (arith, length-drop (3 + IsPacketLength s) s))))
+        (ap (behind (packet (part s 3 (3 + packet_length s))))
+        (h (drop (3 + packet_length s) s) (omega (arith, length-drop (3 + packet_length s) s))))
 
 -- enough fuel is enough
 enough : (n m : ℕ) (s : List ℕ) → length s ≤ n → length s ≤ m → read_by n s ≡ read_by m s
@@ -348,9 +348,9 @@ module _ (h piece : List ℕ) (c : ℕ) (l : length h ≡ c) (w : Waits h) where
         let u : List ℕ = h ++ (piece ++ t) in
         let x : Stands (h ++ piece ++ t) E.Packet e = stays (h ++ piece) t E.Packet r (λ e. clash (cc)) in
         let y : record_at u ≡ E.Packet = ap record_at all_of ∙ x.event in
-        let z : 3 + IsPacketLength u ≡ e = sym (told u E.Packet y).is.end ∙ ap record_end all_of ∙ x.end in
-        let k : IsPacketLength u ≡ e - 3 = omega arith in
-        let p : part u 3 (3 + IsPacketLength u) ≡ drop 3 (h ++ take (e - c) piece) =
+        let z : 3 + packet_length u ≡ e = sym (told u E.Packet y).is.end ∙ ap record_end all_of ∙ x.end in
+        let k : packet_length u ≡ e - 3 = omega arith in
+        let p : part u 3 (3 + packet_length u) ≡ drop 3 (h ++ take (e - c) piece) =
         ap (part u 3) z ∙ part_is u 3 e ∙ sym (drop-take 3 e u)
         ∙ ap (drop 3) (ap (take e) all_of ∙ take-append-le e (h ++ piece) t (ends_within (h ++ piece)) ∙ sym held) in
         read_next_lem u ∙ rw y (ap₂ (λ (a b : List ℕ). behind (packet a) (read_of b)) p (ap (λ (n : ℕ). drop n u) z ∙ left t))

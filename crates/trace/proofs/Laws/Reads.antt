@@ -10,7 +10,7 @@ use Rattle.lookup.proofs.Laws.Cases.{clash, and_l, and_r}
 use Rattle.wire.specs.Bytes.{Bytes, be, be_at, part}
 use Rattle.wire.proofs.Laws.Bytes.{be-length, be_one, be_front, be-behind, be_value, as_fields, be-field, part_cut, part_length, part_mid, bytes_drop}
 use Rattle.trace.specs.Trace.{Record, tick, packet, record_bytes, Allowed, records_bytes, AllAllowed, header, NoRecord, Reads}
-use Rattle.trace.specs.Reader.{headed, begins_trace, IsPacketLength, packet_most, record_at, behind, stopped, read_next, read_of}
+use Rattle.trace.specs.Reader.{headed, begins_trace, packet_length, packet_most, record_at, behind, stopped, read_next, read_of}
 use Rattle.trace.proofs.Laws.Reader.{told, IsTick, IsPacket, stands-tick, stands-packet, read_next_lem}
 use Rattle.trace.specs.declared.reader.Event.{Event}
 use Rattle.trace.specs.declared.reader.Event.TheVariants as E
@@ -22,10 +22,10 @@ unfolding record_bytes
 tick_form s b x =
     be-field s b 0 1 x.some ∙ ap (λ (n : ℕ). be 1 n ++ drop 1 s) (be_one s 0 ∙ x.tag)
 
-packet_form : (s : List ℕ) → Bytes s → IsPacket s → s ≡ record_bytes (packet (part s 3 (3 + IsPacketLength s))) ++ drop (3 + IsPacketLength s) s
-unfolding record_bytes IsPacketLength
+packet_form : (s : List ℕ) → Bytes s → IsPacket s → s ≡ record_bytes (packet (part s 3 (3 + packet_length s))) ++ drop (3 + packet_length s) s
+unfolding record_bytes packet_length
 packet_form s b x =
-    let n : ℕ = IsPacketLength s in
+    let n : ℕ = packet_length s in
     let k : List ℕ = part s 3 (3 + n) in
     let l : length k ≡ n = part_length s 3 (3 + n) x.complete ∙ omega arith in
     let cut : drop 3 s ≡ k ++ drop (3 + n) s = part_cut s 3 (3 + n) (omega arith) in
@@ -56,8 +56,8 @@ tick-length : length (record_bytes tick) ≡ 1
 unfolding record_bytes
 tick-length = be-length 1 1
 
-packet_allowed : (s : List ℕ) → IsPacket s → length (part s 3 (3 + IsPacketLength s)) ≤ 1600
-packet_allowed s x = omega (arith, part_length s 3 (3 + IsPacketLength s) x.complete, x.small)
+packet_allowed : (s : List ℕ) → IsPacket s → length (part s 3 (3 + packet_length s)) ≤ 1600
+packet_allowed s x = omega (arith, part_length s 3 (3 + packet_length s) x.complete, x.small)
 
 module _ (k t : List ℕ) (w : length k ≤ 1600) where
   packet_tag : get_or (record_bytes (packet k) ++ t) 0 0 ≡ 2
@@ -66,8 +66,8 @@ module _ (k t : List ℕ) (w : length k ≤ 1600) where
       sym (be_one (record_bytes (packet k) ++ t) 0) ∙ be_front (record_bytes (packet k)) t 0 1 (omega (arith, packet-length k))
       ∙ be_front (be 1 2) (be 2 (length k) ++ k) 0 1 (omega (arith, be-length 1 2)) ∙ be_value 1 2 (omega arith)
 
-  packet-size : IsPacketLength (record_bytes (packet k) ++ t) ≡ length k
-  unfolding IsPacketLength record_bytes
+  packet-size : packet_length (record_bytes (packet k) ++ t) ≡ length k
+  unfolding packet_length record_bytes
   packet-size =
       be_front (record_bytes (packet k)) t 1 2 (omega (arith, packet-length k))
       ∙ be-behind (be 1 2) (be 2 (length k) ++ k) 1 0 2 (be-length 1 2)
@@ -77,10 +77,10 @@ module _ (k t : List ℕ) (w : length k ≤ 1600) where
   packet-stands =
       let s : List ℕ = record_bytes (packet k) ++ t in
       let n : length s ≡ 3 + length k + length t = length-append (record_bytes (packet k)) t ∙ omega (arith, packet-length k) in
-      let z : IsPacketLength s ≡ length k = packet-size in
+      let z : packet_length s ≡ length k = packet-size in
       let a : 3 ≤ length s = omega arith in
-      let c : IsPacketLength s ≤ packet_most = omega arith in
-      let d : 3 + IsPacketLength s ≤ length s = omega arith in
+      let c : packet_length s ≤ packet_most = omega arith in
+      let d : 3 + packet_length s ≤ length s = omega arith in
       record { head = a; tag = packet_tag; small = c; complete = d; is = stands-packet s a packet_tag c d }
 
   packet-bytes : part (record_bytes (packet k) ++ t) 3 (3 + length k) ≡ k
@@ -115,7 +115,7 @@ none_read s b none = read_next_lem s ∙ by (record_at s) refl
     by E.Tick r = absurd (none tick (drop 1 s) tt (tick_form s b (told s E.Tick r)))
     by E.Packet r =
         let x : IsPacket s = told s E.Packet r in
-        absurd (none (packet (part s 3 (3 + IsPacketLength s))) (drop (3 + IsPacketLength s) s) (packet_allowed s x) (packet_form s b x))
+        absurd (none (packet (part s 3 (3 + packet_length s))) (drop (3 + packet_length s) s) (packet_allowed s x) (packet_form s b x))
     by E.Broken r = refl
 
 -- and where none is given, none stands
@@ -147,7 +147,7 @@ module _ (s : List ℕ) (b : Bytes s) (shorter : (t : List ℕ) → length t < l
       (shorter t (omega (arith, length-drop 1 s, x.some)) (bytes_drop s b 1))
   reads-step E.Packet r =
       let x : IsPacket s = told s E.Packet r in
-      let n : ℕ = 3 + IsPacketLength s in
+      let n : ℕ = 3 + packet_length s in
       let t : List ℕ = drop n s in
       one_more s t (packet (part s 3 n)) (read_of t).records (read_of t).rest (packet_allowed s x) (packet_form s b x)
       (shorter t (omega (arith, length-drop n s, x.head)) (bytes_drop s b n))

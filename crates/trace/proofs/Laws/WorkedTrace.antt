@@ -5,7 +5,7 @@ use Rattle.std.proofs.lemmas.List.{length-replicate}
 use Rattle.lookup.proofs.Laws.Cases.{and_l, and_r}
 use Rattle.wire.specs.Bytes.{Bytes, be, be_at, part}
 use Rattle.trace.specs.Trace.{header}
-use Rattle.trace.specs.Reader.{IsPacketLength, record_at, read_by, read_of}
+use Rattle.trace.specs.Reader.{packet_length, record_at, read_by, read_of}
 use Rattle.trace.specs.WorkedTrace.{WorkedTrace}
 use Rattle.trace.proofs.Laws.Reads.{reads}
 
@@ -20,7 +20,7 @@ all-bytes (x ∷ s) e zero = ltb-true x 256 (and_l (ltb x 256) (bytes s) e)
 all-bytes (x ∷ s) e (suc i) = all-bytes s (and_r (ltb x 256) (bytes s) e) i
 
 pub worked_trace : WorkedTrace
-unfolding bytes be header be_at part IsPacketLength record_at read_by read_of
+unfolding bytes be header be_at part packet_length record_at read_by read_of
 worked_trace =
     let two : List ℕ = 1 ∷ 2 ∷ 0 ∷ 0 ∷ [] in
     let three : List ℕ = 2 ∷ 0 ∷ 3 ∷ 0xAA ∷ 0xBB ∷ 0xCC ∷ 1 ∷ 2 ∷ 6 ∷ 0x41 ∷ 1 ∷ [] in
