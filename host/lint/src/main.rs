@@ -64,7 +64,7 @@ fn findings(tree: &Tree) -> Vec<Finding> {
     let modules = Modules::new(&files);
     let mut found = imports::findings(&files, &tree.edits);
     found.extend(cited::findings(tree, &modules));
-    found.extend(storeys::findings(&files));
+    found.extend(storeys::findings(tree, &files));
     found.extend(layers::findings(tree, &modules));
     found.extend(edits::inapplicable(&tree.edits, &tree.sources));
     found.extend(layers::open(tree, &modules));
