@@ -10,7 +10,7 @@ use crate::cited::paths;
 use crate::decls::{Declaration, Kind};
 use crate::lex::{is_operator, Token};
 use crate::report::{Finding, Rule};
-use crate::tree::{crate_of, steps_of, File, Modules, Place, Tree};
+use crate::tree::{crate_of, File, Modules, Place, Source, Tree};
 use std::collections::{BTreeSet, HashMap};
 
 /// The crates that rule 6 holds.
@@ -30,9 +30,10 @@ pub fn findings(tree: &Tree, modules: &Modules) -> Vec<Finding> {
                 found.push(Finding::new(Rule::Layers, &file.source.path, line, message));
             }
         }
-        for (line, module) in modules_named(file) {
-            if is_inner(tree, file, &module) {
-                let message = format!("names `{module}`, which is no law");
+        for (line, path, place) in proofs_named(modules, at) {
+            let source = modules.files[place].source;
+            if is_another(tree, file, &source.crate_name) && is_inner(source) {
+                let message = format!("names `{path}`, which is no law of {}", source.crate_name);
                 found.push(Finding::new(Rule::Layers, &file.source.path, line, message));
             }
         }
@@ -40,27 +41,31 @@ pub fn findings(tree: &Tree, modules: &Modules) -> Vec<Finding> {
     found
 }
 
-/// The modules that a file names, by an import or by a whole path.
-fn modules_named(file: &File) -> Vec<(usize, String)> {
-    let imported = file
-        .uses
-        .iter()
-        .map(|import| (import.line, import.module.clone()));
+/// What a file names, and where it stands: by an import, by a whole path, or for a tactic.
+fn proofs_named<'t>(modules: &'t Modules, at: usize) -> Vec<(usize, String, usize)> {
+    let file = &modules.files[at];
+    let imported = file.uses.iter().filter_map(|import| {
+        let place = modules.file(&import.module)?;
+        Some((import.line, import.module.clone(), place))
+    });
     let whole = paths(&file.body).into_iter().map(|path| (1, path));
     let by_tactics = file
         .tactics
         .iter()
         .map(|named| (named.line, named.path.clone()));
-    imported
-        .chain(whole.filter(|(_, path)| path.starts_with("Rattle.")))
-        .chain(by_tactics)
-        .collect()
+    let by_path = whole.chain(by_tactics).filter_map(|(line, path)| {
+        let place = path
+            .starts_with("Rattle.")
+            .then(|| modules.named(at, &path))??;
+        Some((line, path, place.0))
+    });
+    imported.chain(by_path).collect()
 }
 
-/// Whether a module is among another crate's proofs, and not among its laws.
-fn is_inner(tree: &Tree, file: &File, module: &str) -> bool {
-    crate_of(module).is_some_and(|maker| is_another(tree, file, maker))
-        && matches!(steps_of(module).as_slice(), ["proofs", inner, ..] if *inner != "Laws")
+/// Written by hand, among the proofs and not among the laws. (What the toolchain makes of code, in no file here, may be named.)
+fn is_inner(source: &Source) -> bool {
+    let within = source.within();
+    within.starts_with("proofs/") && !within.starts_with("proofs/Laws/")
 }
 
 fn unfolded_by_tactics(file: &File) -> Vec<(usize, String)> {
@@ -231,12 +236,13 @@ fn gives_type(declared: &Declaration, body: &[Token]) -> bool {
 #[cfg(test)]
 mod tests {
     use super::*;
-    use crate::tree::Source;
 
     fn tree(upper: &str, name: &str) -> Tree {
         let lower = "unfoldable pub f : ℕ → ℕ\nf x = x\n\nabbrev pub T : ℕ → Type 0\nT n = ℕ → ℕ\n\nabbrev pub g : ℕ → ℕ\ng x = x\n\nabbrev pub ◌w◌ : ℕ → ℕ → ℕ\na w b = a\n";
         let sources = vec![
             Source::new("crates/low/specs/A.antt", lower),
+            Source::new("crates/low/proofs/Laws/A.antt", "pub f : ℕ\nf = 1\n"),
+            Source::new("crates/low/proofs/Sizes.antt", "pub f : ℕ\nf = 1\n"),
             Source::new(name, upper),
         ];
         let crates = vec![
@@ -292,8 +298,10 @@ mod tests {
         let inner = "use Rattle.low.proofs.Sizes.{f}\nk : ℕ\nk = f\n";
         assert_eq!(count(inner, "crates/up/proofs/WorkedB.antt"), 1);
         assert_eq!(count(inner, "crates/low/proofs/B.antt"), 0);
-        let path = "k : ℕ\nk = Rattle.low.proofs.sum.Goals.f\n";
+        let path = "k : ℕ\nk = Rattle.low.proofs.Sizes.f\n";
         assert_eq!(count(path, "crates/up/proofs/B.antt"), 1);
+        let made = "use Rattle.low.proofs.detector.Detector.TheLaws as T\nk : ℕ\nk = T.size\n";
+        assert_eq!(count(made, "crates/up/proofs/B.antt"), 0);
         let kit = "use Rattle.std.proofs.Common.{f}\nk : ℕ\nk = f\n";
         assert_eq!(count(kit, "crates/up/proofs/B.antt"), 0);
     }
@@ -301,9 +309,9 @@ mod tests {
     #[test]
     fn tactics_of_a_function() {
         let unfolding =
-            "#[tactic(auto, using(low::proofs::Laws::A::k), unfolding(low::specs::A::f))]\nfn x() {}\n";
+            "#[tactic(auto, using(low::proofs::Laws::A::f), unfolding(low::specs::A::f))]\nfn x() {}\n";
         assert_eq!(count(unfolding, "crates/up/src/b.rt"), 1);
-        let inner = "#[tactic(auto, using(low::proofs::Sizes::k))]\nfn x() {}\n";
+        let inner = "#[tactic(auto, using(low::proofs::Sizes::f))]\nfn x() {}\n";
         assert_eq!(count(inner, "crates/up/src/b.rt"), 1);
         assert_eq!(count(inner, "crates/low/src/b.rt"), 0);
     }

@@ -219,6 +219,11 @@ impl<'t> Modules<'t> {
         Modules { files, by_path }
     }
 
+    /// The file of a module, if it has one here.
+    pub fn file(&self, module: &str) -> Option<usize> {
+        self.by_path.get(module).copied()
+    }
+
     /// Where a module's name is declared, through `pub use` lines.
     pub fn declared(&self, module: &str, name: &str) -> Option<Place> {
         let mut at = (module.to_string(), name.to_string());

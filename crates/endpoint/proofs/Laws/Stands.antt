@@ -192,32 +192,3 @@ stands-segment e k x (segment p g) d s q =
     let same : s.due ≡ d = cc (s.content, q) in
     rw (← same, s.bytes, s.peer)
 
--- ---- what it stands for is what the stages make of it
-
-module _ (e : Endpoint) (m k : List ℕ) where
-  -- a packet that was opened, settled with its sender's row
-  abbrev staged : Arrival → Step
-  staged x = settled_by e x (row_at e x.peer) k m
-
-  other_adds : (x : Arrival) (p : ℕ) (a : Received) → x.peer ≡ p → Direct e k x a → staged x ≡ unchanged e p m a
-  unfolding settle_of
-  other_adds x p a q d = rw (nothing-taken (row_at e x.peer) x k m d.untaken, d.answer m, q)
-
-  stands_adds : (x : Arrival) (y : Made answers) → StandsFor e k x y → staged x ≡ stepped e m y
-  unfolding settle_of take_of config_of
-  stands_adds x (other_sender a) s = other_adds x 0 a s.0 s.1
-  stands_adds x (direct p a) s = other_adds x p a s.0 s.1
-  stands_adds x (segment p g) s =
-      let d : Due = s.due in
-      let bytes : List ℕ = part_of_slice k d.start d.length in
-      rw (
-        s.content,
-        s.peer,
-        ← s.bytes,
-        offer_out (config_of e) p (row_at e p) k m (seg_of d.header bytes) (take_in p (row_at e p) m (seg_of d.header bytes)).outcome refl,
-      )
-
-stands_below : (e : Endpoint) (k : List ℕ) (x : Arrival) (y : Made answers) → StandsFor e k x y → Kept answers y → x.peer < most_peers
-stands_below e k x (other_sender a) s l = omega (arith, s.0)
-stands_below e k x (direct p a) s l = omega (arith, s.0, l.0)
-stands_below e k x (segment p g) s l = omega (arith, s.peer, l)

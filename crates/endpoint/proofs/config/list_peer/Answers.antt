@@ -16,13 +16,6 @@ ranges : (c : Else-address-own) →
 unfolding add_peer_checks peers_of lent
 ranges c = omega (arith, deciding)
 
--- the lookup, as check 19 has it
-found : (c : After-find_peer-listed) →
-    is_some (find_peer (config_of (peers_of c.args.addresses.now c.args.own c.args.port c.args.count.now)) c.args.address) ≡ is_found_in c.find_peer-listed.result
-unfolding peers_of lent
-found c =
-    peer-found (peers_of c.args.addresses.now c.args.own c.args.port c.args.count.now) c.args.address c.least.result c.find_peer-listed.result c.least.ensures c.find_peer-listed.ensures
-
 listed : (c : In-At) →
     is_some (find_peer (config_of (peers_of c.args.addresses.now c.args.own c.args.port c.args.count.now)) c.args.address) ≡ true
 unfolding peers_of lent
