@@ -18,6 +18,7 @@ mod fix;
 mod imports;
 mod layers;
 mod lex;
+mod named;
 mod prune;
 mod rattle;
 mod report;
@@ -69,6 +70,7 @@ fn findings(tree: &Tree) -> Vec<Finding> {
     found.extend(edits::inapplicable(&tree.edits, &tree.sources));
     found.extend(layers::open(tree, &modules));
     found.extend(believed::findings(tree, &files));
+    found.extend(named::findings(tree, &files));
     found.extend(columns::findings(&tree.sources));
     found.sort();
     found
