@@ -166,7 +166,7 @@ pub fn open(tree: &Tree, modules: &Modules) -> Vec<Finding> {
     let mut found = Vec::new();
     for (at, file) in modules.files.iter().enumerate() {
         let crate_name = file.source.crate_name.as_str();
-        if !tree.is_lower(crate_name) {
+        if !tree.is_lower(crate_name) || is_of_loops(file) {
             continue;
         }
         for (number, declared) in file.declarations.iter().enumerate() {
@@ -187,6 +187,11 @@ pub fn open(tree: &Tree, modules: &Modules) -> Vec<Finding> {
         }
     }
     found
+}
+
+/// The toolchain asks for invariants and measures in this form. No crate above can name them.
+fn is_of_loops(file: &File) -> bool {
+    file.source.path.ends_with("/Invariants.antt")
 }
 
 fn judged(crate_name: &str, count: usize, explained: bool) -> Option<(Rule, String)> {

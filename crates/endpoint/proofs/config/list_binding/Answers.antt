@@ -8,7 +8,7 @@ use Rattle.wire.proofs.Laws.Checks.{deciding}
 use Rattle.endpoint.specs.Config.{config_of, find_binding, is_some, is_network, add_binding_checks, with_binding, bindings_of, lent}
 use Rattle.endpoint.proofs.Laws.ConfigExits.{behind, list_binding_exit, is_found_in, binding_found, network_kind}
 use Rattle.endpoint.proofs.config.list_binding.Goals as goal
-use Rattle.endpoint.proofs.config.list_binding.Goals.{After-find_binding-listed, Else-least-owner, Else-not-is_network, Else-tenant-gt-TENANT_MAX, In-At, In_default}
+use Rattle.endpoint.proofs.config.list_binding.Goals.{Else-least-owner, Else-not-is_network, Else-tenant-gt-TENANT_MAX, In-At, In_default}
 
 -- the peer is listed
 peer_listed : (c : Else-least-owner) →

@@ -8,7 +8,7 @@ use Rattle.wire.proofs.Laws.Checks.{deciding}
 use Rattle.endpoint.specs.Config.{config_of, find_peer, is_some, add_peer_checks, with_address, peers_of, lent}
 use Rattle.endpoint.proofs.Laws.ConfigExits.{behind, list_peer_exit, is_found_in, peer-found}
 use Rattle.endpoint.proofs.config.list_peer.Goals as goal
-use Rattle.endpoint.proofs.config.list_peer.Goals.{After-find_peer-listed, Else-address-own, In-At, In_default}
+use Rattle.endpoint.proofs.config.list_peer.Goals.{Else-address-own, In-At, In_default}
 
 -- the address is in its range, and not our own
 ranges : (c : Else-address-own) →
