@@ -42,7 +42,7 @@ pub fn findings(tree: &Tree, modules: &Modules) -> Vec<Finding> {
 }
 
 /// What a file names, and where it stands: by an import, by a whole path, or for a tactic.
-fn proofs_named<'t>(modules: &'t Modules, at: usize) -> Vec<(usize, String, usize)> {
+fn proofs_named(modules: &Modules, at: usize) -> Vec<(usize, String, usize)> {
     let file = &modules.files[at];
     let imported = file.uses.iter().filter_map(|import| {
         let place = modules.file(&import.module)?;
