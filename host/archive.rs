@@ -1,10 +1,10 @@
-// Finds an archive of rt's and has it linked: for the build scripts of the crates that need one.
+// Finds an archive of a proved crate's and has it linked: for the build scripts of the crates that need one.
 
 use std::env;
 use std::path::{Path, PathBuf};
 use std::process::exit;
 
-/// Links the archive that `rt staticlib NAME` writes to the repository's `target/`, or the
+/// Links the archive that `scripts/archive NAME` writes to the repository's `target/`, or the
 /// one that the environment variable names.
 fn link(name: &str, variable: &str) {
     println!("cargo::rerun-if-env-changed={variable}");
@@ -27,7 +27,7 @@ fn link(name: &str, variable: &str) {
 
 fn missing(name: &str, variable: &str, archive: &Path) -> ! {
     eprintln!("{name}: there is no archive {}", archive.display());
-    eprintln!("Run `rt staticlib {name}` in the repository's root, which proves it and writes");
+    eprintln!("Run `scripts/archive {name}` in the repository's root, which proves it and writes");
     eprintln!("target/staticlib/lib{name}.a; or name an archive in {variable}.");
     exit(1)
 }

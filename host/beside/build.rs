@@ -1,4 +1,4 @@
-//! Finds the archive that `rt staticlib beside` writes, and has it linked.
+//! Finds the archive that `scripts/archive beside` writes, and has it linked.
 
 include!("../archive.rs");
 

@@ -1,4 +1,4 @@
-//! Finds the archive that `rt staticlib niulassenc` writes, and has it linked.
+//! Finds the archive that `scripts/archive` writes, and has it linked.
 
 include!("../archive.rs");
 

@@ -22,7 +22,6 @@ plain_of n = record { answer = n; peer = 0xFFFF }
 abbrev pub naming : (n first : ℕ) → Observation
 naming n first = record { answer = n; peer = first }
 
--- Open: a record's fields
 abbrev pub detector_of : (addresses tenants peers : List ℕ) (count : ℕ) → Detector
 detector_of addresses tenants peers count = record { addresses = addresses; tenants = tenants; peers = peers; count = count }
 

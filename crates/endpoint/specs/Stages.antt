@@ -120,7 +120,6 @@ pub record Change : Type 0 where
   pub offer : Offer
   pub mem : List ℕ
 
--- Open: two fields of a record
 abbrev pub changed_of : Change → Changed
 changed_of c = record { row = c.row; offer = c.offer }
 

@@ -240,7 +240,7 @@ mod tests {
     fn counted() -> Counts {
         let sources = [
             Source::new("crates/wire/specs/Sum.antt", FORMAT),
-            Source::new("crates/wire/specs/Laws/Sum.antt", FORMAT),
+            Source::new("crates/wire/proofs/Laws/Sum.antt", FORMAT),
             Source::new("crates/wire/specs/Lib.antt", "pub mod Sum\n"),
             Source::new(
                 "crates/end/specs/Cases.antt",

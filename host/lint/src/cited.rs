@@ -2,7 +2,7 @@
 //! documents name, or a must-fail edit. What none of these comes to, through any number of citations, nobody cites.
 
 use crate::decls::{Declaration, Kind};
-use crate::lex::{antt, Token};
+use crate::lex::{antt, is_operator, Token};
 use crate::report::{Finding, Rule};
 use crate::tree::{File, Kind as Language, Modules, Place, Tree};
 use crate::uses::Usage;
@@ -62,7 +62,7 @@ fn operators<'t>(file: &'t File) -> Vec<&'t str> {
         .flat_map(|declared| declared.names.iter().copied());
     brought
         .chain(own)
-        .filter(|name| name.contains('_'))
+        .filter(|name| is_operator(name))
         .collect()
 }
 
@@ -113,6 +113,8 @@ fn roots(tree: &Tree, modules: &Modules) -> Vec<Place> {
         if file.source.kind == Language::Rattle {
             let names = file.uses.iter().flat_map(|import| import.items());
             found.extend(names.filter_map(|item| modules.named(at, &item.brings)));
+            let by_tactics = file.tactics.iter();
+            found.extend(by_tactics.filter_map(|named| modules.named(at, &named.path)));
         }
         let stands = |declared: &Declaration| {
             declared.kind == Kind::Other
@@ -129,15 +131,22 @@ fn roots(tree: &Tree, modules: &Modules) -> Vec<Place> {
     found
 }
 
-/// What the toolchain asks for: the theorem in a function's own proof file.
+/// The files of a function's own folder of proofs/.
+const PROOFS: [&str; 3] = ["/Answers.antt", "/Invariants.antt", "/Proof.antt"];
+
+/// What the toolchain asks for: the answers and invariants in a function's own proof files.
 fn is_proof(file: &File, declared: &Declaration) -> bool {
-    file.source.path.ends_with("/Proof.antt") && declared.is_marked("pub")
+    let path = &file.source.path;
+    PROOFS.iter().any(|name| path.ends_with(name)) && declared.is_marked("pub")
 }
+
+/// It lists what changed with the toolchain, old names beside new ones: that is no reason for a lemma to stand.
+const HISTORY: &str = "docs/PORT.md";
 
 /// The words in backquotes, with the ends of paths: `Sum.total` names `total`.
 fn words_of_documents(documents: &[(String, String)]) -> HashSet<String> {
     let mut words = HashSet::new();
-    for (_, document) in documents {
+    for (_, document) in documents.iter().filter(|(path, _)| path != HISTORY) {
         for code in document.split('`').skip(1).step_by(2) {
             words.extend(
                 antt(code)
@@ -209,7 +218,7 @@ mod tests {
 
     const LAWS: (&str, &str) = (
         "crates/a/specs/A.antt",
-        "f : ℕ\nf = g\n\ng : ℕ\ng = 1\n\n_+′_ : ℕ → ℕ → ℕ\na +′ b = a\n",
+        "f : ℕ\nf = g\n\ng : ℕ\ng = 1\n\n◌+'◌ : ℕ → ℕ → ℕ\na +' b = a\n",
     );
 
     #[test]
@@ -219,7 +228,7 @@ mod tests {
             [
                 "nobody cites `f`",
                 "only what nobody cites cites `g`",
-                "nobody cites `_+′_`"
+                "nobody cites `◌+'◌`"
             ]
         );
     }
@@ -228,7 +237,7 @@ mod tests {
     fn documents_and_edits_cite() {
         assert_eq!(
             messages(&[LAWS], "the law `A.f`", ""),
-            ["nobody cites `_+′_`"]
+            ["nobody cites `◌+'◌`"]
         );
         assert_eq!(
             messages(
@@ -236,18 +245,20 @@ mod tests {
                 "the law f",
                 "file: specs/A.antt\nold: g = 1\nnew: g = 2\n"
             ),
-            ["nobody cites `f`", "nobody cites `_+′_`"]
+            ["nobody cites `f`", "nobody cites `◌+'◌`"]
         );
     }
 
     #[test]
     fn contracts_and_proofs_cite() {
-        let contract = (
+        let contract = ("crates/a/src/a.rt", "ghost use Rattle.a.specs.A.{f};\n");
+        assert_eq!(messages(&[LAWS, contract], "", ""), ["nobody cites `◌+'◌`"]);
+        let tactic = (
             "crates/a/src/a.rt",
-            "ghost use Rattle·a·specs.specs.A.{f};\n",
+            "#[tactic(auto, using(crate::specs::A::f))]\nfn x() {}\n",
         );
-        assert_eq!(messages(&[LAWS, contract], "", ""), ["nobody cites `_+′_`"]);
-        let proof = ("crates/a/proofs/a/Proof.antt", "use Rattle·a·specs.specs.A as X\nuse Rattle·a·specs.specs.A.{_+′_}\n\nlost : ℕ\nlost = 2\n\npub a-spec : ℕ\na-spec = 1 +′ X.g\n");
+        assert_eq!(messages(&[LAWS, tactic], "", ""), ["nobody cites `◌+'◌`"]);
+        let proof = ("crates/a/proofs/a/Answers.antt", "use Rattle.a.specs.A as X\nuse Rattle.a.specs.A.{◌+'◌}\n\nlost : ℕ\nlost = 2\n\npub returns : ℕ\nreturns = 1 +' X.g\n");
         assert_eq!(
             messages(&[LAWS, proof], "", ""),
             ["nobody cites `f`", "nobody cites `lost`"]
@@ -256,6 +267,6 @@ mod tests {
 
     #[test]
     fn a_field_is_no_citation() {
-        assert_eq!(paths(&antt("c .f (T.g x) .h")), ["c", "T.g", "x"]);
+        assert_eq!(paths(&antt("c.f (T.g x).h c .f")), ["c.f", "T.g", "x", "c"]);
     }
 }

@@ -197,8 +197,8 @@ pub data Event : Type 0 where
   tick : Event
   receive send : ℕ → Event
 
-infixr 66 _then_
-abbrev pub _then_ : ℕ → ℕ → ℕ
+infixr 66 ◌then◌
+abbrev pub ◌then◌ : ℕ → ℕ → ℕ
 a then b = a
 
 module _ (n : ℕ)
@@ -230,7 +230,7 @@ pub ruleset tests = (law)
             names,
             [
                 &["Event", "tick", "receive", "send"][..],
-                &["_then_"],
+                &["◌then◌"],
                 &["low"],
                 &["law"],
                 &["tests"]

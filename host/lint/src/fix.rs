@@ -125,16 +125,16 @@ mod tests {
             mended("crates/a/specs/A.antt", text),
             "-- why\nuse A.{f}\n\nk : ℕ\nk = f\n"
         );
-        let text = "ghost use A.{_≡_, min};\nuse a::b;\nuse a::{B, C};\nfn f(b: B)\n    ensures { ⌜ a ≡ b ⌝ }\n{}\n";
+        let text = "ghost use A.{◌≡◌, min};\nuse a::b;\nuse a::{B, C};\nfn f(b: B)\n    ensures { a ≡ b }\n{}\n";
         assert_eq!(
             mended("crates/a/src/a.rt", text),
-            "ghost use A.{_≡_};\nuse a::B;\nfn f(b: B)\n    ensures { ⌜ a ≡ b ⌝ }\n{}\n"
+            "ghost use A.{◌≡◌};\nuse a::B;\nfn f(b: B)\n    ensures { a ≡ b }\n{}\n"
         );
     }
 
     #[test]
     fn leaves_what_is_used() {
-        let text = "use A.{f, _∷_}\n\nk : ℕ\nk = f ∷ f\n";
+        let text = "use A.{f, ◌∷◌}\n\nk : ℕ\nk = f ∷ f\n";
         assert_eq!(mended("crates/a/specs/A.antt", text), text);
     }
 
@@ -142,18 +142,18 @@ mod tests {
     fn edits_follow() {
         let source = Source::new(
             "crates/a/src/a.rt",
-            "ghost use A.{_≡_, min};\nfn f()\n    ensures { ⌜ a ≡ b ⌝ }\n{}\n",
+            "ghost use A.{◌≡◌, min};\nfn f()\n    ensures { a ≡ b }\n{}\n",
         );
         let edit = Edit::new(
             "crates/a/must-fail/e.edit",
-            "file: src/a.rt\nold: ghost use A.{_≡_, min};\nnew: ghost use A.{_≡_, min, max};\n",
+            "file: src/a.rt\nold: ghost use A.{◌≡◌, min};\nnew: ghost use A.{◌≡◌, min, max};\n",
         );
         let file = File::new(&source);
         let mut text = edit.text.clone();
         follow(&edit, &mut text, &file, &unused(&file, &[]));
         assert_eq!(
             text,
-            "file: src/a.rt\nold: ghost use A.{_≡_};\nnew: ghost use A.{_≡_, max};\n"
+            "file: src/a.rt\nold: ghost use A.{◌≡◌};\nnew: ghost use A.{◌≡◌, max};\n"
         );
     }
 

@@ -166,7 +166,7 @@ mod tests {
 
     #[test]
     fn names_in_antt() {
-        let text = "use A.{f, g, _∷_, take}\nuse A.B as X\nuse A.C as Y\npub use A.{p}\nh : Y.T\nh = f (a ∷ b) .take\n";
+        let text = "use A.{f, g, ◌∷◌, take}\nuse A.B as X\nuse A.C as Y\npub use A.{p}\nh : Y.T\nh = f (a ∷ b).take\n";
         assert_eq!(
             names("crates/a/specs/A.antt", text, &[]),
             ["g", "take", "X"]
@@ -186,7 +186,7 @@ mod tests {
 
     #[test]
     fn names_in_rattle() {
-        let text = "ghost use A.{_≡_, min};\nuse crate::be::be8;\nuse wire::Refusal;\nfn f(min: u8) -> u8\n    ensures { λ r. ⌜ r ≡ x ⌝ }\n{\n    be8(min)\n}\n";
+        let text = "ghost use A.{◌≡◌, min};\nuse crate::be::be8;\nuse wire::Refusal;\nfn f(min: u8) -> u8\n    ensures value { result ≡ x }\n{\n    be8(min)\n}\n";
         assert_eq!(names("crates/a/src/a.rt", text, &[]), ["min", "Refusal"]);
     }
 }

@@ -1,5 +1,6 @@
 //! Rule 4: upper proofs use only what lower crates promise, so no file unfolds a definition that another crate of the
-//! repository makes. Worked*.antt are exempt: the tables of worked cases go through the definitions by design.
+//! repository makes, nor names of its proofs/ more than the laws. Worked*.antt may unfold: the tables of worked cases go
+//! through the definitions by design.
 //!
 //! Rule 6: an `abbrev pub` is open to every proof without a word. One that is no type and no operator, and that a file of
 //! another crate names, says why it stays open: a comment directly above it has a line `-- Open: why`. One that nobody
@@ -7,9 +8,9 @@
 
 use crate::cited::paths;
 use crate::decls::{Declaration, Kind};
-use crate::lex::Token;
+use crate::lex::{is_operator, Token};
 use crate::report::{Finding, Rule};
-use crate::tree::{crate_of, File, Modules, Place, Tree};
+use crate::tree::{crate_of, File, Modules, Place, Source, Tree};
 use std::collections::{BTreeSet, HashMap};
 
 /// The crates that rule 6 holds.
@@ -17,13 +18,11 @@ const HELD: [&str; 5] = ["lookup", "wire", "reassembly", "endpoint", "detector"]
 
 pub fn findings(tree: &Tree, modules: &Modules) -> Vec<Finding> {
     let mut found = Vec::new();
-    for (at, file) in modules
-        .files
-        .iter()
-        .enumerate()
-        .filter(|(_, file)| !is_worked(file))
-    {
-        for (line, path) in unfolded(&file.body) {
+    for (at, file) in modules.files.iter().enumerate() {
+        let unfolded = unfolded(&file.body)
+            .into_iter()
+            .chain(unfolded_by_tactics(file));
+        for (line, path) in unfolded.filter(|_| !is_worked(file)) {
             if let Some(maker) =
                 maker_of(modules, at, &path).filter(|maker| is_another(tree, file, maker))
             {
@@ -31,8 +30,49 @@ pub fn findings(tree: &Tree, modules: &Modules) -> Vec<Finding> {
                 found.push(Finding::new(Rule::Layers, &file.source.path, line, message));
             }
         }
+        for (line, path, place) in proofs_named(modules, at) {
+            let source = modules.files[place].source;
+            if is_another(tree, file, &source.crate_name) && is_inner(source) {
+                let message = format!("names `{path}`, which is no law of {}", source.crate_name);
+                found.push(Finding::new(Rule::Layers, &file.source.path, line, message));
+            }
+        }
     }
     found
+}
+
+/// What a file names, and where it stands: by an import, by a whole path, or for a tactic.
+fn proofs_named(modules: &Modules, at: usize) -> Vec<(usize, String, usize)> {
+    let file = &modules.files[at];
+    let imported = file.uses.iter().filter_map(|import| {
+        let place = modules.file(&import.module)?;
+        Some((import.line, import.module.clone(), place))
+    });
+    let whole = paths(&file.body).into_iter().map(|path| (1, path));
+    let by_tactics = file
+        .tactics
+        .iter()
+        .map(|named| (named.line, named.path.clone()));
+    let by_path = whole.chain(by_tactics).filter_map(|(line, path)| {
+        let place = path
+            .starts_with("Rattle.")
+            .then(|| modules.named(at, &path))??;
+        Some((line, path, place.0))
+    });
+    imported.chain(by_path).collect()
+}
+
+/// Written by hand, among the proofs and not among the laws. (What the toolchain makes of code, in no file here, may be named.)
+fn is_inner(source: &Source) -> bool {
+    let within = source.within();
+    within.starts_with("proofs/") && !within.starts_with("proofs/Laws/")
+}
+
+fn unfolded_by_tactics(file: &File) -> Vec<(usize, String)> {
+    let named = file.tactics.iter().filter(|named| named.unfolds);
+    named
+        .map(|named| (named.line, named.path.clone()))
+        .collect()
 }
 
 fn is_worked(file: &File) -> bool {
@@ -44,7 +84,7 @@ fn is_worked(file: &File) -> bool {
 }
 
 fn is_another(tree: &Tree, file: &File, maker: &str) -> bool {
-    maker != file.source.crate_name && tree.crates.iter().any(|(name, _)| name == maker)
+    maker != file.source.crate_name && tree.has_crate(maker)
 }
 
 /// What stands on `unfolding` lines and between `unfold` and `in`, with its line.
@@ -126,7 +166,7 @@ pub fn open(tree: &Tree, modules: &Modules) -> Vec<Finding> {
     let mut found = Vec::new();
     for (at, file) in modules.files.iter().enumerate() {
         let crate_name = file.source.crate_name.as_str();
-        if !tree.is_lower(crate_name) {
+        if !tree.is_lower(crate_name) || is_of_loops(file) {
             continue;
         }
         for (number, declared) in file.declarations.iter().enumerate() {
@@ -147,6 +187,11 @@ pub fn open(tree: &Tree, modules: &Modules) -> Vec<Finding> {
         }
     }
     found
+}
+
+/// The toolchain asks for invariants and measures in this form. No crate above can name them.
+fn is_of_loops(file: &File) -> bool {
+    file.source.path.ends_with("/Invariants.antt")
 }
 
 fn judged(crate_name: &str, count: usize, explained: bool) -> Option<(Rule, String)> {
@@ -172,7 +217,7 @@ fn is_open(declared: &Declaration, body: &[Token]) -> bool {
     let marked = declared.is_marked("abbrev")
         && declared.is_marked("pub")
         && declared.kind == Kind::Definition;
-    marked && !declared.names[0].contains('_') && !gives_type(declared, body)
+    marked && !is_operator(declared.names[0]) && !gives_type(declared, body)
 }
 
 /// Whether what follows the last arrow of the signature is a universe.
@@ -196,12 +241,13 @@ fn gives_type(declared: &Declaration, body: &[Token]) -> bool {
 #[cfg(test)]
 mod tests {
     use super::*;
-    use crate::tree::Source;
 
     fn tree(upper: &str, name: &str) -> Tree {
-        let lower = "unfoldable pub f : ℕ → ℕ\nf x = x\n\nabbrev pub T : ℕ → Type 0\nT n = ℕ → ℕ\n\nabbrev pub g : ℕ → ℕ\ng x = x\n\nabbrev pub _w_ : ℕ → ℕ → ℕ\na w b = a\n";
+        let lower = "unfoldable pub f : ℕ → ℕ\nf x = x\n\nabbrev pub T : ℕ → Type 0\nT n = ℕ → ℕ\n\nabbrev pub g : ℕ → ℕ\ng x = x\n\nabbrev pub ◌w◌ : ℕ → ℕ → ℕ\na w b = a\n";
         let sources = vec![
             Source::new("crates/low/specs/A.antt", lower),
+            Source::new("crates/low/proofs/Laws/A.antt", "pub f : ℕ\nf = 1\n"),
+            Source::new("crates/low/proofs/Sizes.antt", "pub f : ℕ\nf = 1\n"),
             Source::new(name, upper),
         ];
         let crates = vec![
@@ -224,12 +270,12 @@ mod tests {
 
     #[test]
     fn unfolding_a_lower_definition() {
-        let text = "use Rattle·low.specs.A.{f}\nk : f 1 ≡ 1\nunfolding f\nk = refl\n";
+        let text = "use Rattle.low.specs.A.{f}\nk : f 1 ≡ 1\nunfolding f\nk = refl\n";
         assert_eq!(count(text, "crates/up/specs/B.antt"), 1);
         assert_eq!(count(text, "crates/up/specs/WorkedB.antt"), 0);
         assert_eq!(
             count(
-                "use Rattle·low.specs.A as A\nk : A.f 1 ≡ 1\nk = unfold A.f in refl\n",
+                "use Rattle.low.specs.A as A\nk : A.f 1 ≡ 1\nk = unfold A.f in refl\n",
                 "crates/up/specs/B.antt"
             ),
             1
@@ -248,6 +294,31 @@ mod tests {
             ),
             0
         );
+    }
+
+    #[test]
+    fn proofs_of_a_lower_crate() {
+        let laws = "use Rattle.low.proofs.Laws.A.{f}\nk : ℕ\nk = f\n";
+        assert_eq!(count(laws, "crates/up/proofs/B.antt"), 0);
+        let inner = "use Rattle.low.proofs.Sizes.{f}\nk : ℕ\nk = f\n";
+        assert_eq!(count(inner, "crates/up/proofs/WorkedB.antt"), 1);
+        assert_eq!(count(inner, "crates/low/proofs/B.antt"), 0);
+        let path = "k : ℕ\nk = Rattle.low.proofs.Sizes.f\n";
+        assert_eq!(count(path, "crates/up/proofs/B.antt"), 1);
+        let made = "use Rattle.low.proofs.detector.Detector.TheLaws as T\nk : ℕ\nk = T.size\n";
+        assert_eq!(count(made, "crates/up/proofs/B.antt"), 0);
+        let kit = "use Rattle.std.proofs.Common.{f}\nk : ℕ\nk = f\n";
+        assert_eq!(count(kit, "crates/up/proofs/B.antt"), 0);
+    }
+
+    #[test]
+    fn tactics_of_a_function() {
+        let unfolding =
+            "#[tactic(auto, using(low::proofs::Laws::A::f), unfolding(low::specs::A::f))]\nfn x() {}\n";
+        assert_eq!(count(unfolding, "crates/up/src/b.rt"), 1);
+        let inner = "#[tactic(auto, using(low::proofs::Sizes::f))]\nfn x() {}\n";
+        assert_eq!(count(inner, "crates/up/src/b.rt"), 1);
+        assert_eq!(count(inner, "crates/low/src/b.rt"), 0);
     }
 
     fn opened(lower: &str, upper: &str) -> Vec<String> {
@@ -272,8 +343,8 @@ mod tests {
             .collect()
     }
 
-    const BY_NAME: &str = "use Rattle·wire.specs.A.{g}\nk : ℕ\nk = g 1\n";
-    const BY_PATH: &str = "use Rattle·wire.specs.A as A\nk : ℕ\nk = A.g 1\n";
+    const BY_NAME: &str = "use Rattle.wire.specs.A.{g}\nk : ℕ\nk = g 1\n";
+    const BY_PATH: &str = "use Rattle.wire.specs.A as A\nk : ℕ\nk = A.g 1\n";
 
     #[test]
     fn open_and_named_above() {
@@ -309,7 +380,7 @@ mod tests {
     #[test]
     fn open_definitions() {
         let tree = tree(
-            "use Rattle·low.specs.A.{g}\nk : ℕ\nk = g 1\n",
+            "use Rattle.low.specs.A.{g}\nk : ℕ\nk = g 1\n",
             "crates/up/specs/B.antt",
         );
         let files = tree.files();

@@ -98,12 +98,19 @@ fn quoted_length(text: &str) -> usize {
     text.len()
 }
 
-/// The places that an operator's name leaves: `if_then_` has the parts `if` and `then`. A plain name is its own part.
+/// What stands in an operator's name where an argument goes: `◌∷◌`.
+const HOLE: char = '◌';
+
+pub fn is_operator(name: &str) -> bool {
+    name.contains(HOLE)
+}
+
+/// The places that an operator's name leaves: `if◌then◌` has the parts `if` and `then`. A plain name is its own part.
 pub fn parts(name: &str) -> Vec<&str> {
-    if name.starts_with('«') || !name.contains('_') {
+    if name.starts_with('«') || !is_operator(name) {
         return vec![name];
     }
-    name.split('_').filter(|part| !part.is_empty()).collect()
+    name.split(HOLE).filter(|part| !part.is_empty()).collect()
 }
 
 #[cfg(test)]
@@ -136,8 +143,9 @@ mod tests {
 
     #[test]
     fn operators() {
-        assert_eq!(parts("if_then_"), ["if", "then"]);
-        assert_eq!(parts("«a_b»"), ["«a_b»"]);
-        assert_eq!(parts("_∷_"), ["∷"]);
+        assert_eq!(parts("if◌then◌"), ["if", "then"]);
+        assert_eq!(parts("«a◌b»"), ["«a◌b»"]);
+        assert_eq!(parts("◌∷◌"), ["∷"]);
+        assert_eq!(parts("be_at"), ["be_at"]);
     }
 }

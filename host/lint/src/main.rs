@@ -18,6 +18,7 @@ mod fix;
 mod imports;
 mod layers;
 mod lex;
+mod named;
 mod prune;
 mod rattle;
 mod report;
@@ -64,11 +65,12 @@ fn findings(tree: &Tree) -> Vec<Finding> {
     let modules = Modules::new(&files);
     let mut found = imports::findings(&files, &tree.edits);
     found.extend(cited::findings(tree, &modules));
-    found.extend(storeys::findings(&files));
+    found.extend(storeys::findings(tree, &files));
     found.extend(layers::findings(tree, &modules));
     found.extend(edits::inapplicable(&tree.edits, &tree.sources));
     found.extend(layers::open(tree, &modules));
     found.extend(believed::findings(tree, &files));
+    found.extend(named::findings(tree, &files));
     found.extend(columns::findings(&tree.sources));
     found.sort();
     found

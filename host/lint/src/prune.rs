@@ -119,7 +119,7 @@ mod tests {
     use super::*;
     use crate::tree::Source;
 
-    const FILE: &str = "-- the file\nuse A.{f}\n\n-- kept\na : ℕ\na = 1\n\n-- an operator\n-- of two lines\ninfix 20 _w_\n_w_ : ℕ → ℕ → ℕ\nx w y = x\n\nmodule _ (n : ℕ)\n    (m : ℕ) where\n  b : ℕ\n  b =\n    n\n\n  c : ℕ\n  c = m\n";
+    const FILE: &str = "-- the file\nuse A.{f}\n\n-- kept\na : ℕ\na = 1\n\n-- an operator\n-- of two lines\ninfix 20 ◌w◌\n◌w◌ : ℕ → ℕ → ℕ\nx w y = x\n\nmodule _ (n : ℕ)\n    (m : ℕ) where\n  b : ℕ\n  b =\n    n\n\n  c : ℕ\n  c = m\n";
 
     fn less(numbers: &[usize]) -> String {
         let source = Source::new("crates/a/specs/A.antt", FILE);
@@ -136,7 +136,7 @@ mod tests {
 
     #[test]
     fn a_name_that_is_passed_on() {
-        let passing = "pub use Rattle·a·specs.specs.A.{a, b as z}\n";
+        let passing = "pub use Rattle.a.specs.A.{a, b as z}\n";
         let sources = [
             Source::new("crates/a/specs/A.antt", FILE),
             Source::new("crates/a/specs/B.antt", passing),
@@ -146,7 +146,7 @@ mod tests {
         let lost = |place| passed_on(&modules, &files[1], &HashSet::from([place]));
         assert_eq!(
             without(passing, &lost((0, 2))),
-            "pub use Rattle·a·specs.specs.A.{a}\n"
+            "pub use Rattle.a.specs.A.{a}\n"
         );
         assert!(lost((0, 3)).is_empty());
     }
@@ -160,7 +160,7 @@ mod tests {
     fn an_operator_with_its_fixity() {
         let text = less(&[1]);
         assert!(
-            !text.contains("_w_")
+            !text.contains("◌w◌")
                 && !text.contains("an operator")
                 && text.contains("a = 1\n\nmodule")
         );

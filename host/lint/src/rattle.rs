@@ -1,4 +1,4 @@
-//! A .rt file: Rattle, with antt in the braces of its clauses and in `ghost use`.
+//! A .rt file: Rattle, with antt in the braces of its clauses and in `ghost use`, and names of antt in `#[tactic(..)]`.
 
 use std::ops::Range;
 
@@ -12,6 +12,45 @@ pub struct RattleUse {
     pub head: String,
     /// As written, and the name that it brings.
     pub names: Vec<(String, String)>,
+}
+
+/// A lemma or definition that a function's `#[tactic(.., using(..), unfolding(..))]` names.
+#[derive(Debug, PartialEq)]
+pub struct Named {
+    pub line: usize,
+    /// As antt writes it: `Rattle.wire.proofs.Laws.Sum.sealed`.
+    pub path: String,
+    pub unfolds: bool,
+}
+
+pub fn tactics(text: &str, own: &str) -> Vec<Named> {
+    let bare = blank(text, &comment_ranges(text));
+    let mut found = Vec::new();
+    for (at, _) in bare.match_indices("tactic(") {
+        let end = bare[at..].find(")]").map_or(bare.len(), |end| at + end);
+        for (word, unfolds) in [("using(", false), ("unfolding(", true)] {
+            for (begin, _) in bare[at..end].match_indices(word) {
+                let names = at + begin + word.len();
+                let line = bare[..names].matches('\n').count() + 1;
+                let written = bare[names..end].split(')').next().unwrap_or("").split(',');
+                let paths = written.map(str::trim).filter(|path| !path.is_empty());
+                found.extend(paths.map(|path| Named {
+                    line,
+                    path: in_antt(path, own),
+                    unfolds,
+                }));
+            }
+        }
+    }
+    found
+}
+
+fn in_antt(path: &str, own: &str) -> String {
+    let path = path.replace("::", ".");
+    match path.strip_prefix("crate.") {
+        Some(rest) => format!("Rattle.{own}.{rest}"),
+        None => format!("Rattle.{path}"),
+    }
 }
 
 /// The antt of the clauses; everything else is blanked, so that places stay as they are.
@@ -112,17 +151,21 @@ fn clause_ranges(text: &str) -> Vec<Range<usize>> {
     for word in ["requires", "ensures", "ghost", "decreases", "invariant"] {
         for (at, _) in bare.match_indices(word) {
             let behind = at + word.len();
-            let gap = bare[behind..].find(|c: char| !c.is_whitespace());
-            if let Some(open) = gap
-                .map(|gap| behind + gap)
-                .filter(|&open| bare[open..].starts_with('{'))
-            {
+            if let Some(open) = opening(&bare[behind..]).map(|open| behind + open) {
                 ranges.push(open + 1..closing(&bare, open));
             }
         }
     }
     ranges.sort_by_key(|range| range.start);
     ranges
+}
+
+/// Where the brace opens, behind a star and a clause's name if it has them.
+fn opening(text: &str) -> Option<usize> {
+    let before = &text[..text.find('{')?];
+    let name = before.trim_start_matches('*').trim().trim_end_matches(':');
+    let is_name = name.chars().all(|c| c.is_alphanumeric() || c == '_');
+    is_name.then_some(before.len())
 }
 
 fn closing(text: &str, open: usize) -> usize {
@@ -166,14 +209,15 @@ fn blank(text: &str, hidden: &[Range<usize>]) -> String {
 mod tests {
     use super::*;
 
-    const FILE: &str = "use crate::slot;\nuse wire::ipv4::{Ipv4, Read as R};\n// least\nfn f(x: u8, slot: u8) -> R\n    ensures { λ r. ⌜ r ≡ min ⟦Ipv4::of(x)⟧ {a} ⌝ }\n{\n    x.least()\n}\n";
+    const FILE: &str = "use crate::slot;\nuse wire::ipv4::{Ipv4, Read as R};\n// least\nfn f(x: u8, slot: u8) -> R\n    ensures value { result ≡ min ⟦Ipv4::of(x)⟧ {a} }\n    ensures* { most }\n{\n    x.least()\n}\n";
 
     #[test]
     fn clauses_alone() {
         let kept = clauses(FILE);
         assert!(
             kept.contains("min")
-                && kept.contains("{a} ⌝")
+                && kept.contains("{a} ")
+                && kept.contains("most")
                 && !kept.contains("least")
                 && !kept.contains("slot")
         );
@@ -190,6 +234,23 @@ mod tests {
                 && names("least (1)", "least")
                 && !names("at_least(1)", "least")
         );
+    }
+
+    #[test]
+    fn names_of_the_tactics() {
+        let text = "// tactic(using(no))]\n#[tactic(auto, using(crate::proofs::A::k, low::proofs::Laws::B::m), unfolding(crate::specs::A::f))]\nfn f() {}\n";
+        let named = |path: &str, unfolds| Named {
+            line: 2,
+            path: path.to_string(),
+            unfolds,
+        };
+        let expected = [
+            named("Rattle.up.proofs.A.k", false),
+            named("Rattle.low.proofs.Laws.B.m", false),
+            named("Rattle.up.specs.A.f", true),
+        ];
+        assert_eq!(tactics(text, "up"), expected);
+        assert_eq!(tactics("#![tactic(auto)]\n", "up"), []);
     }
 
     #[test]

@@ -15,11 +15,13 @@ pub enum Rule {
     OpenUnnamed,
     /// Numbers of the documents that are not those counted.
     Believed,
+    /// Names of the pages on the proofs that no source has.
+    Named,
     Columns,
 }
 
 impl Rule {
-    pub const ALL: [Rule; 9] = [
+    pub const ALL: [Rule; 10] = [
         Rule::Imports,
         Rule::Uncited,
         Rule::Storeys,
@@ -28,6 +30,7 @@ impl Rule {
         Rule::Open,
         Rule::OpenUnnamed,
         Rule::Believed,
+        Rule::Named,
         Rule::Columns,
     ];
 
@@ -46,6 +49,7 @@ impl Rule {
             Rule::Open => "`abbrev pub` that crates above see through, with no reason given",
             Rule::OpenUnnamed => "`abbrev pub` of lower crates that are no type and have no reason",
             Rule::Believed => "lines to be believed that the documents do not count so",
+            Rule::Named => "names of the pages on the proofs that no source has",
             Rule::Columns => "lines over 160 columns",
         }
     }

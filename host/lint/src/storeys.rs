@@ -1,20 +1,25 @@
-//! Rule 3: `specs/*.antt` are what a reader believes, the folders below are there for proofs. No file of the first
-//! storey imports the second, or proofs, or proves something; and a contract cites the first alone.
+//! Rule 3: `specs/*.antt` are what a reader believes, the laws and proofs of `proofs/` are the second storey, and so would
+//! be a folder below specs/. No file of the first storey imports the second, or proves something; and a contract cites the
+//! first alone.
 
 use crate::decls::Declaration;
 use crate::report::{Finding, Rule};
-use crate::tree::{crate_of, File, Kind, Source};
+use crate::tree::{crate_of, steps_of, File, Kind, Source, Tree};
 
 /// Terms that prove.
 const PROVES: [&str; 5] = ["rw", "omega", "simp", "cc", "search"];
 
-pub fn findings(files: &[File]) -> Vec<Finding> {
+pub fn findings(tree: &Tree, files: &[File]) -> Vec<Finding> {
     let mut found = Vec::new();
     for file in files.iter().filter(|file| is_first(file)) {
         if is_first_spec(file.source) {
             found.extend(proofs(file));
         }
-        for import in file.uses.iter().filter(|import| is_second(&import.module)) {
+        for import in file
+            .uses
+            .iter()
+            .filter(|import| is_second(tree, &import.module))
+        {
             let who = if file.source.kind == Kind::Rattle {
                 "a contract"
             } else {
@@ -76,15 +81,14 @@ fn is_definition(declared: &Declaration) -> bool {
 }
 
 /// A module of the repository in a folder below specs/, one of proofs/, or one of the proof library. What the code declares is none of them.
-fn is_second(module: &str) -> bool {
+fn is_second(tree: &Tree, module: &str) -> bool {
     if module.starts_with("borrow.") {
         return true;
     }
-    if crate_of(module).is_none() {
+    if !crate_of(module).is_some_and(|name| tree.has_crate(name)) {
         return false;
     }
-    let steps: Vec<&str> = module.split('.').skip(1).collect();
-    match steps.as_slice() {
+    match steps_of(module).as_slice() {
         ["specs", "declared", ..] => false,
         ["specs", _, _, ..] | ["proofs", ..] => true,
         _ => false,
@@ -98,27 +102,34 @@ mod tests {
 
     fn count(path: &str, text: &str) -> usize {
         let source = Source::new(path, text);
-        findings(&[File::new(&source)]).len()
+        let crates = ["a", "b"].map(|name| (name.to_string(), Vec::new()));
+        let tree = Tree {
+            sources: Vec::new(),
+            edits: Vec::new(),
+            documents: Vec::new(),
+            crates: crates.to_vec(),
+        };
+        findings(&tree, &[File::new(&source)]).len()
     }
 
     #[test]
     fn the_first_storey_imports_itself() {
-        assert_eq!(count("crates/a/specs/A.antt", "use Rattle·b.specs.B.{c}\nuse Rattle·b.specs.declared.x.Y.the-variants as Y\nuse lib.ListN.Laws.{f}\n"), 0);
+        assert_eq!(count("crates/a/specs/A.antt", "use Rattle.b.specs.B.{c}\nuse Rattle.b.specs.declared.x.Y.the-variants as Y\nuse lib.ListN.Laws.{f}\nuse Rattle.std.proofs.Math.Seq.{g}\n"), 0);
         assert_eq!(
             count(
                 "crates/a/specs/A.antt",
-                "use Rattle·b.specs.Laws.B.{c}\nuse Rattle·a·specs.specs.Runs.B as B\n"
+                "use Rattle.b.proofs.Laws.B.{c}\nuse Rattle.a.specs.Runs.B as B\n"
             ),
             2
         );
         assert_eq!(
-            count("crates/a/specs/A.antt", "use Rattle·b.proofs.B.{c}\n"),
+            count("crates/a/specs/A.antt", "use Rattle.b.proofs.B.{c}\n"),
             1
         );
         assert_eq!(
             count(
-                "crates/a/specs/Laws/A.antt",
-                "use Rattle·b.specs.Laws.B.{c}\n"
+                "crates/a/proofs/Laws/A.antt",
+                "use Rattle.b.proofs.Laws.B.{c}\n"
             ),
             0
         );
@@ -133,7 +144,7 @@ mod tests {
         assert_eq!(first("pub law : f ≡ g\nlaw x = rw [h] omega\n"), 2);
         assert_eq!(first("use borrow.Author.Tests.{eqb-true}\n"), 1);
         let law = "pub law : f ≡ g\nunfolding f\nlaw = refl\n";
-        assert_eq!(count("crates/a/specs/Laws/A.antt", law), 0);
+        assert_eq!(count("crates/a/proofs/Laws/A.antt", law), 0);
     }
 
     #[test]
@@ -141,14 +152,14 @@ mod tests {
         assert_eq!(
             count(
                 "crates/a/src/a.rt",
-                "ghost use Rattle·a·specs.specs.Laws.B.{c};\n"
+                "ghost use Rattle.a.proofs.Laws.B.{c};\n"
             ),
             1
         );
         assert_eq!(
             count(
                 "crates/a/src/a.rt",
-                "ghost use Rattle·a·specs.specs.B.{c};\nuse b::proofs::c;\n"
+                "ghost use Rattle.a.specs.B.{c};\nuse b::proofs::c;\n"
             ),
             0
         );

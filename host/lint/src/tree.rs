@@ -3,9 +3,10 @@
 use crate::decls::{declarations, Declaration};
 use crate::edits::Edit;
 use crate::lex::{antt, Token};
+use crate::rattle::{tactics, Named};
 use crate::uses::{outside, uses, Use};
 use std::collections::HashMap;
-use std::path::{Path, PathBuf};
+use std::path::{Component, Path, PathBuf};
 use std::{fs, io};
 
 #[derive(Clone, Copy, Debug, PartialEq)]
@@ -38,7 +39,7 @@ impl Source {
         }
     }
 
-    /// The path inside its crate: `specs/Laws/Sum.antt`.
+    /// The path inside its crate: `proofs/Laws/Sum.antt`.
     pub fn within(&self) -> &str {
         self.path.splitn(3, '/').nth(2).unwrap_or("")
     }
@@ -53,6 +54,8 @@ pub struct File<'a> {
     pub declarations: Vec<Declaration<'a>>,
     /// Which declaration a name of this file belongs to.
     pub names: HashMap<&'a str, usize>,
+    /// What the `#[tactic(..)]` lines of a .rt file name.
+    pub tactics: Vec<Named>,
 }
 
 impl<'a> File<'a> {
@@ -70,6 +73,7 @@ impl<'a> File<'a> {
                 body: Vec::new(),
                 declarations: Vec::new(),
                 names: HashMap::new(),
+                tactics: tactics(&source.text, &source.crate_name),
             };
         }
         let body = outside(&tokens, &found);
@@ -84,6 +88,7 @@ impl<'a> File<'a> {
             body,
             declarations,
             names,
+            tactics: Vec::new(),
         }
     }
 }
@@ -108,6 +113,7 @@ impl Tree {
         };
         let mut paths = Vec::new();
         walk(&root.join("crates"), &mut paths)?;
+        paths.retain(|path| !is_made(root, path));
         walk(&root.join("docs"), &mut paths)?;
         paths.push(root.join("README.md"));
         paths.sort();
@@ -140,6 +146,11 @@ impl Tree {
         self.sources.iter().map(File::new).collect()
     }
 
+    /// Whether it is a crate of this repository.
+    pub fn has_crate(&self, name: &str) -> bool {
+        self.crates.iter().any(|(own, _)| own == name)
+    }
+
     /// Whether another crate of the repository stands on this one.
     pub fn is_lower(&self, name: &str) -> bool {
         self.crates
@@ -152,7 +163,7 @@ fn crates_of(listing: &str) -> Vec<(String, Vec<String>)> {
     let line = |line: &str| {
         let (name, below) = line.split_once(':')?;
         Some((
-            name.trim().to_string(),
+            name.split_whitespace().next()?.to_string(),
             below.split_whitespace().map(str::to_string).collect(),
         ))
     };
@@ -161,6 +172,12 @@ fn crates_of(listing: &str) -> Vec<(String, Vec<String>)> {
         .filter(|l| !l.trim_start().starts_with('#'))
         .filter_map(line)
         .collect()
+}
+
+/// Whether rt wrote a file: below crates/NAME/out.
+fn is_made(root: &Path, path: &Path) -> bool {
+    let inside = path.strip_prefix(root).unwrap_or(path);
+    inside.components().nth(2) == Some(Component::Normal("out".as_ref()))
 }
 
 fn walk(folder: &Path, paths: &mut Vec<PathBuf>) -> io::Result<()> {
@@ -197,10 +214,14 @@ impl<'t> Modules<'t> {
             };
             let rest = rest.trim_end_matches(".antt").replace('/', ".");
             let name = &file.source.crate_name;
-            by_path.insert(format!("Rattle·{name}·{folder}.{folder}.{rest}"), at);
-            by_path.insert(format!("Rattle·{name}.{folder}.{rest}"), at);
+            by_path.insert(format!("Rattle.{name}.{folder}.{rest}"), at);
         }
         Modules { files, by_path }
+    }
+
+    /// The file of a module, if it has one here.
+    pub fn file(&self, module: &str) -> Option<usize> {
+        self.by_path.get(module).copied()
     }
 
     /// Where a module's name is declared, through `pub use` lines.
@@ -261,10 +282,14 @@ fn passed_on(file: &File, name: &str) -> Option<(String, String)> {
         .map(|(import, item)| (import.module.clone(), item.name.clone()))
 }
 
-/// The crate of this repository that a module path begins with.
+/// The crate that a module path begins with, of this repository or of the kit.
 pub fn crate_of(module: &str) -> Option<&str> {
-    let head = module.split('.').next()?.strip_prefix("Rattle·")?;
-    Some(head.trim_end_matches("·specs").trim_end_matches("·proofs"))
+    module.strip_prefix("Rattle.")?.split('.').next()
+}
+
+/// A module path behind its crate: `specs`, `Sum`.
+pub fn steps_of(module: &str) -> Vec<&str> {
+    module.split('.').skip(2).collect()
 }
 
 #[cfg(test)]
@@ -276,19 +301,19 @@ mod tests {
         let sources = [
             Source::new("crates/low/specs/A.antt", "f : ℕ\nf = 1\n"),
             Source::new(
-                "crates/low/specs/Laws/B.antt",
-                "pub use Rattle·low·specs.specs.A.{f as g}\n",
+                "crates/low/proofs/Laws/B.antt",
+                "pub use Rattle.low.specs.A.{f as g}\n",
             ),
             Source::new(
                 "crates/up/specs/C.antt",
-                "use Rattle·low.specs.Laws.B.{g as h}\nuse Rattle·low.specs.A as X\nk : ℕ\nk = h\n",
+                "use Rattle.low.proofs.Laws.B.{g as h}\nuse Rattle.low.specs.A as X\nk : ℕ\nk = h\n",
             ),
         ];
         let files: Vec<File> = sources.iter().map(File::new).collect();
         let modules = Modules::new(&files);
         assert_eq!(modules.named(2, "h"), Some((0, 0)));
         assert_eq!(modules.named(2, "X.f"), Some((0, 0)));
-        assert_eq!(modules.named(2, "Rattle·low.specs.A.f"), Some((0, 0)));
+        assert_eq!(modules.named(2, "Rattle.low.specs.A.f"), Some((0, 0)));
         assert_eq!(modules.named(2, "k"), Some((2, 0)));
         assert_eq!(modules.named(2, "g"), None);
         assert_eq!(modules.named(2, "X.none"), None);
@@ -296,20 +321,23 @@ mod tests {
 
     #[test]
     fn crates_by_path() {
-        assert_eq!(crate_of("Rattle·wire·specs.specs.Sum"), Some("wire"));
-        assert_eq!(crate_of("Rattle·wire.specs.Sum"), Some("wire"));
+        assert_eq!(crate_of("Rattle.wire.specs.Sum"), Some("wire"));
+        assert_eq!(
+            steps_of("Rattle.wire.proofs.Laws.Sum"),
+            ["proofs", "Laws", "Sum"]
+        );
         assert_eq!(crate_of("lib.ListN"), None);
     }
 
     #[test]
     fn lower_crates() {
-        let crates = crates_of("# who\nwire: bytes\nendpoint: wire\n");
+        let crates = crates_of("# who\nwire: bytes\nendpoint staticlib: wire\n");
         let tree = Tree {
             sources: Vec::new(),
             edits: Vec::new(),
             documents: Vec::new(),
             crates,
         };
-        assert!(tree.is_lower("wire") && !tree.is_lower("endpoint"));
+        assert!(tree.is_lower("wire") && !tree.is_lower("endpoint") && tree.has_crate("endpoint"));
     }
 }

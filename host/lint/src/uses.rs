@@ -1,6 +1,6 @@
 //! Import lines of antt, and which of the names that they bring a text uses.
 
-use crate::lex::{parts, Token};
+use crate::lex::{is_operator, parts, Token};
 use std::collections::HashSet;
 use std::ops::Range;
 
@@ -188,7 +188,7 @@ impl Usage {
 
     pub fn has_name(&self, name: &str) -> bool {
         self.words.contains(name)
-            || (name.contains('_') && parts(name).iter().all(|part| self.words.contains(*part)))
+            || (is_operator(name) && parts(name).iter().all(|part| self.words.contains(*part)))
     }
 
     pub fn has_module(&self, name: &str) -> bool {
@@ -221,13 +221,13 @@ mod tests {
 
     #[test]
     fn reads_every_form() {
-        let text = "use A.B.{_∷_, c as d, syntax ⟦_⟧}\npub use A·x.C as X\nuse A.{\n  p,\n  q,\n}\n\nf : X.T\n";
+        let text = "use A.B.{◌∷◌, c as d, syntax ⟦_⟧}\npub use A.x.C as X\nuse A.{\n  p,\n  q,\n}\n\nf : X.T\n";
         let found = uses(&antt(text));
         let names: Vec<Vec<&str>> = found
             .iter()
             .map(|u| u.items().iter().map(|i| i.brings.as_str()).collect())
             .collect();
-        assert_eq!(names, [vec!["_∷_", "d", "⟦_⟧"], vec![], vec!["p", "q"]]);
+        assert_eq!(names, [vec!["◌∷◌", "d", "⟦_⟧"], vec![], vec!["p", "q"]]);
         assert_eq!(
             (found[0].module.as_str(), found[0].items()[1].name.as_str()),
             ("A.B", "c")
@@ -235,7 +235,7 @@ mod tests {
         assert!(
             found[1].is_public()
                 && found[1].module_name() == Some("X")
-                && found[1].module == "A·x.C"
+                && found[1].module == "A.x.C"
         );
         assert_eq!(&text[found[2].span.clone()], "use A.{\n  p,\n  q,\n}");
     }
@@ -243,11 +243,11 @@ mod tests {
     #[test]
     fn usage_of_operators_fields_and_labels() {
         let usage = Usage::of(&antt(
-            "f (x ∷ l) = r .take (T.drop) (record { set = if a then b })",
+            "f (x ∷ l) = r.take (T.drop) (record { set = if a then b })",
         ));
-        assert!(usage.has_name("_∷_") && usage.has_name("if_then_") && usage.has_module("T"));
+        assert!(usage.has_name("◌∷◌") && usage.has_name("if◌then◌") && usage.has_module("T"));
         assert!(!usage.has_name("take") && !usage.has_name("drop") && !usage.has_name("set"));
-        assert!(!usage.has_name("if_else_") && !usage.has_module("f"));
+        assert!(!usage.has_name("if◌else◌") && !usage.has_module("f"));
     }
 
     #[test]

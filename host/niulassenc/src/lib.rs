@@ -2,8 +2,8 @@
 //!
 //! Outer IPv4 packets go in; inner Ethernet frames come out, each with the
 //! tenant whose it is. STT is reassembled in memory that the caller lends. This
-//! crate is a thin, safe cover over the archive that `rt staticlib niulassenc`
-//! writes: it allocates nothing, keeps no global state, and needs no `std`. An
+//! crate is a thin, safe cover over the archive that `scripts/archive` writes:
+//! it allocates nothing, keeps no global state, and needs no `std`. An
 //! endpoint's configuration can be saved as bytes and loaded again
 //! ([`Endpoint::save`], [`Endpoint::load`]). A [`Detector`] beside it finds
 //! addresses that several peers show to one tenant.

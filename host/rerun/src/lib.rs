@@ -8,7 +8,7 @@ use std::path::{Path, PathBuf};
 /// Names another program than the one in the repository's `target/`.
 const VARIABLE: &str = "NIULASSENC_RERUN";
 
-/// Where `rt check rerun` puts it, seen from this crate.
+/// Where `scripts/program rerun` puts it, seen from this crate.
 const DEFAULT: &str = "../../target/bin/rerun";
 
 /// The program.
@@ -21,7 +21,7 @@ pub fn program() -> PathBuf {
     let program = std::env::var_os(VARIABLE).map_or(built, PathBuf::from);
     program.canonicalize().unwrap_or_else(|_| {
         panic!(
-            "there is no program {}. Run `rt check rerun` in the repository's root, which \
+            "there is no program {}. Run `scripts/program rerun` in the repository's root, which \
              proves it and writes target/bin/rerun; or name a program in {VARIABLE}.",
             program.display()
         )

@@ -26,15 +26,13 @@ use Rattle.wire.specs.declared.stt.SttRead.TheVariants as T
 use Rattle.reassembly.specs.Slots.{Note, most_peers}
 use Rattle.reassembly.proofs.Laws.Answers.{part-fits, part_past, view_memory}
 use Rattle.reassembly.specs.Take.{Seg, seg_of}
-use Rattle.reassembly.specs.Store.{take_in}
 use Rattle.reassembly.specs.Receive.{Reading as Made, other_sender, direct, segment, part_of_slice, view_of}
 use Rattle.reassembly.proofs.Laws.Base.{case_b, clash}
-use Rattle.reassembly.specs.SetUp.{Kept}
 use Rattle.endpoint.specs.Search.{lowest}
 use Rattle.endpoint.specs.Config.{Config, config_of, has_address, find_peer, most_bindings}
 use Rattle.endpoint.specs.Receive.{broken_at, answers, inner_from, answer_at, by_payload, by_peer, header_of, by_destination}
 use Rattle.endpoint.specs.Receive.{by_ipv4}
-use Rattle.endpoint.specs.Receive.{by_stt, stt_from, judge_of, Step, row_at, unchanged, stepped}
+use Rattle.endpoint.specs.Receive.{by_stt, stt_from, judge_of}
 use Rattle.endpoint.specs.declared.answer.Drop.{Drop}
 use Rattle.endpoint.specs.declared.answer.Drop.TheVariants as D
 use Rattle.endpoint.specs.declared.answer.Received.{Received}
@@ -44,8 +42,8 @@ use Rattle.endpoint.specs.declared.receive.Content.TheVariants as A
 use Rattle.endpoint.specs.declared.receive.Arrival.{Arrival}
 use Rattle.endpoint.specs.declared.config.Endpoint.{Endpoint}
 use Rattle.endpoint.specs.Stages.{carried_from, content_from, from_other, open_peer, open_header, open_ip, open_of, stt_offer, offer_at}
-use Rattle.endpoint.specs.Stages.{brings_segment, untaken_of, take_of, deliver_of, opened_by, delivered_by}
-use Rattle.endpoint.proofs.Laws.Receive.{part_view, tunnel_out, offer_out, nothing-taken, settle_of, settled_by}
+use Rattle.endpoint.specs.Stages.{brings_segment, untaken_of, deliver_of, opened_by, delivered_by}
+use Rattle.endpoint.proofs.Laws.Receive.{part_view, tunnel_out}
 
 -- ---- parts of the memory
 
@@ -191,33 +189,3 @@ stands-segment e k x (direct p a) d s q = clash (cc (s.1.untaken, q))
 stands-segment e k x (segment p g) d s q =
     let same : s.due ≡ d = cc (s.content, q) in
     rw (← same, s.bytes, s.peer)
-
--- ---- what it stands for is what the stages make of it
-
-module _ (e : Endpoint) (m k : List ℕ) where
-  -- a packet that was opened, settled with its sender's row
-  abbrev staged : Arrival → Step
-  staged x = settled_by e x (row_at e x.peer) k m
-
-  other_adds : (x : Arrival) (p : ℕ) (a : Received) → x.peer ≡ p → Direct e k x a → staged x ≡ unchanged e p m a
-  unfolding settle_of
-  other_adds x p a q d = rw (nothing-taken (row_at e x.peer) x k m d.untaken, d.answer m, q)
-
-  stands_adds : (x : Arrival) (y : Made answers) → StandsFor e k x y → staged x ≡ stepped e m y
-  unfolding settle_of take_of config_of
-  stands_adds x (other_sender a) s = other_adds x 0 a s.0 s.1
-  stands_adds x (direct p a) s = other_adds x p a s.0 s.1
-  stands_adds x (segment p g) s =
-      let d : Due = s.due in
-      let bytes : List ℕ = part_of_slice k d.start d.length in
-      rw (
-        s.content,
-        s.peer,
-        ← s.bytes,
-        offer_out (config_of e) p (row_at e p) k m (seg_of d.header bytes) (take_in p (row_at e p) m (seg_of d.header bytes)).outcome refl,
-      )
-
-stands_below : (e : Endpoint) (k : List ℕ) (x : Arrival) (y : Made answers) → StandsFor e k x y → Kept answers y → x.peer < most_peers
-stands_below e k x (other_sender a) s l = omega (arith, s.0)
-stands_below e k x (direct p a) s l = omega (arith, s.0, l.0)
-stands_below e k x (segment p g) s l = omega (arith, s.peer, l)

@@ -8,6 +8,11 @@ use Rattle.endpoint.specs.declared.answer.Tick.TheVariants as T
 use Rattle.endpoint.specs.declared.config.Endpoint.{Endpoint}
 use Rattle.endpoint.specs.Config.{with_rows, tick_of}
 
+-- a tick makes every row older, and nothing else changes
+pub ticked_is : (e : Endpoint) → (tick_of e).endpoint ≡ with_rows e (map older_row e.peers)
+unfolding tick_of
+ticked_is e = refl
+
 -- the rows once those before p are older
 unfoldable pub older_before : List Peer → ℕ → List Peer
 older_before l p = map older_row (take p l) ++ drop p l

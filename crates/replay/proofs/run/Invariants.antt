@@ -1,7 +1,6 @@
 -- `replay::run` is safe and ends: the measure is the number of turns that are left, and both slices keep their lengths.
 use mathlib.Core.Path.{◌≡◌}
 use lib.ListN.{length}
-use borrow.Author.Rules.{rules}
 use Rattle.replay.proofs.run.Given as goal
 
 abbrev pub invariant-loop-turns : goal.invariant-loop-turns

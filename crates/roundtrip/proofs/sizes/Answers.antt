@@ -1,7 +1,4 @@
 -- `roundtrip::sizes` is safe and ends: the measure is how many sizes are left, and the slices keep their lengths.
-use Prim.Native.Nat.{◌-◌, ◌≤◌}
-use mathlib.Core.Path.{◌≡◌}
-use lib.ListN.{length}
 use lib.Seq.{length-take-le}
 use borrow.Author.Rules.{rules}
 use Rattle.roundtrip.proofs.sizes.Goals as goal

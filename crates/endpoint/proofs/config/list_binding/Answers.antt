@@ -8,7 +8,7 @@ use Rattle.wire.proofs.Laws.Checks.{deciding}
 use Rattle.endpoint.specs.Config.{config_of, find_binding, is_some, is_network, add_binding_checks, with_binding, bindings_of, lent}
 use Rattle.endpoint.proofs.Laws.ConfigExits.{behind, list_binding_exit, is_found_in, binding_found, network_kind}
 use Rattle.endpoint.proofs.config.list_binding.Goals as goal
-use Rattle.endpoint.proofs.config.list_binding.Goals.{After-find_binding-listed, Else-least-owner, Else-not-is_network, Else-tenant-gt-TENANT_MAX, In-At, In_default}
+use Rattle.endpoint.proofs.config.list_binding.Goals.{Else-least-owner, Else-not-is_network, Else-tenant-gt-TENANT_MAX, In-At, In_default}
 
 -- the peer is listed
 peer_listed : (c : Else-least-owner) →
@@ -28,14 +28,6 @@ unfolding add_binding_checks config_of bindings_of lent
 ranges c =
     let first : Passed (take 1 (add_binding_checks (bindings_of c.args.networks.now c.args.kinds.now c.args.owners.now c.args.tenants.now c.args.peer_count c.args.count.now) c.args.peer c.args.kind c.args.network c.args.tenant)) = omega (arith, deciding) in
     (first.0, (ap not (sym c.is_network.ensures ∙ c.if-not-is_network.false), (omega (arith, deciding), tt)))
-
--- the lookup, as check 19 has it
-found : (c : After-find_binding-listed) →
-    is_some (find_binding (config_of (bindings_of c.args.networks.now c.args.kinds.now c.args.owners.now c.args.tenants.now c.args.peer_count c.args.count.now)) c.args.peer c.args.kind c.args.network) ≡ is_found_in c.find_binding-listed.result
-unfolding bindings_of lent
-found c =
-    binding_found (bindings_of c.args.networks.now c.args.kinds.now c.args.owners.now c.args.tenants.now c.args.peer_count c.args.count.now) c.args.peer c.args.kind c.args.network c.least-2.result c.find_binding-listed.result
-    c.least-2.ensures c.find_binding-listed.ensures
 
 listed : (c : In-At) →
     is_some (find_binding (config_of (bindings_of c.args.networks.now c.args.kinds.now c.args.owners.now c.args.tenants.now c.args.peer_count c.args.count.now)) c.args.peer c.args.kind c.args.network) ≡ true

@@ -8,20 +8,13 @@ use Rattle.wire.proofs.Laws.Checks.{deciding}
 use Rattle.endpoint.specs.Config.{config_of, find_peer, is_some, add_peer_checks, with_address, peers_of, lent}
 use Rattle.endpoint.proofs.Laws.ConfigExits.{behind, list_peer_exit, is_found_in, peer-found}
 use Rattle.endpoint.proofs.config.list_peer.Goals as goal
-use Rattle.endpoint.proofs.config.list_peer.Goals.{After-find_peer-listed, Else-address-own, In-At, In_default}
+use Rattle.endpoint.proofs.config.list_peer.Goals.{Else-address-own, In-At, In_default}
 
 -- the address is in its range, and not our own
 ranges : (c : Else-address-own) →
     Passed (take 4 (add_peer_checks (peers_of c.args.addresses.now c.args.own c.args.port c.args.count.now) c.args.address))
 unfolding add_peer_checks peers_of lent
 ranges c = omega (arith, deciding)
-
--- the lookup, as check 19 has it
-found : (c : After-find_peer-listed) →
-    is_some (find_peer (config_of (peers_of c.args.addresses.now c.args.own c.args.port c.args.count.now)) c.args.address) ≡ is_found_in c.find_peer-listed.result
-unfolding peers_of lent
-found c =
-    peer-found (peers_of c.args.addresses.now c.args.own c.args.port c.args.count.now) c.args.address c.least.result c.find_peer-listed.result c.least.ensures c.find_peer-listed.ensures
 
 listed : (c : In-At) →
     is_some (find_peer (config_of (peers_of c.args.addresses.now c.args.own c.args.port c.args.count.now)) c.args.address) ≡ true

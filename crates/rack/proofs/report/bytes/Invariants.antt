@@ -1,7 +1,6 @@
 -- `rack::report::bytes` is safe and ends: the measure is what is left of the slice. Nothing has to hold from turn to turn.
 use Prim.Native.Nat.{◌-◌}
 use lib.ListN.{length}
-use borrow.Author.Rules.{rules}
 use Rattle.rack.proofs.report.bytes.Given as goal
 
 abbrev pub invariant-loop-i : goal.invariant-loop-i

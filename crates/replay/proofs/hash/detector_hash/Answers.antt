@@ -1,7 +1,4 @@
 -- `replay::hash::detector_hash` is safe and ends: the measure is how many entries are left. Nothing has to hold from turn to turn.
-use Prim.Native.Nat.{◌-◌}
-use borrow.Author.Rules.{rules}
-use Rattle.detector.specs.Detector.{most_entries}
 use Rattle.replay.proofs.hash.detector_hash.Goals as goal
 
 pub loop-i-init : goal.loop-i-init

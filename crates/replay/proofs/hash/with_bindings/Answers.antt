@@ -1,7 +1,4 @@
 -- `replay::hash::with_bindings` is safe and ends: the measure is how many bindings are left. Nothing has to hold from turn to turn.
-use Prim.Native.Nat.{◌-◌}
-use borrow.Author.Rules.{rules}
-use Rattle.endpoint.specs.Config.{most_bindings}
 use Rattle.replay.proofs.hash.with_bindings.Goals as goal
 
 pub loop-i-init : goal.loop-i-init

@@ -1,6 +1,5 @@
 -- `replay::hash::with_bindings` is safe and ends: the measure is how many bindings are left. Nothing has to hold from turn to turn.
 use Prim.Native.Nat.{◌-◌}
-use borrow.Author.Rules.{rules}
 use Rattle.endpoint.specs.Config.{most_bindings}
 use Rattle.replay.proofs.hash.with_bindings.Given as goal
 

@@ -1,6 +1,5 @@
 -- `replay::hash::with_peer` is safe and ends: the measure is how many slots are left. Nothing has to hold from turn to turn.
 use Prim.Native.Nat.{◌-◌}
-use borrow.Author.Rules.{rules}
 use Rattle.reassembly.specs.Slots.{most_slots}
 use Rattle.replay.proofs.hash.with_peer.Given as goal
 

@@ -1,6 +1,5 @@
 -- `replay::hash::with_peers` is safe and ends: the measure is how many peers are left. Nothing has to hold from turn to turn.
 use Prim.Native.Nat.{◌-◌}
-use borrow.Author.Rules.{rules}
 use Rattle.reassembly.specs.Slots.{most_peers}
 use Rattle.replay.proofs.hash.with_peers.Given as goal
 

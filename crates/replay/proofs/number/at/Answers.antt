@@ -1,6 +1,4 @@
 -- `replay::number::at` is safe and ends: the measure is how many bytes are left. Nothing has to hold from turn to turn.
-use Prim.Native.Nat.{◌-◌}
-use borrow.Author.Rules.{rules}
 use Rattle.replay.proofs.number.at.Goals as goal
 
 pub loop-i-init : goal.loop-i-init

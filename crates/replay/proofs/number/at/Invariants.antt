@@ -1,6 +1,5 @@
 -- `replay::number::at` is safe and ends: the measure is how many bytes are left. Nothing has to hold from turn to turn.
 use Prim.Native.Nat.{◌-◌}
-use borrow.Author.Rules.{rules}
 use Rattle.replay.proofs.number.at.Given as goal
 
 abbrev pub invariant-loop-i : goal.invariant-loop-i
