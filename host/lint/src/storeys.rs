@@ -7,7 +7,16 @@ use crate::report::{Finding, Rule};
 use crate::tree::{crate_of, steps_of, File, Kind, Source, Tree};
 
 /// Terms that prove.
-const PROVES: [&str; 5] = ["rw", "omega", "simp", "cc", "search"];
+const PROVES: [&str; 8] = [
+    "rw",
+    "omega",
+    "simp",
+    "cc",
+    "search",
+    "grind",
+    "ground",
+    "assumption",
+];
 
 pub fn findings(tree: &Tree, files: &[File]) -> Vec<Finding> {
     let mut found = Vec::new();
@@ -142,6 +151,7 @@ mod tests {
         assert_eq!(first("pub law : f ≡ g\nunfolding f\nlaw = refl\n"), 2);
         assert_eq!(first("abbrev pub law : f ≡ g\nlaw = refl\n"), 1);
         assert_eq!(first("pub law : f ≡ g\nlaw x = rw [h] omega\n"), 2);
+        assert_eq!(first("pub law : f ≡ g\nlaw x = grind arith\n"), 1);
         assert_eq!(first("use borrow.Author.Tests.{eqb-true}\n"), 1);
         let law = "pub law : f ≡ g\nunfolding f\nlaw = refl\n";
         assert_eq!(count("crates/a/proofs/Laws/A.antt", law), 0);
