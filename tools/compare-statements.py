@@ -2,7 +2,7 @@
 """Lays the statements of two checkouts side by side: docs/PORT.md says which.
 
 usage: compare-statements.py OLD NEW      every declaration of OLD's specs/ that NEW has not, or has otherwise, in specs/ or proofs/Laws/
-       compare-statements.py --list NEW   the public statements of NEW's proofs/Laws/, whole, as docs/PORT.md ends
+       compare-statements.py --list NEW   the statements of NEW's proofs/Laws/, whole, as docs/PORT.md ends
 
 A declaration is found under its crate, its file and its name, whether that has `-` or `_`. Its statement is its whole signature with the modules around it;
 of a definition, and of everything outside of Laws, the body counts too. A `pub` more is no difference, nor are the names of NAMES.
@@ -12,7 +12,7 @@ import os
 import re
 import sys
 
-SIGNATURE = re.compile(r"^(?:pub |unfoldable |abbrev )*([^\s(){}:;,.=→λ|↦]+)(?:\s*\{[^}]*\})*\s*:\s")
+SIGNATURE = re.compile(r"^(?:pub |unfoldable |abbrev )*([^\s(){}:;,.=→λ|↦]+)(?:\s*\{[^}]*\})*\s*:(?:\s|$)")
 HEAD = re.compile(r"^(?:pub )?(record|data)\s+(\S+)")
 NOT_ONE = ("module", "use ", "pub ", "abbrev", "unfoldable", "infix", "mutual")
 # what was mended by hand behind the script: a packet's length is a number, and two names that the script took for one
@@ -109,16 +109,17 @@ def compare(old, new):
 
 def listed(root):
     for crate, at, path in files(root, "proofs"):
-        if at.startswith("Laws/"):
-            public = [(around, text) for _, around, text, _ in declarations(path) if re.match(r"(abbrev |unfoldable )?pub ", text)]
-            if public:
-                print(f"-- crates/{crate}/proofs/{at}")
-            last = None
-            for around, text in public:
-                if around != last and around:
-                    print(f"  in {around}")
-                last = around
-                print("  " * (2 if around else 1) + re.sub(r"\s+", " ", text))
+        if not at.startswith("Laws/"):
+            continue
+        print(f"-- crates/{crate}/proofs/{at}")
+        last = None
+        for _, around, text, body in declarations(path):
+            if around != last and around:
+                print(f"  in {around}")
+            last = around
+            if re.match(r"(pub )?(abbrev|unfoldable)\b", text):
+                text += " ;" + body
+            print("  " * (2 if around else 1) + re.sub(r"\s+", " ", text))
     return 0
 
 

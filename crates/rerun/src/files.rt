@@ -1,5 +1,5 @@
 // The files of the two arguments. A missing argument, and a file that cannot be opened, count as empty; standard error says so.
-ghost use Rattle.std.specs.Prelude.{IfOk};
+ghost use Rattle.std.specs.Prelude.{◌≡◌, length, IfOk, OnErr};
 ghost use Rattle.io.specs.Counts.{IsPrefixLen};
 
 use std::fmt::Display;
@@ -16,9 +16,11 @@ pub(crate) fn is_passing(error: &io::Error) -> bool {
     matches!(error.kind(), ErrorKind::Interrupted | ErrorKind::WouldBlock)
 }
 
-// Reads some bytes, and says how many: 0 at the end. Nothing says that a file is ready at last, so the tries are as many as no run uses up.
+// Reads some bytes, and says how many: 0 at the end. An error is the system's, and no bytes count then. Nothing says that a file is ready at last, so the tries are
+// as many as no run uses up.
 pub(crate) fn read_some(file: &mut impl Read, buf: &mut [u8]) -> io::Result<usize>
-    ensures { IfOk result (λ n. IsPrefixLen n buf.new) }
+    ensures ok { IfOk result (λ n. IsPrefixLen n buf.new) }
+    ensures err { OnErr result (length buf.new ≡ length buf.old) }
 {
     for _ in 0..u64::MAX {
         match file.read(buf) {

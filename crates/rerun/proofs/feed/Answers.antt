@@ -10,5 +10,5 @@ returns-clause-by_index_2 g c m = ready-any c.advance-fed.result.run _ _ m c.adv
 
 pub returns-clause-number_bound_2 : goal.returns-clause-number_bound_2
 returns-clause-number_bound_2 g c =
-    let few : length (take c.in-Ok.n c.read_some.new.buf) ≤ 32768 = omega (arith, c.in-Ok.ensures, c.requires.piece_len_bound, c.read_some.auto.buf) in
+    let few : length (take c.in-Ok.n c.read_some.new.buf) ≤ 32768 = omega (arith, c.in-Ok.ensures.ok, c.requires.piece_len_bound, c.read_some.auto.buf) in
     omega (arith, fed_told c.args.run c.advance-fed.result.run _ _ _ _ _ _ c.advance-fed.ensures.fed, few)
