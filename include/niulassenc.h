@@ -2,8 +2,8 @@
  * niulassenc: a tunnel endpoint for VXLAN (RFC 7348), NVGRE (RFC 7637) and STT (draft-davie-stt-06) whose configuration can be
  * saved and loaded, and a detector of addresses that several peers show to one tenant, without a heap.
  *
- * The functions are those of the crate `niulassenc`: each is proved to do what its contract there says, for every input. What is
- * not proved is that a caller keeps the rules of this header. They are few:
+ * The functions are those of the crate `niulassenc`, which `niulassenc_c` exports: each is proved to do what its contract there
+ * says, for every input. What is not proved is that a caller keeps the rules of this header. They are few:
  *
  * - Header and archive are of one version: niulassenc_matches() says so. Ask it once, before anything else.
  * - A pointer is never NULL, not even where its length is 0, and is aligned for its type.

@@ -159,8 +159,7 @@ pub extern "C" fn niulassenc_detector_start() -> Detector
     niulassenc::observe::niulassenc_detector_start()
 }
 
-// Observes a delivered frame, by its tenant, the peer that sent it and its source address. Only a new one makes an entry. The detector's own call does it: this
-// one lends the fields on.
+// Observes a delivered frame, by its tenant, the peer that sent it and its source address. Only a new one makes an entry.
 #[unsafe(no_mangle)]
 pub extern "C" fn niulassenc_observe(
     detector: &mut Detector,

@@ -23,17 +23,6 @@ fill_none m at = ap (λ (n : ℕ). take n m) (add-zero at) ∙ sym (append-nil (
 pub fill-fits : (m p : List ℕ) (at r : ℕ) → r ≤ length m - at → length (take r p) ≤ length (take (length m - at) (drop at m))
 fill-fits m p at r h = simp (length-take, length-drop) (omega arith)
 
--- the first bytes of a piece were copied over a part, whatever lies behind
-pub copied : (m p : List ℕ) (at r : ℕ) (ys y : List ℕ) → at + r ≤ length m → r ≤ length p → ys ≡ take r p
-    → take (at + r) (take at m ++ (ys ++ y)) ≡ take at m ++ take r p
-copied m p at r ys y fits some e =
-    let s : List ℕ = take r p in
-    let n : length (take at m ++ s) ≡ at + r =
-    length-append (take at m) s ∙ omega (arith, length-take-le at m (omega arith), length-take-le r p some) in
-    ap (λ (l : List ℕ). take (at + r) (take at m ++ (l ++ y))) e
-    ∙ ap (take (at + r)) (sym (append_assoc (take at m) s y))
-    ∙ take_at (take at m ++ s) y (at + r) n
-
 -- the first bytes of a piece lie over the front of the part from a place to the end, which was lent
 pub filled : (m p : List ℕ) (at r : ℕ) (ys : List ℕ) → at + r ≤ length m → r ≤ length p
     → ys ≡ take (length (take r p)) (take r p) ++ drop (length (take r p)) (take (length m - at) (drop at m))
