@@ -8,9 +8,10 @@ ghost use Rattle.endpoint.specs.Receive.{answers, layers};
 ghost use Rattle.reference.specs.Calls.{begun_of, hears_in, left_of, reply_of, ticked_in};
 ghost use Rattle.beside.specs.Answer.{receipt_of};
 
+use endpoint::answer::Received;
 use endpoint::config::Endpoint;
-use niulassenc::answer::{Receipt, empty, flat_received};
-use reference::answer::Reply;
+use niulassenc::answer::{Receipt, empty};
+use reference::answer::Refusal;
 use reference::reassembler::Reassembler;
 
 // What a receive gives back.
@@ -22,12 +23,13 @@ pub struct Hearing {
 }
 
 // The documents' number and values of a reply.
-fn flat_reply(reply: Reply) -> Receipt
+fn flat_reply(reply: Result<Received, Refusal>) -> Receipt
     ensures { result ≡ receipt_of reply }
 {
     match reply {
-        Reply::Answer(a) => flat_received(a),
-        Reply::TooManySegments => empty(32, 0),
+        Ok(received) => Ok(received).into(),
+        Err(Refusal::Dropped(why)) => Err(why).into(),
+        Err(Refusal::TooManySegments) => empty(32, 0),
     }
 }
 
@@ -36,7 +38,7 @@ fn flat_reply(reply: Reply) -> Receipt
 pub extern "C" fn reference_start(endpoint: Endpoint) -> Reassembler
     ensures { (result.endpoint ≡ endpoint) × ((m : List ℕ) → left_of result m ≡ begun_of endpoint m) }
 {
-    reference::reassembler::start(endpoint)
+    Reassembler::start(endpoint)
 }
 
 // Receives a packet. The memory is lent to every receive of a reference reassembler, 50,688 bytes or more; a delivered STT frame lies there until the next one.
@@ -52,13 +54,11 @@ pub extern "C" fn reference_receive(
         ≡ (hears_in answers Config layers (left_of reassembler memory.old) packet.now).left }
     ensures endpoint_value { result.reassembler.endpoint ≡ reassembler.endpoint }
 {
-    let heard = reference::receive::receive(reassembler, packet, memory);
-    let reply = heard.reply;
-    let receipt = flat_reply(reply);
-    let left = heard.reassembler;
+    let mut left = reassembler;
+    let reply = left.receive(packet, memory);
     Hearing {
         reassembler: left,
-        receipt: receipt,
+        receipt: flat_reply(reply),
     }
 }
 
@@ -68,5 +68,7 @@ pub extern "C" fn reference_tick(reassembler: Reassembler) -> Reassembler
     ensures { (result.endpoint ≡ reassembler.endpoint)
         × ((m : List ℕ) → left_of result m ≡ ticked_in answers Config layers (left_of reassembler m)) }
 {
-    reference::tick::tick(reassembler)
+    let mut left = reassembler;
+    left.tick();
+    left
 }

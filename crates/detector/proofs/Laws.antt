@@ -1,5 +1,4 @@
 -- What stands here is there for proofs: laws of the definitions beside this folder, and the proofs of the statements.
 pub mod Observe
-pub mod Source
 pub mod Detects
 pub mod WorkedDetects

@@ -1,7 +1,8 @@
 -- THE DETECTOR'S PROMISE (document 02, §1, where it is the twin finder): over every list of calls from an empty detector, what each is answered and what is
 -- kept, told from the calls before it alone. Only definitions; `Detects`, at the end, is THE STATEMENT, proved in Laws/Detects (`detects`). The contracts
--- (src/detector.rt, src/observe.rt) say that the calls are `empty` and `observe_of`, for every detector.
-use Rattle.std.specs.Prelude.{ℕ, ◌-◌, ◌<◌, ◌≤◌, ◌≡◌, ◌↔◌, ◌≢◌, Bool, false, not, cond, ◌&&◌, ◌||◌, List, [], ◌∷◌, ◌++◌, map, length, get_or, replicate, ltb, eqb}
+-- (src/detector.rt) say that the calls are `empty` and `observe_of`, for every detector.
+use Rattle.std.specs.Prelude.{ℕ, ◌-◌, ◌<◌, ◌≤◌, ◌≡◌, ◌↔◌, ◌≢◌, Bool, false, not, cond, ◌&&◌, ◌||◌, List, [], ◌∷◌, ◌++◌, map, length, get_or, replicate, ltb}
+use Rattle.std.specs.Prelude.{eqb}
 use Rattle.detector.specs.Detector.{empty, observe_of}
 use Rattle.detector.specs.declared.detector.Detector.{Detector}
 use Rattle.detector.specs.declared.observe.Observation.{Observation}

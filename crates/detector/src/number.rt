@@ -3,6 +3,8 @@
 // How many entries a detector keeps.
 pub const ENTRIES: usize = 128;
 
+// As it is: numbers are what C gets (`Observation`); in Rattle an answer is `Observed`.
+
 // Tenant and address were not listed; now they are, with this peer.
 pub const NEW: u8 = 0;
 

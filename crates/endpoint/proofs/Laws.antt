@@ -5,7 +5,6 @@ pub mod View
 pub mod ConfigExits
 pub mod Config
 pub mod Changed
-pub mod Tick
 pub mod WrapExits
 pub mod Receive
 pub mod Stands
@@ -16,10 +15,10 @@ pub mod Demand2
 pub mod Silent
 pub mod Demand1Receive
 pub mod Calls
+pub mod Taking
 pub mod Wrap
 pub mod Reached
 pub mod Relist
-pub mod RelistLent
 pub mod Relisted
 pub mod Configured
 pub mod Demand2Writing

@@ -1,5 +1,5 @@
 -- The documents' number and values for each answer ("The numbered answers").
-use Rattle.std.specs.Prelude.{ℕ}
+use Rattle.std.specs.Prelude.{ℕ, Result, Ok, Err}
 use Rattle.std.proofs.Math.Option.{Option, none, some}
 use Rattle.wire.specs.Refusal.{Finding, ◌at_byte◌, only, code_of}
 use Rattle.reassembly.specs.Take.{rejection_code}
@@ -11,16 +11,9 @@ use Rattle.endpoint.specs.declared.answer.Received.{Received}
 use Rattle.endpoint.specs.declared.answer.Received.TheVariants as R
 use Rattle.endpoint.specs.declared.answer.ConfigRefusal.{ConfigRefusal}
 use Rattle.endpoint.specs.declared.answer.ConfigRefusal.TheVariants as C
-use Rattle.endpoint.specs.declared.answer.Added.{Added}
-use Rattle.endpoint.specs.declared.answer.Added.TheVariants as A
-use Rattle.endpoint.specs.declared.answer.Start.{Start}
-use Rattle.endpoint.specs.declared.answer.Start.TheVariants as S
-use Rattle.endpoint.specs.declared.answer.Tick.{Tick}
-use Rattle.endpoint.specs.declared.answer.Tick.TheVariants as T
 use Rattle.endpoint.specs.declared.answer.WrapRefusal.{WrapRefusal}
 use Rattle.endpoint.specs.declared.answer.WrapRefusal.TheVariants as X
-use Rattle.endpoint.specs.declared.answer.Wrapped.{Wrapped}
-use Rattle.endpoint.specs.declared.answer.Wrapped.TheVariants as Y
+use Rattle.endpoint.specs.declared.answer.Packet.{Packet}
 
 -- ---- need not be believed: a number for each refusal, and the byte that it names
 
@@ -36,7 +29,6 @@ drop_of (D.Segment r) = only (rejection_code r)
 abbrev pub drop_code : Drop → ℕ
 drop_code d = (drop_of d).number
 
--- Open: three cases, three numbers
 abbrev pub config_code : ConfigRefusal → ℕ
 config_code C.OutOfRange = 18
 config_code C.AlreadyListed = 19
@@ -59,34 +51,37 @@ pub record Values : Type 0 where
   pub place : P.Place
 
 -- Open: the record `answers` (Receive.antt) holds equations that compute with it
-abbrev pub values_of : Received → Values
-values_of (R.Delivered t p) = record { number = 0; offset = 0; tenant = some t.tenant; binding = some t.binding; place = place_of p }
-values_of R.Pending = record { number = 1; offset = 0; tenant = none; binding = none; place = P.nowhere }
-values_of (R.Dropped d) = record { number = (drop_of d).number; offset = (drop_of d).offset; tenant = none; binding = none; place = P.nowhere }
+abbrev pub values_of : Result Received Drop → Values
+values_of (Ok (R.Delivered t p)) = record { number = 0; offset = 0; tenant = some t.tenant; binding = some t.binding; place = place_of p }
+values_of (Ok R.Pending) = record { number = 1; offset = 0; tenant = none; binding = none; place = P.nowhere }
+values_of (Err d) = record { number = (drop_of d).number; offset = (drop_of d).offset; tenant = none; binding = none; place = P.nowhere }
 
 -- number and offset
 abbrev pub told_by : Values → Finding
 told_by v = v.number at_byte v.offset
 
-unfoldable pub added_code : Added → ℕ
-added_code (A.Number n) = 0
-added_code (A.Refused r) = config_code r
+-- the number of an answer that is no refusal, or why the configuration is not changed
+abbrev pub config_answer_code : {T : Type 0} → Result T ConfigRefusal → ℕ
+config_answer_code (Ok x) = 0
+config_answer_code (Err r) = config_code r
+
+unfoldable pub added_code : Result ℕ ConfigRefusal → ℕ
+added_code a = config_answer_code a
 
 -- what an adding call gives back: its number, and the number of the new peer or binding. A refusal carries none
 pub record AddedValues : Type 0 where
   pub number : ℕ
   pub entry : Option ℕ
 
-abbrev pub added_values_of : Added → AddedValues
-added_values_of (A.Number n) = record { number = 0; entry = some n }
-added_values_of (A.Refused r) = record { number = config_code r; entry = none }
+abbrev pub added_values_of : Result ℕ ConfigRefusal → AddedValues
+added_values_of (Ok n) = record { number = 0; entry = some n }
+added_values_of (Err r) = record { number = config_code r; entry = none }
 
-unfoldable pub start_code : Start → ℕ
-start_code S.Done = 0
-start_code (S.Refused r) = config_code r
+unfoldable pub start_code : Result (Unit {0}) ConfigRefusal → ℕ
+start_code a = config_answer_code a
 
-unfoldable pub tick_code : Tick → ℕ
-tick_code T.Done = 0
+unfoldable pub tick_code : Unit {0} → ℕ
+tick_code done = 0
 
 -- ---- need not be believed: a number for each refusal to write
 
@@ -105,6 +100,6 @@ pub record WrapValues : Type 0 where
   pub length_is : ℕ
   pub segments : ℕ
 
-unfoldable pub wrap_values_of : Wrapped → WrapValues
-wrap_values_of (Y.Written p) = record { number = 0; length_is = p.length; segments = p.segments }
-wrap_values_of (Y.Refused r) = record { number = wrap_refusal_code r; length_is = 0; segments = 0 }
+unfoldable pub wrap_values_of : Result Packet WrapRefusal → WrapValues
+wrap_values_of (Ok p) = record { number = 0; length_is = p.length; segments = p.segments }
+wrap_values_of (Err r) = record { number = wrap_refusal_code r; length_is = 0; segments = 0 }

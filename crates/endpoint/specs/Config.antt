@@ -1,5 +1,6 @@
 -- The configuration (document 01, "Listing and numbers"): settings, peers and bindings, and the calls that make it.
-use Rattle.std.specs.Prelude.{ℕ, ◌+◌, ◌/◌, ◌^◌, min, Bool, true, false, not, ◌&&◌, ◌||◌, List, [], ◌∷◌, ◌++◌, map, get_or, set, replicate, ltb, leb, eqb}
+use Rattle.std.specs.Prelude.{ℕ, ◌+◌, ◌/◌, ◌^◌, min, Bool, true, false, not, ◌&&◌, ◌||◌, List, [], ◌∷◌, ◌++◌, map, get_or, set, take, replicate, ltb, leb, eqb}
+use Rattle.std.specs.Prelude.{Result, Ok, Err}
 use Rattle.std.proofs.Math.Option.{Option, none, some}
 use Rattle.wire.specs.Checks.{Check, ◌⇒◌, first}
 use Rattle.reassembly.specs.Slots.{most_peers, free_peer, older_row}
@@ -7,13 +8,8 @@ use Rattle.reassembly.specs.declared.slot.Peer.{Peer}
 use Rattle.endpoint.specs.Search.{lowest}
 use Rattle.endpoint.specs.declared.answer.ConfigRefusal.{ConfigRefusal}
 use Rattle.endpoint.specs.declared.answer.ConfigRefusal.TheVariants as C
-use Rattle.endpoint.specs.declared.answer.Added.TheVariants as A
-use Rattle.endpoint.specs.declared.answer.Start.TheVariants as S
-use Rattle.endpoint.specs.declared.answer.Tick.TheVariants as T
 use Rattle.endpoint.specs.declared.config.Endpoint.{Endpoint}
-use Rattle.endpoint.specs.declared.config.AddResult.{AddResult}
 use Rattle.endpoint.specs.declared.config.StartResult.{StartResult}
-use Rattle.endpoint.specs.declared.tick.TickResult.{TickResult}
 
 -- ---- the configuration that an endpoint holds: all of it but the rows of slots
 
@@ -48,7 +44,7 @@ config_of e = record {
   bindings = min e.binding_count most_bindings;
 }
 
--- ---- need not be believed: an endpoint with one part changed, or with some parts lent
+-- ---- need not be believed: an endpoint with one part changed, or without its rows
 
 -- the endpoint with these rows, and all else as it is
 -- Open: a record with one entry changed
@@ -67,7 +63,7 @@ with_rows e l = record {
   owners = e.owners;
 }
 
--- an endpoint with these columns and settings, and no rows: what a function that is lent them knows of one
+-- an endpoint with these columns and settings, and no rows
 unfoldable pub lent : (networks kinds owners tenants addresses : List ℕ) (own port mtu peers bindings : ℕ) → Endpoint
 lent networks kinds owners tenants addresses own port mtu peers bindings = record {
   networks = networks;
@@ -82,13 +78,6 @@ lent networks kinds owners tenants addresses own port mtu peers bindings = recor
   kinds = kinds;
   owners = owners;
 }
-
--- what a function that adds a peer knows of an endpoint, and what one that adds a binding knows
-unfoldable pub peers_of : (addresses : List ℕ) (own port count : ℕ) → Endpoint
-peers_of addresses own port count = lent [] [] [] [] addresses own port 0 count 0
-
-unfoldable pub bindings_of : (networks kinds owners tenants : List ℕ) (peers count : ℕ) → Endpoint
-bindings_of networks kinds owners tenants peers count = lent networks kinds owners tenants [] 0 0 0 peers count
 
 -- ---- a peer of the listing
 
@@ -115,6 +104,12 @@ find_binding c peer kind network = lowest (binds c.networks c.kinds c.owners pee
 abbrev pub is_some : Option ℕ → Bool
 is_some none = false
 is_some (some i) = true
+
+-- ---- need not be believed: is some check met, whichever it is
+
+abbrev pub any_met : {R : Type 0} → List (Check R) → Bool
+any_met [] = false
+any_met ((test ⇒ r) ∷ checks) = test || any_met checks
 
 -- ---- need not be believed: start
 
@@ -156,15 +151,20 @@ start_checks own port mtu =
 
 -- a refused start gives every number 0
 abbrev pub refused_start : ConfigRefusal → StartResult
-refused_start r = record { endpoint = fresh 0 0 0; answer = S.Refused r }
+refused_start r = record { endpoint = fresh 0 0 0; answer = Err r }
 
 unfoldable pub start_of : (own port mtu : ℕ) → StartResult
-start_of own port mtu = first refused_start (start_checks own port mtu) (record { endpoint = fresh own port mtu; answer = S.Done })
+start_of own port mtu = first refused_start (start_checks own port mtu) (record { endpoint = fresh own port mtu; answer = Ok tt })
 
 -- ---- need not be believed: adding: 18, 19, 20 in this order; a refusal changes nothing
 
+-- what an adding call leaves and answers: the number of the new peer or binding
+pub record AddResult : Type 0 where
+  pub endpoint : Endpoint
+  pub answer : Result ℕ ConfigRefusal
+
 abbrev pub refused_add : Endpoint → ConfigRefusal → AddResult
-refused_add e r = record { endpoint = e; answer = A.Refused r }
+refused_add e r = record { endpoint = e; answer = Err r }
 
 unfoldable pub add_peer_checks : Endpoint → (address : ℕ) → List (Check ConfigRefusal)
 add_peer_checks e address =
@@ -174,6 +174,10 @@ add_peer_checks e address =
     ∷ (is_some (find_peer (config_of e) address) ⇒ C.AlreadyListed)
     ∷ (leb most_peers e.peer_count ⇒ C.Full)
     ∷ []))
+
+-- 18: is it none that may be a peer
+abbrev pub bad_peer : Endpoint → (address : ℕ) → Bool
+bad_peer e address = any_met (take 4 (add_peer_checks e address))
 
 -- peer number n gets this address; its row stays
 unfoldable pub with_address : Endpoint → ℕ → ℕ → Endpoint
@@ -194,7 +198,7 @@ with_address e n address = record {
 unfoldable pub add_peer_of : Endpoint → (address : ℕ) → AddResult
 add_peer_of e address =
     first (refused_add e) (add_peer_checks e address)
-    (record { endpoint = with_address e e.peer_count address; answer = A.Number e.peer_count })
+    (record { endpoint = with_address e e.peer_count address; answer = Ok e.peer_count })
 
 -- the ids of a kind: VXLAN 0 to 16,777,215, NVGRE 4,096 to 16,777,214 (RFC 7637, 3.4), STT any 64-bit Context ID
 unfoldable pub is_network : (kind network : ℕ) → Bool
@@ -211,6 +215,10 @@ add_binding_checks e peer kind network tenant =
     ∷ (is_some (find_binding (config_of e) peer kind network) ⇒ C.AlreadyListed)
     ∷ (leb most_bindings e.binding_count ⇒ C.Full)
     ∷ []
+
+-- 18: is it none that may be a binding
+abbrev pub bad_binding : Endpoint → (peer kind network tenant : ℕ) → Bool
+bad_binding e peer kind network tenant = any_met (take 3 (add_binding_checks e peer kind network tenant))
 
 unfoldable pub with_binding : Endpoint → (n peer kind network tenant : ℕ) → Endpoint
 with_binding e n peer kind network tenant = record {
@@ -230,13 +238,18 @@ with_binding e n peer kind network tenant = record {
 unfoldable pub add_binding_of : Endpoint → (peer kind network tenant : ℕ) → AddResult
 add_binding_of e peer kind network tenant =
     first (refused_add e) (add_binding_checks e peer kind network tenant)
-    (record { endpoint = with_binding e e.binding_count peer kind network tenant; answer = A.Number e.binding_count })
+    (record { endpoint = with_binding e e.binding_count peer kind network tenant; answer = Ok e.binding_count })
 
 -- ---- need not be believed: a tick (document 01, "Reassembly memory"). Every pending frame grows older by 1, and those that reach 4 are freed. It changes
 -- nothing else, and always succeeds
 
+-- what a tick leaves, and its answer
+pub record TickResult : Type 0 where
+  pub endpoint : Endpoint
+  pub answer : Unit {0}
+
 unfoldable pub tick_of : Endpoint → TickResult
-tick_of e = record { endpoint = with_rows e (map older_row e.peers); answer = T.Done }
+tick_of e = record { endpoint = with_rows e (map older_row e.peers); answer = tt }
 
 -- ---- a set-up is what a start and any adding calls leave, refused ones too (document 01, "Whose packet it is")
 

@@ -1,7 +1,8 @@
 -- DEMAND 1's words (document 00): the rule of each call: which numbers it answers, what it leaves, and that a refusal changes nothing, but for the one
 -- exception. `Demand1` (Demands.antt) says that every call keeps its rule, for every endpoint, memory, packet and number.
 -- Only definitions; the rules are proved in Laws/Demand1, a receive's in Laws/Demand1Receive, a configuration's in Laws/Configured.
-use Rattle.std.specs.Prelude.{ℕ, ◌+◌, ◌-◌, ◌/◌, ◌^◌, ◌<◌, ◌≤◌, ◌≡◌, ◌⊎◌, ◌≢◌, Bool, true, false, cond, ◌||◌, List, [], ◌∷◌, length, get_or, take, drop, replicate, eqb}
+use Rattle.std.specs.Prelude.{ℕ, ◌+◌, ◌-◌, ◌/◌, ◌^◌, ◌<◌, ◌≤◌, ◌≡◌, ◌⊎◌, ◌≢◌, Bool, true, false, cond, ◌||◌, List, [], ◌∷◌, length, get_or, take, drop}
+use Rattle.std.specs.Prelude.{replicate, eqb}
 use Rattle.std.proofs.Math.Option.{none, some}
 use Rattle.wire.specs.Bytes.{Bytes}
 use Rattle.reassembly.specs.Slots.{free, no_row}
@@ -10,11 +11,10 @@ use Rattle.reassembly.specs.Receive.{Place, view_of}
 use Rattle.reassembly.specs.EveryRun.{frame_at, map_at, bit_of, Touches}
 use Rattle.reassembly.specs.declared.slot.Slot.{Slot}
 use Rattle.endpoint.specs.Answer.{Values, start_code, AddedValues, added_values_of, WrapValues}
-use Rattle.endpoint.specs.Config.{config_of}
+use Rattle.endpoint.specs.Config.{config_of, AddResult}
 use Rattle.endpoint.specs.Formats.{CarriesFrame, CarriesSegment, GoodFrame}
 use Rattle.endpoint.specs.declared.answer.Target.{Target}
 use Rattle.endpoint.specs.declared.config.Endpoint.{Endpoint}
-use Rattle.endpoint.specs.declared.config.AddResult.{AddResult}
 use Rattle.endpoint.specs.declared.config.StartResult.{StartResult}
 
 -- ---- words

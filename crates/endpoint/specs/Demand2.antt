@@ -2,7 +2,7 @@
 -- How to read it: what a packet carries and what a good frame is are the formats' own words (Formats.antt); `Gathers` and `MakesUp` follow from the run
 -- alone (crate reassembly, specs/History.antt); which segments are taken, rejected or given up is `EveryRun`, a field of `Demand3`. Only definitions;
 -- `Demand2` (Demands.antt) is the statement, its receiving half proved in Laws/Demand2.
-use Rattle.std.specs.Prelude.{ℕ, ◌<◌, ◌≡◌, List, [], ◌∷◌}
+use Rattle.std.specs.Prelude.{ℕ, ◌<◌, ◌≡◌, List, [], ◌∷◌, Ok}
 use Rattle.wire.specs.Bytes.{Bytes}
 use Rattle.reassembly.specs.Take.{Seg}
 use Rattle.reassembly.specs.Receive.{Event, receive, tick, view_of}
@@ -21,7 +21,7 @@ use Rattle.endpoint.specs.Run.{ends_of}
 -- the receive delivers the frame to the target: answer 0, and the view of its place is the frame
 pub record Delivers (e : Endpoint) (m k : List ℕ) (t : Target) (frame : List ℕ) : Type 0 where
   pub place : Place
-  pub answer : (step_of e m k).answer ≡ R.Delivered t place
+  pub answer : (step_of e m k).answer ≡ Ok (R.Delivered t place)
   pub views : view_of k (step_of e m k).mem (place_of place) ≡ frame
 
 -- the packet carries an STT segment of a listed peer's; the segments taken in the run since its frame opened, with it, make up exactly a frame; and that is

@@ -5,7 +5,7 @@
 -- How to read it: `Demand2Writing e b frame` is the statement for one binding and one frame; `whole` is the STT frame, the same for every segment. The theorem
 -- (`demand_two_writing` of Laws) asks that the endpoint came from the calls (`Reached`) and that the binding is listed; every other call of wrapping is
 -- refused, as `wrap_of` says.
-use Rattle.std.specs.Prelude.{ℕ, zero, suc, ◌+◌, ◌-◌, ◌*◌, ◌/◌, ◌^◌, ◌<◌, ◌≤◌, min, ◌≡◌, ◌⊎◌, List, [], ◌++◌, length, get_or, drop, eqb}
+use Rattle.std.specs.Prelude.{ℕ, zero, suc, ◌+◌, ◌-◌, ◌*◌, ◌/◌, ◌^◌, ◌<◌, ◌≤◌, min, ◌≡◌, ◌⊎◌, List, [], ◌++◌, length, get_or, drop, eqb, Ok}
 use Rattle.wire.specs.Bytes.{part}
 use Rattle.wire.specs.Ipv4.{IsIpv4}
 use Rattle.wire.specs.Carriage.{Tunnels}
@@ -15,7 +15,6 @@ use Rattle.wire.specs.Frame.{IsFrame}
 use Rattle.wire.specs.Layout.{VxlanLaidOut, NvgreLaidOut, SttLaidOut, SegmentLaidOut}
 use Rattle.endpoint.specs.Wrap.{segments_of, kind_at, network_at, peer_at, wrap_of}
 use Rattle.endpoint.specs.declared.answer.Packet.{Packet}
-use Rattle.endpoint.specs.declared.answer.Wrapped.TheVariants as Y
 use Rattle.endpoint.specs.declared.config.Endpoint.{Endpoint}
 
 -- ---- the statement's words
@@ -88,9 +87,9 @@ pub record Demand2Writing (e : Endpoint) (b : ℕ) (frame : List ℕ) : Type 0 w
   pub whole_is : kind_at e b ≡ 3 → IsStt (network_at e b) frame whole
   pub joined : kind_at e b ≡ 3 → joined_to e.mtu whole (segments_of (kind_at e b) (length frame) e.mtu) ≡ whole
   -- a call that answers 0 wrote the segment that it was asked for
-  pub sent : (k identifier : ℕ) → identifier < 256 ^ 4 → (output : List ℕ) (p : Packet) → (wrap_of e b frame k identifier output).answer ≡ Y.Written p
+  pub sent : (k identifier : ℕ) → identifier < 256 ^ 4 → (output : List ℕ) (p : Packet) → (wrap_of e b frame k identifier output).answer ≡ Ok p
       → Sent e b frame whole k identifier output p
   -- and each segment of a good frame is written, where its packet is within the MTU, as an STT segment's always is, and the output has room for it
   pub writes : (k identifier : ℕ) (output : List ℕ) (n : ℕ) → IsFrame frame → k < segments_of (kind_at e b) (length frame) e.mtu
       → IsPacketLength (kind_at e b) (length frame) e.mtu k n → (kind_at e b ≡ 3) ⊎ (n ≤ e.mtu) → n ≤ length output
-      → (wrap_of e b frame k identifier output).answer ≡ Y.Written (record { length = n; segments = segments_of (kind_at e b) (length frame) e.mtu })
+      → (wrap_of e b frame k identifier output).answer ≡ Ok (record { length = n; segments = segments_of (kind_at e b) (length frame) e.mtu })

@@ -1,5 +1,5 @@
 -- Receiving (document 01, "The numbered answers"): what the layers below make of a packet, what a complete STT frame is worth, and one receive, whole.
-use Rattle.std.specs.Prelude.{ℕ, ◌+◌, refl, Bool, true, false, cond, List, length, get_or, set, drop, ltb, eqb}
+use Rattle.std.specs.Prelude.{ℕ, ◌+◌, refl, Bool, true, false, cond, List, length, get_or, set, drop, ltb, eqb, Result, Ok, Err}
 use Rattle.std.proofs.Math.Option.{Option, none, some}
 use Rattle.wire.specs.Bytes.{part}
 use Rattle.wire.specs.Refusal.{finding_of}
@@ -9,14 +9,6 @@ use Rattle.wire.specs.Carriage.{carriage_of}
 use Rattle.wire.specs.Stt.{stt_of}
 use Rattle.wire.specs.Frame.{frame_of}
 use Rattle.wire.specs.declared.ipv4.Ipv4.{Ipv4}
-use Rattle.wire.specs.declared.ipv4.Ipv4Read.{Ipv4Read}
-use Rattle.wire.specs.declared.ipv4.Ipv4Read.TheVariants as I
-use Rattle.wire.specs.declared.carriage.Carried.{Carried}
-use Rattle.wire.specs.declared.carriage.Carried.TheVariants as C
-use Rattle.wire.specs.declared.stt.SttRead.{SttRead}
-use Rattle.wire.specs.declared.stt.SttRead.TheVariants as T
-use Rattle.wire.specs.declared.frame.FrameRead.{FrameRead}
-use Rattle.wire.specs.declared.frame.FrameRead.TheVariants as F
 use Rattle.reassembly.specs.Slots.{Note, no_row}
 use Rattle.reassembly.specs.Take.{seg_of, Effect}
 use Rattle.reassembly.specs.Store.{bytes_of, take_in}
@@ -33,30 +25,31 @@ use Rattle.endpoint.specs.declared.answer.Drop.TheVariants as D
 use Rattle.endpoint.specs.declared.answer.Received.{Received}
 use Rattle.endpoint.specs.declared.answer.Received.TheVariants as R
 use Rattle.endpoint.specs.declared.config.Endpoint.{Endpoint}
-use Rattle.endpoint.specs.declared.receive.ReceiveResult.{ReceiveResult}
+use Rattle.wire.specs.declared.carriage.Carried.TheVariants as C
+use Rattle.wire.specs.declared.carriage.Carried.{Carried}
 
 -- ---- what an answer is to the theory of runs
 
-abbrev pub is_delivered : Received → Bool
-is_delivered (R.Delivered t p) = true
-is_delivered R.Pending = false
-is_delivered (R.Dropped d) = false
+abbrev pub is_delivered : Result Received Drop → Bool
+is_delivered (Ok (R.Delivered t p)) = true
+is_delivered (Ok R.Pending) = false
+is_delivered (Err d) = false
 
-abbrev pub in_lent_memory : Target → ℕ → ℕ → Received
-in_lent_memory t start n = R.Delivered t (record { start = start; length = n; in_memory = true })
+abbrev pub in_lent_memory : Target → ℕ → ℕ → Result Received Drop
+in_lent_memory t start n = Ok (R.Delivered t (record { start = start; length = n; in_memory = true }))
 
 -- Open: a record of names, with which the statements about runs are read
 abbrev pub answers : Answers
 answers = record {
-  A = Received;
+  A = Result Received Drop;
   Bad = Drop;
   Good = Target;
   place = λ a. (values_of a).place;
   delivered = is_delivered;
-  too_small = R.Dropped D.MemoryTooSmall;
-  pending = R.Pending;
-  rejected = λ r. R.Dropped (D.Segment r);
-  refused = λ d. R.Dropped d;
+  too_small = Err D.MemoryTooSmall;
+  pending = Ok R.Pending;
+  rejected = λ r. Err (D.Segment r);
+  refused = λ d. Err d;
   gives = in_lent_memory;
   too_small_place = refl;
   pending_place = refl;
@@ -72,11 +65,11 @@ answers = record {
 
 -- ---- need not be believed: the inner frame: 12, then 13. `networks`, `kinds`, `owners` and `tenants` are the bindings' columns, of which n are listed
 
-abbrev pub by_frame : FrameRead → Target → Verdict answers
-by_frame F.Good t = good t
-by_frame (F.Refused r) t = bad (D.Format r 0)
+abbrev pub by_frame : Result (Unit {0}) Refusal → Target → Verdict answers
+by_frame (Ok tt) t = good t
+by_frame (Err r) t = bad (D.Format r 0)
 
-abbrev pub by_binding : (tenants : List ℕ) → Option ℕ → FrameRead → Verdict answers
+abbrev pub by_binding : (tenants : List ℕ) → Option ℕ → Result (Unit {0}) Refusal → Verdict answers
 by_binding tenants none frame = bad D.NoBinding
 by_binding tenants (some b) frame = by_frame frame (record { tenant = get_or tenants b 0; binding = b })
 
@@ -93,50 +86,50 @@ broken_at start r = D.Format r (finding_of start r).offset
 
 -- the answer on a frame that lies at a place
 -- Open: two cases, two answers
-abbrev pub answer_at : Verdict answers → Place → Received
-answer_at (bad d) place = R.Dropped d
-answer_at (good t) place = R.Delivered t place
+abbrev pub answer_at : Verdict answers → Place → Result Received Drop
+answer_at (bad d) place = Err d
+answer_at (good t) place = Ok (R.Delivered t place)
 
-unfoldable pub tunnel_from : (networks kinds owners tenants : List ℕ) (n peer kind network at : ℕ) → List ℕ → Received
+unfoldable pub tunnel_from : (networks kinds owners tenants : List ℕ) (n peer kind network at : ℕ) → List ℕ → Result Received Drop
 tunnel_from networks kinds owners tenants n peer kind network at frame =
     answer_at (inner_from networks kinds owners tenants n peer kind network frame) (record { start = at; length = length frame; in_memory = false })
 
-abbrev pub tunnel_of : Config → (peer kind network at : ℕ) → List ℕ → Received
+abbrev pub tunnel_of : Config → (peer kind network at : ℕ) → List ℕ → Result Received Drop
 tunnel_of c peer kind network at frame = tunnel_from c.networks c.kinds c.owners c.tenants c.bindings peer kind network at frame
 
-abbrev pub by_payload : Config → (peer start end : ℕ) → List ℕ → Carried → Reading answers
-by_payload c p start end k (C.Refused r) = direct p (R.Dropped (broken_at start r))
-by_payload c p start end k (C.Tunnel t) = direct p (tunnel_of c p t.kind t.network (start + t.start) (part k (start + t.start) end))
-by_payload c p start end k (C.Segment g) = segment p (seg_of g (part k (start + g.start) end))
+abbrev pub by_payload : Config → (peer start end : ℕ) → List ℕ → Result Carried Refusal → Reading answers
+by_payload c p start end k (Err r) = direct p (Err (broken_at start r))
+by_payload c p start end k (Ok (C.Tunnel t)) = direct p (tunnel_of c p t.kind t.network (start + t.start) (part k (start + t.start) end))
+by_payload c p start end k (Ok (C.Segment g)) = segment p (seg_of g (part k (start + g.start) end))
 
 abbrev pub by_peer : Config → Ipv4 → List ℕ → Option ℕ → Reading answers
-by_peer c h k none = other_sender (R.Dropped D.UnknownPeer)
+by_peer c h k none = other_sender (Err D.UnknownPeer)
 by_peer c h k (some p) = by_payload c p h.start h.end k (carriage_of h.protocol h.source h.destination c.port (part k h.start h.end))
 
 abbrev pub by_destination : Config → Ipv4 → List ℕ → Bool → Reading answers
 by_destination c h k true = by_peer c h k (find_peer c h.source)
-by_destination c h k false = other_sender (R.Dropped D.NotForUs)
+by_destination c h k false = other_sender (Err D.NotForUs)
 
-abbrev pub by_ipv4 : Config → List ℕ → Ipv4Read → Reading answers
-by_ipv4 c k (I.Refused r) = other_sender (R.Dropped (D.Format r 0))
-by_ipv4 c k (I.Packet h) = by_destination c h k (eqb h.destination c.own)
+abbrev pub by_ipv4 : Config → List ℕ → Result Ipv4 Refusal → Reading answers
+by_ipv4 c k (Err r) = other_sender (Err (D.Format r 0))
+by_ipv4 c k (Ok h) = by_destination c h k (eqb h.destination c.own)
 
 unfoldable pub header_of : Config → List ℕ → Reading answers
 header_of c k = by_ipv4 c k (ipv4_of k)
 
 -- whose packet it is: it passes 3 to 6, and its source is that peer
-abbrev pub by_sender : Config → Ipv4Read → Option ℕ
-by_sender c (I.Refused r) = none
-by_sender c (I.Packet h) = cond (eqb h.destination c.own) (find_peer c h.source) none
+abbrev pub by_sender : Config → Result Ipv4 Refusal → Option ℕ
+by_sender c (Err r) = none
+by_sender c (Ok h) = cond (eqb h.destination c.own) (find_peer c h.source) none
 
 unfoldable pub source_of : Config → List ℕ → Option ℕ
 source_of c k = by_sender c (ipv4_of k)
 
 -- ---- need not be believed: what a complete STT frame from peer p is worth: 28, 29, then 12, 13
 
-abbrev pub by_stt : SttRead → (ℕ → Verdict answers) → Verdict answers
-by_stt (T.Refused r) next = bad (broken_at 0 r)
-by_stt (T.Header context) next = next context
+abbrev pub by_stt : Result ℕ Refusal → (ℕ → Verdict answers) → Verdict answers
+by_stt (Err r) next = bad (broken_at 0 r)
+by_stt (Ok context) next = next context
 
 unfoldable pub stt_from : (networks kinds owners tenants : List ℕ) (n peer : ℕ) → List ℕ → Verdict answers
 stt_from networks kinds owners tenants n peer frame =
@@ -157,17 +150,16 @@ layers = record { header = header_of; judge = judge_of; source = source_of }
 pub record Step : Type 0 where
   pub peer : ℕ
   pub row : Peer
-  pub answer : Received
+  pub answer : Result Received Drop
   pub mem : List ℕ
 
--- Open: an entry of a list
 abbrev pub row_at : Endpoint → ℕ → Peer
 row_at e p = get_or e.peers p no_row
 
 -- ---- need not be believed: how a receive comes to it. Check 2, then what the layers make of the packet
 
 -- nothing changes: peer p keeps its row
-abbrev pub unchanged : Endpoint → ℕ → List ℕ → Received → Step
+abbrev pub unchanged : Endpoint → ℕ → List ℕ → Result Received Drop → Step
 unchanged e p m a = record { peer = p; row = row_at e p; answer = a; mem = m }
 
 abbrev pub stepped : Endpoint → List ℕ → Reading answers → Step
@@ -178,16 +170,20 @@ stepped e m (segment p g) =
     record { peer = p; row = o.row; answer = (take_answer answers (judge_of (config_of e)) bytes_of p g o o.outcome).reply; mem = o.mem }
 
 unfoldable pub step_of : Endpoint → (memory packet : List ℕ) → Step
-step_of e m k = cond (ltb (length m) 55296) (unchanged e 0 m (R.Dropped D.MemoryTooSmall)) (stepped e m (header_of (config_of e) k))
+step_of e m k = cond (ltb (length m) 55296) (unchanged e 0 m (Err D.MemoryTooSmall)) (stepped e m (header_of (config_of e) k))
 
 -- ---- what the call gives back
 
 -- peer p's row is this one
--- Open: a record with one entry changed
 abbrev pub with_row : Endpoint → ℕ → Peer → Endpoint
 with_row e p row = with_rows e (set e.peers p row)
 
--- what the call gives back; the memory is the step's
+-- what the call leaves and answers
+pub record ReceiveResult : Type 0 where
+  pub endpoint : Endpoint
+  pub answer : Result Received Drop
+
+-- the memory is the step's
 unfoldable pub receipt_of : Endpoint → Step → ReceiveResult
 receipt_of e s = record { endpoint = with_row e s.peer s.row; answer = s.answer }
 

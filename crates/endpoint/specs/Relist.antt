@@ -1,23 +1,20 @@
 -- A start, and adding calls made one after the other up to the first that is refused: what loads an image (document 02, §3).
-use Rattle.std.specs.Prelude.{ℕ, zero, suc, get_or}
+use Rattle.std.specs.Prelude.{ℕ, zero, suc, get_or, Result, Ok, Err}
 use Rattle.std.proofs.Math.Option.{Option, none, some}
 use Rattle.endpoint.specs.Config.{Config, start_of, add_peer_of, add_binding_of, Adding, add_peer, add_binding}
-use Rattle.endpoint.specs.declared.answer.Added.{Added}
-use Rattle.endpoint.specs.declared.answer.Added.TheVariants as A
-use Rattle.endpoint.specs.declared.answer.Start.{Start}
-use Rattle.endpoint.specs.declared.answer.Start.TheVariants as S
 use Rattle.endpoint.specs.declared.config.Endpoint.{Endpoint}
+use Rattle.endpoint.specs.declared.answer.ConfigRefusal.{ConfigRefusal}
 
 -- ---- need not be believed: all of it, since what a load gives is told without it (crate image, specs/Images.antt)
 
 -- the endpoint, where the answer is no refusal
-unfoldable pub if_started : Start → Endpoint → Option Endpoint
-if_started S.Done e = some e
-if_started (S.Refused r) e = none
+unfoldable pub if_started : Result (Unit {0}) ConfigRefusal → Endpoint → Option Endpoint
+if_started (Ok done) e = some e
+if_started (Err r) e = none
 
-unfoldable pub if_added : Added → Endpoint → Option Endpoint
-if_added (A.Number n) e = some e
-if_added (A.Refused r) e = none
+unfoldable pub if_added : Result ℕ ConfigRefusal → Endpoint → Option Endpoint
+if_added (Ok n) e = some e
+if_added (Err r) e = none
 
 unfoldable pub started_by : (own port mtu : ℕ) → Option Endpoint
 started_by own port mtu = if_started (start_of own port mtu).answer (start_of own port mtu).endpoint

@@ -2,7 +2,7 @@
 -- wrapped frame once, under one identifier, in any order, with no tick between: at the last it delivers exactly the frame, to the binding and the tenant that
 -- it has for it, and at the others it answers 1.
 -- How to read it: `round_trip` (Laws/RoundTrip) says that `Wraps` and `Matches` give `RoundTrip`. Only definitions.
-use Rattle.std.specs.Prelude.{ℕ, ◌+◌, ◌<◌, ◌≤◌, ◌≡◌, cond, List, [], ◌∷◌, ◌++◌, map, length, get_or, take, ltb, eqb}
+use Rattle.std.specs.Prelude.{ℕ, ◌+◌, ◌<◌, ◌≤◌, ◌≡◌, cond, List, [], ◌∷◌, ◌++◌, map, length, get_or, take, ltb, eqb, Ok}
 use Rattle.reassembly.specs.Receive.{Event, receive}
 use Rattle.endpoint.specs.Config.{address_at, Adding, set_up}
 use Rattle.endpoint.specs.Receive.{step_of}
@@ -11,7 +11,6 @@ use Rattle.endpoint.specs.Wrap.{segments_of, kind_at, network_at, owner_at, peer
 use Rattle.endpoint.specs.Demand2.{Delivers}
 use Rattle.endpoint.specs.declared.answer.Packet.{Packet}
 use Rattle.endpoint.specs.declared.answer.Target.{Target}
-use Rattle.endpoint.specs.declared.answer.Wrapped.TheVariants as Y
 use Rattle.endpoint.specs.declared.answer.Received.TheVariants as R
 use Rattle.endpoint.specs.declared.config.Endpoint.{Endpoint}
 
@@ -23,7 +22,7 @@ segments_for e b frame = segments_of (kind_at e b) (length frame) e.mtu
 pub record Wraps (e : Endpoint) (b : ℕ) (frame : List ℕ) (identifier : ℕ) (packets : ℕ → List ℕ) : Type 0 where
   pub output : ℕ → List ℕ
   pub answer : ℕ → Packet
-  pub written : (k : ℕ) → k < segments_for e b frame → (wrap_of e b frame k identifier (output k)).answer ≡ Y.Written (answer k)
+  pub written : (k : ℕ) → k < segments_for e b frame → (wrap_of e b frame k identifier (output k)).answer ≡ Ok (answer k)
   pub is : (k : ℕ) → k < segments_for e b frame → packets k ≡ take (answer k).length (wrap_of e b frame k identifier (output k)).output
 
 -- e' is freshly set up; its own address is that of the peer of e's binding b, it lists e's address as its peer number `peer`, its STT port is e's, and its
@@ -58,7 +57,7 @@ arrivals packets order = map (λ (k : ℕ). receive (packets k)) order
 
 -- what is answered to a packet, where `later` segments are still to come: 1 before the last, and at the last the frame is delivered, and handed back
 pub record Answered (w : Left) (packet : List ℕ) (t : Target) (frame : List ℕ) (later : ℕ) : Type 0 where
-  pub waits : 0 < later → (step_of w.endpoint w.mem packet).answer ≡ R.Pending
+  pub waits : 0 < later → (step_of w.endpoint w.mem packet).answer ≡ Ok R.Pending
   pub delivers : later ≡ 0 → Delivers w.endpoint w.mem packet t frame
 
 -- ---- THE STATEMENT, of a matching endpoint and packets that carry the frame

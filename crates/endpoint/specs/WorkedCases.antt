@@ -1,18 +1,18 @@
 -- The worked cases of document 01 ("Bench sheet") that are to be proved: one table of what the definitions give beside what the paper says, and one statement,
 -- that the two columns are equal.
-use Rattle.std.specs.Prelude.{ℕ, ◌≡◌, cond, List, [], ◌∷◌, ◌++◌, map, replicate}
+use Rattle.std.specs.Prelude.{ℕ, ◌≡◌, cond, List, [], ◌∷◌, ◌++◌, map, replicate, Result, Ok, Err}
 use Rattle.wire.specs.Sum.{total, ones}
 use Rattle.wire.specs.Nvgre.{nvgre_of}
 use Rattle.wire.specs.Refusal.{Finding, only, finding_of}
 use Rattle.wire.specs.Inner.{hints_of}
 use Rattle.wire.specs.Write.{source_port_of}
-use Rattle.wire.specs.declared.carriage.Carried.{Carried}
-use Rattle.wire.specs.declared.carriage.Carried.TheVariants as C
 use Rattle.reassembly.specs.Base.{all_below}
 use Rattle.reassembly.specs.Slots.{free, no_mark}
 use Rattle.reassembly.specs.Take.{Choice, reject, old, fresh, chosen, rejection_code}
 use Rattle.reassembly.specs.Store.{bit_at, set_bits}
 use Rattle.endpoint.specs.Wrap.{segments_of, segment_size, packet_of}
+use Rattle.wire.specs.declared.carriage.Tunnel.{Tunnel}
+use Rattle.wire.specs.declared.refusal.Refusal.{Refusal}
 
 -- ---- examples: nothing rests on them
 
@@ -37,10 +37,9 @@ abbrev peer : ℕ
 peer = 0x0a000002
 
 -- number and offset that are given to an NVGRE header with this first byte, behind an IPv4 header of 20 bytes: the refusal's, or else 0 and 0
-abbrev carried_finding : Carried → Finding
-carried_finding (C.Tunnel t) = only 0
-carried_finding (C.Segment g) = only 0
-carried_finding (C.Refused r) = finding_of 20 r
+abbrev carried_finding : Result Tunnel Refusal → Finding
+carried_finding (Ok t) = only 0
+carried_finding (Err r) = finding_of 20 r
 
 abbrev finding_list : Finding → List ℕ
 finding_list x = x.number ∷ x.offset ∷ []

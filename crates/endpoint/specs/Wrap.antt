@@ -1,20 +1,19 @@
 -- Wrapping (document 01, "Wrapping"): which packet carries a frame out on a binding, its segments, and one call, whole. Packets are those of crate wire
 -- (specs/Write.antt).
-use Rattle.std.specs.Prelude.{ℕ, ◌+◌, ◌-◌, ◌*◌, ◌/◌, ◌%◌, min, Bool, true, false, List, [], ◌∷◌, length, get_or, ltb, leb, eqb}
+use Rattle.std.specs.Prelude.{ℕ, ◌+◌, ◌-◌, ◌*◌, ◌/◌, ◌%◌, min, Bool, true, false, cond, ◌||◌, List, [], ◌∷◌, length, get_or, ltb, leb, eqb, Option, None, Some}
+use Rattle.std.specs.Prelude.{Result, Ok, Err}
 use Rattle.wire.specs.Bytes.{wrote}
 use Rattle.wire.specs.Checks.{Check, ◌⇒◌, first, pick}
 use Rattle.wire.specs.Frame.{frame_of}
 use Rattle.wire.specs.Write.{vxlan_packet, nvgre_packet, segment_packet, Written}
-use Rattle.wire.specs.declared.frame.FrameRead.{FrameRead}
-use Rattle.wire.specs.declared.frame.FrameRead.TheVariants as F
 use Rattle.endpoint.specs.Config.{config_of}
 use Rattle.endpoint.specs.declared.answer.WrapRefusal.{WrapRefusal}
 use Rattle.endpoint.specs.declared.answer.WrapRefusal.TheVariants as X
-use Rattle.endpoint.specs.declared.answer.Wrapped.{Wrapped}
-use Rattle.endpoint.specs.declared.answer.Wrapped.TheVariants as Y
 use Rattle.endpoint.specs.declared.config.Endpoint.{Endpoint}
 use Rattle.endpoint.specs.declared.wrap.Route.{Route}
 use Rattle.reassembly.specs.Slots.{most_peers}
+use Rattle.endpoint.specs.declared.answer.Packet.{Packet}
+use Rattle.wire.specs.declared.refusal.Refusal.{Refusal}
 
 -- ---- the segments of an STT frame: with F = 18 plus the frame's length and C = MTU − 40, (F + C − 1) div C of them; segment k carries bytes kC up to the
 -- smaller of F and kC + C
@@ -52,9 +51,9 @@ packet_of kind own peer port network mtu frame segment identifier =
 unfoldable pub exceeds : (kind size mtu : ℕ) → Bool
 exceeds kind size mtu = pick (eqb kind 1) (ltb mtu (36 + size)) (pick (eqb kind 2) (ltb mtu (28 + size)) false)
 
-abbrev pub is_bad : FrameRead → Bool
-is_bad F.Good = false
-is_bad (F.Refused r) = true
+abbrev pub is_bad : Result (Unit {0}) Refusal → Bool
+is_bad (Ok tt) = false
+is_bad (Err r) = true
 
 -- ---- a binding of the endpoint
 
@@ -92,23 +91,29 @@ wrap_checks e b frame segment identifier output =
 
 -- the answer, and the output that it leaves: the packet at its front, and nothing else changed; or the output as it came
 pub record Wrote : Type 0 where
-  pub answer : Wrapped
+  pub answer : Result Packet WrapRefusal
   pub output : List ℕ
 
 -- ---- need not be believed: the call
 
 abbrev pub refused_wrap : List ℕ → WrapRefusal → Wrote
-refused_wrap output r = record { answer = Y.Refused r; output = output }
+refused_wrap output r = record { answer = Err r; output = output }
 
 unfoldable pub wrap_of : Endpoint → (b : ℕ) (frame : List ℕ) (segment identifier : ℕ) (output : List ℕ) → Wrote
 wrap_of e b frame segment identifier output =
     first (refused_wrap output) (wrap_checks e b frame segment identifier output)
     (record {
-      answer = Y.Written (record { length = length (packet_at e b frame segment identifier); segments = segments_of (kind_at e b) (length frame) e.mtu });
+      answer = Ok (record { length = length (packet_at e b frame segment identifier); segments = segments_of (kind_at e b) (length frame) e.mtu });
       output = wrote output (packet_at e b frame segment identifier);
     })
 
 -- ---- need not be believed: the call once the binding is found, as the code makes it: 13, 22, 23 (segment), 21
+
+-- the way out on binding b: none where no such binding is listed, or its owner is none of the eight peers
+abbrev pub route_of : Endpoint → (b : ℕ) → Option Route
+route_of e b =
+    cond (leb (config_of e).bindings b || leb most_peers (owner_at e b)) None
+    (Some (record { network = network_at e b; own = e.own; peer = peer_at e b; port = e.port; mtu = e.mtu; kind = kind_at e b }))
 
 -- the packet on a route
 abbrev pub packet_on : Route → (frame : List ℕ) (segment identifier : ℕ) → List ℕ
@@ -126,7 +131,7 @@ module _ (t : Route) (frame : List ℕ) (segment identifier : ℕ) (output : Lis
   -- what is given where no check is met
   abbrev pub sent : Wrote
   sent = record {
-    answer = Y.Written (record { length = length (packet_on t frame segment identifier); segments = segments_of t.kind (length frame) t.mtu });
+    answer = Ok (record { length = length (packet_on t frame segment identifier); segments = segments_of t.kind (length frame) t.mtu });
     output = wrote output (packet_on t frame segment identifier);
   }
 
@@ -135,7 +140,7 @@ module _ (t : Route) (frame : List ℕ) (segment identifier : ℕ) (output : Lis
 
 -- ---- need not be believed: what is put at the front of an output: the packet if there is room for it, or else nothing
 
-abbrev pub Put : (packet old new : List ℕ) (r : ℕ) → Type 0
+abbrev pub Put : (packet old new : List ℕ) (r : Option ℕ) → Type 0
 Put packet old new r = Written (leb (length packet) (length old)) packet old new r
 
 -- segment number k of an STT frame that is cut at every c bytes

@@ -3,8 +3,9 @@ use reassembly::take::Rejection;
 use wire::refusal::Refusal;
 
 // Where a frame lies: a part of the packet, or of the reassembly memory.
+// As it is: a flag and no enum: a struct of C's, whose fields, order and layout stay.
 #[repr(C)]
-#[derive(Clone, Copy)]
+#[derive(Clone, Copy, PartialEq, Eq)]
 pub struct Place {
     pub start: usize,
     pub length: usize,
@@ -36,11 +37,11 @@ pub enum Drop {
     Segment(Rejection),
 }
 
+// What comes of a packet that is not dropped: a frame, or a segment of one that is not complete yet.
 #[derive(Clone, Copy)]
 pub enum Received {
     Delivered(Target, Place),
     Pending,
-    Dropped(Drop),
 }
 
 // Why the configuration is not changed: 18, 19, 20.
@@ -49,25 +50,6 @@ pub enum ConfigRefusal {
     OutOfRange,
     AlreadyListed,
     Full,
-}
-
-// A good adding call gives the new peer's or binding's number.
-#[derive(Clone, Copy)]
-pub enum Added {
-    Number(u16),
-    Refused(ConfigRefusal),
-}
-
-#[derive(Clone, Copy)]
-pub enum Start {
-    Done,
-    Refused(ConfigRefusal),
-}
-
-// A tick always succeeds: 0.
-#[derive(Clone, Copy)]
-pub enum Tick {
-    Done,
 }
 
 // Why nothing is written.
@@ -91,10 +73,4 @@ pub enum WrapRefusal {
 pub struct Packet {
     pub length: usize,
     pub segments: usize,
-}
-
-#[derive(Clone, Copy)]
-pub enum Wrapped {
-    Written(Packet),
-    Refused(WrapRefusal),
 }

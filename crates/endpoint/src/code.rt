@@ -1,100 +1,91 @@
 // The documents' number for each answer ("The numbered answers"), and the byte that it names (02 §4), as specs/Answer.antt gives them.
 ghost use Rattle.std.specs.Prelude.{◌≡◌};
-ghost use Rattle.endpoint.specs.Answer.{drop_of, drop_code, config_code, added_code, start_code, tick_code, values_of, wrap_refusal_code};
+ghost use Rattle.endpoint.specs.Answer.{drop_of, drop_code, config_code, config_answer_code, values_of, wrap_refusal_code};
 
-use crate::answer::{Added, ConfigRefusal, Drop, Received, Start, Tick, WrapRefusal};
+use crate::answer::{ConfigRefusal, Drop, Received, WrapRefusal};
 
-pub fn drop_code(d: Drop) -> u8
-    ensures { result ≡ drop_code d }
-{
-    match d {
-        Drop::MemoryTooSmall => 2,
-        Drop::Format(r, _) => wire::refusal::code(r),
-        Drop::NotForUs => 6,
-        Drop::UnknownPeer => 7,
-        Drop::NoBinding => 12,
-        Drop::Segment(r) => reassembly::take::rejection_code(r),
+impl Drop {
+    // The document's number.
+    pub fn code(self) -> u8
+        ensures { result ≡ drop_code self }
+    {
+        match self {
+            Drop::MemoryTooSmall => 2,
+            Drop::Format(r, _) => r.code(),
+            Drop::NotForUs => 6,
+            Drop::UnknownPeer => 7,
+            Drop::NoBinding => 12,
+            Drop::Segment(r) => r.code(),
+        }
+    }
+
+    // The offset of the first offending byte, in the packet or in the STT frame; 0 where the answer names none.
+    pub fn offset(self) -> u8
+        ensures { result ≡ (drop_of self).offset }
+    {
+        match self {
+            Drop::Format(_, offset) => offset,
+            Drop::MemoryTooSmall
+            | Drop::NotForUs
+            | Drop::UnknownPeer
+            | Drop::NoBinding
+            | Drop::Segment(_) => 0,
+        }
     }
 }
 
-pub fn received_code(answer: Received) -> u8
+pub fn received_code(answer: Result<Received, Drop>) -> u8
     ensures { result ≡ (values_of answer).number }
 {
     match answer {
-        Received::Delivered(_, _) => 0,
-        Received::Pending => 1,
-        Received::Dropped(d) => drop_code(d),
+        Ok(Received::Delivered(_, _)) => 0,
+        Ok(Received::Pending) => 1,
+        Err(d) => d.code(),
     }
 }
 
-// The offset of the first offending byte, in the packet or in the STT frame.
-pub fn drop_offset(d: Drop) -> u8
-    ensures { result ≡ (drop_of d).offset }
-{
-    match d {
-        Drop::MemoryTooSmall => 0,
-        Drop::Format(_, offset) => offset,
-        Drop::NotForUs => 0,
-        Drop::UnknownPeer => 0,
-        Drop::NoBinding => 0,
-        Drop::Segment(_) => 0,
-    }
-}
-
-pub fn received_offset(answer: Received) -> u8
+pub fn received_offset(answer: Result<Received, Drop>) -> u8
     ensures { result ≡ (values_of answer).offset }
 {
     match answer {
-        Received::Delivered(_, _) => 0,
-        Received::Pending => 0,
-        Received::Dropped(d) => drop_offset(d),
+        Ok(_) => 0,
+        Err(d) => d.offset(),
     }
 }
 
-pub fn config_code(r: ConfigRefusal) -> u8
-    ensures { result ≡ config_code r }
-{
-    match r {
-        ConfigRefusal::OutOfRange => 18,
-        ConfigRefusal::AlreadyListed => 19,
-        ConfigRefusal::Full => 20,
+impl ConfigRefusal {
+    // The document's number.
+    pub fn code(self) -> u8
+        ensures { result ≡ config_code self }
+    {
+        match self {
+            ConfigRefusal::OutOfRange => 18,
+            ConfigRefusal::AlreadyListed => 19,
+            ConfigRefusal::Full => 20,
+        }
     }
 }
 
-pub fn added_code(answer: Added) -> u8
-    ensures { result ≡ added_code answer }
-{
-    match answer {
-        Added::Number(_) => 0,
-        Added::Refused(r) => config_code(r),
-    }
-}
-
-pub fn start_code(answer: Start) -> u8
-    ensures { result ≡ start_code answer }
+// The number of a start's answer, and of an adding call's: 0 where it is no refusal.
+pub fn config_answer_code<T>(answer: &Result<T, ConfigRefusal>) -> u8
+    ensures { result ≡ config_answer_code answer.now }
 {
     match answer {
-        Start::Done => 0,
-        Start::Refused(r) => config_code(r),
+        Ok(_) => 0,
+        Err(r) => r.code(),
     }
 }
 
-pub fn tick_code(answer: Tick) -> u8
-    ensures { result ≡ tick_code answer }
-{
-    match answer {
-        Tick::Done => 0,
-    }
-}
-
-pub fn wrap_code(r: WrapRefusal) -> u8
-    ensures { result ≡ wrap_refusal_code r }
-{
-    match r {
-        WrapRefusal::NoBinding => 23,
-        WrapRefusal::BadFrame => 13,
-        WrapRefusal::ExceedsMtu => 22,
-        WrapRefusal::NoSegment => 23,
-        WrapRefusal::OutputTooShort => 21,
+impl WrapRefusal {
+    // The document's number.
+    pub fn code(self) -> u8
+        ensures { result ≡ wrap_refusal_code self }
+    {
+        match self {
+            WrapRefusal::BadFrame => 13,
+            WrapRefusal::OutputTooShort => 21,
+            WrapRefusal::ExceedsMtu => 22,
+            WrapRefusal::NoBinding | WrapRefusal::NoSegment => 23,
+        }
     }
 }

@@ -1,5 +1,5 @@
 -- A load, whole: the test of the image's frame, then the start and the adding calls that its numbers stand for. Any refusal is a bad image.
-use Rattle.std.specs.Prelude.{ℕ, ◌+◌, ◌*◌, Bool, ◌&&◌, List, length, eqb}
+use Rattle.std.specs.Prelude.{ℕ, ◌+◌, ◌*◌, Bool, ◌&&◌, List, length, eqb, Ok, Err}
 use Rattle.std.proofs.Math.Option.{Option, none, some}
 use Rattle.wire.specs.Checks.{pick}
 use Rattle.wire.specs.Field.{field}
@@ -7,7 +7,6 @@ use Rattle.endpoint.specs.Config.{fresh, Adding, add_peer, add_binding}
 use Rattle.endpoint.specs.Relist.{started_by, relisted}
 use Rattle.endpoint.specs.declared.config.Endpoint.{Endpoint}
 use Rattle.image.specs.Image.{letters, Version, version1}
-use Rattle.image.specs.declared.answer.Loaded.TheVariants as L
 use Rattle.image.specs.declared.answer.LoadResult.{LoadResult}
 
 -- ---- need not be believed: Images.antt says which images are accepted and what is given (`LoadRule`)
@@ -51,11 +50,11 @@ rebuilt v s = and_then (started_by (field s 5 4) (field s 9 2) (field s 11 2)) (
 
 -- of a bad image the endpoint of a refused start
 unfoldable pub bad_image : LoadResult
-bad_image = record { endpoint = fresh 0 0 0; answer = L.BadImage }
+bad_image = record { endpoint = fresh 0 0 0; answer = Err (record {}) }
 
 unfoldable pub loaded_of : Option Endpoint → LoadResult
 loaded_of none = bad_image
-loaded_of (some e) = record { endpoint = e; answer = L.Done }
+loaded_of (some e) = record { endpoint = e; answer = Ok tt }
 
 unfoldable pub load_of : List ℕ → LoadResult
 load_of s = pick (framed version1 s) (loaded_of (rebuilt version1 s)) bad_image

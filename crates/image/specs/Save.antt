@@ -1,18 +1,16 @@
 -- A save, whole: its answer and the output that it leaves.
-use Rattle.std.specs.Prelude.{ℕ, List, [], ◌∷◌, length, get_or, ltb, eqb}
+use Rattle.std.specs.Prelude.{ℕ, List, [], ◌∷◌, length, get_or, ltb, eqb, Result, Ok, Err}
 use Rattle.wire.specs.Bytes.{be, ◌then◌, wrote}
 use Rattle.wire.specs.Checks.{Check, ◌⇒◌, first}
 use Rattle.endpoint.specs.Config.{Config}
 use Rattle.image.specs.Image.{Version, Binding, letters, image_of}
 use Rattle.image.specs.declared.answer.SaveRefusal.{SaveRefusal}
 use Rattle.image.specs.declared.answer.SaveRefusal.TheVariants as X
-use Rattle.image.specs.declared.answer.Saved.{Saved}
-use Rattle.image.specs.declared.answer.Saved.TheVariants as S
 
 -- ---- need not be believed: Images.antt says what is answered and what is left (`SaveRule`)
 
 pub record SaveResult : Type 0 where
-  pub answer : Saved
+  pub answer : Result ℕ SaveRefusal
   pub output : List ℕ
 
 -- the STT port of a refused start is 0
@@ -23,11 +21,11 @@ save_checks c output =
     ∷ []
 
 unfoldable pub not_saved : (output : List ℕ) → SaveRefusal → SaveResult
-not_saved output r = record { answer = S.Refused r; output = output }
+not_saved output r = record { answer = Err r; output = output }
 
 unfoldable pub save_of : Config → (output : List ℕ) → SaveResult
 save_of c output =
-    first (not_saved output) (save_checks c output) (record { answer = S.Written (length (image_of c)); output = wrote output (image_of c) })
+    first (not_saved output) (save_checks c output) (record { answer = Ok (length (image_of c)); output = wrote output (image_of c) })
 
 -- ---- need not be believed: its parts, as the functions write them
 

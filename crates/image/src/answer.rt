@@ -2,7 +2,7 @@
 use endpoint::config::Endpoint;
 
 // Why nothing is saved.
-#[derive(Clone, Copy)]
+#[derive(Clone, Copy, Debug, PartialEq, Eq)]
 pub enum SaveRefusal {
     // 18: its start was refused
     NotStarted,
@@ -10,23 +10,14 @@ pub enum SaveRefusal {
     OutputTooShort,
 }
 
-// A save gives the length of the image.
-#[derive(Clone, Copy)]
-pub enum Saved {
-    Written(usize),
-    Refused(SaveRefusal),
-}
-
 // 24: the bytes are no image that saving gives.
-#[derive(Clone, Copy)]
-pub enum Loaded {
-    Done,
-    BadImage,
-}
+#[derive(Clone, Copy, Debug, PartialEq, Eq)]
+pub struct BadImage;
 
 // What a load gives: of a bad image the endpoint of a refused start, every number 0.
+// As it is: no Result of an endpoint, since a bad image gives one too: `LoadRule` says of it that every number is 0, and C gets it.
 #[derive(Clone, Copy)]
 pub struct LoadResult {
     pub endpoint: Endpoint,
-    pub answer: Loaded,
+    pub answer: Result<(), BadImage>,
 }

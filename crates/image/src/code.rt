@@ -1,23 +1,37 @@
-// The number of each answer, as specs/Answer.antt gives it.
-ghost use Rattle.std.specs.Prelude.{◌≡◌};
+// The number of each refusal, as specs/Answer.antt gives it.
+ghost use Rattle.std.specs.Prelude.{◌≡◌, Err};
 ghost use Rattle.image.specs.Answer.{load_code, save_refusal_code};
 
-use crate::answer::{Loaded, SaveRefusal};
+use crate::answer::{BadImage, SaveRefusal};
 
-pub fn save_code(r: SaveRefusal) -> u8
-    ensures { result ≡ save_refusal_code r }
-{
-    match r {
-        SaveRefusal::NotStarted => 18,
-        SaveRefusal::OutputTooShort => 21,
+impl SaveRefusal {
+    #[tactic(auto, unfolding(crate::specs::Answer::save_refusal_code))]
+    pub fn code(self) -> u8
+        ensures { result ≡ save_refusal_code self }
+    {
+        match self {
+            SaveRefusal::NotStarted => 18,
+            SaveRefusal::OutputTooShort => 21,
+        }
     }
 }
 
-pub fn load_code(answer: Loaded) -> u8
+impl BadImage {
+    #[tactic(auto, unfolding(crate::specs::Answer::load_code))]
+    pub fn code(self) -> u8
+        ensures { result ≡ load_code (Err self) }
+    {
+        24
+    }
+}
+
+// The number of a load's answer: 0 where it is no refusal.
+#[tactic(auto, using(crate::proofs::Laws::Answer::loaded_code), unfolding(crate::specs::Answer::load_code))]
+pub fn load_code(answer: Result<(), BadImage>) -> u8
     ensures { result ≡ load_code answer }
 {
     match answer {
-        Loaded::Done => 0,
-        Loaded::BadImage => 24,
+        Ok(()) => 0,
+        Err(r) => r.code(),
     }
 }

@@ -1,9 +1,9 @@
 // The form of an image. Each number stands here once.
 
 // The letters TWN, and the version that is written and read.
-pub const LETTERS: u32 = 0x54574E;
+pub const LETTERS: u64 = 0x54574E;
 
-pub const VERSION: u16 = 1;
+pub const VERSION: u64 = 1;
 
 // Where the version, the settings, the count of peers and the peers begin.
 pub const VERSION_AT: usize = 3;

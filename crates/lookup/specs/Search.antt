@@ -1,5 +1,6 @@
 -- The lowest number below a bound that passes a test (document 01, "Listing and numbers": the lowest-numbered one that matches is the answer).
-use Rattle.std.specs.Prelude.{◌≡◌, Bool, true, false, cond, ℕ, zero, suc, ◌<◌}
+use Rattle.std.specs.Prelude.{◌≡◌, Bool, true, false, cond, ℕ, zero, suc, ◌<◌, Some, None}
+use Rattle.std.specs.Prelude as std
 use Rattle.std.proofs.Math.Option.{Option, none, some}
 
 module _ (test : ℕ → Bool) where
@@ -26,3 +27,9 @@ module _ (test : ℕ → Bool) where
 unfoldable pub found : Option ℕ → ℕ
 found none = 0
 found (some i) = i
+
+-- the same as std's `Option`, which a program answers
+-- Open: a renaming of constructors
+abbrev pub found_of : Option ℕ → std.Option ℕ
+found_of none = None
+found_of (some i) = Some i

@@ -1,10 +1,8 @@
 -- The endpoint's and the image's answers as they cross to C: their numbers and values (`values_of`, `config_code` .. of the endpoint, `save_values_of` and
 -- `load_code` of the image), in flat structs.
-use Rattle.std.specs.Prelude.{ℕ, false}
+use Rattle.std.specs.Prelude.{ℕ, false, Result, Ok, Err}
 use Rattle.std.proofs.Math.Option.{Option, none, some}
 use Rattle.endpoint.specs.Answer.{Values, WrapValues, added_code, start_code}
-use Rattle.endpoint.specs.declared.answer.Added.{Added}
-use Rattle.endpoint.specs.declared.answer.Added.TheVariants as A
 use Rattle.endpoint.specs.declared.config as E
 use Rattle.image.specs.Answer.{SaveValues, load_code}
 use Rattle.image.specs.declared.answer.LoadResult.{LoadResult}
@@ -13,6 +11,7 @@ use Rattle.niulassenc.specs.declared.answer.Addition.{Addition}
 use Rattle.niulassenc.specs.declared.answer.Writing.{Writing}
 use Rattle.niulassenc.specs.declared.answer.Saving.{Saving}
 use Rattle.niulassenc.specs.declared.config.Started.{Started}
+use Rattle.endpoint.specs.declared.answer.ConfigRefusal.{ConfigRefusal}
 
 -- a number that may be missing. 65,535 is a tenant's number too: the code alone says whether there is one
 abbrev pub or_none : Option ℕ → ℕ
@@ -35,11 +34,11 @@ flat_of v = record {
 abbrev pub empty_of : (code offset : ℕ) → Receipt
 empty_of code offset = record { start = 0; length = 0; tenant = 65535; binding = 65535; code = code; in_memory = false; offset = offset }
 
-abbrev pub number_of : Added → Option ℕ
-number_of (A.Number n) = some n
-number_of (A.Refused r) = none
+abbrev pub number_of : Result ℕ ConfigRefusal → Option ℕ
+number_of (Ok n) = some n
+number_of (Err r) = none
 
-abbrev pub addition_of : Added → Addition
+abbrev pub addition_of : Result ℕ ConfigRefusal → Addition
 addition_of a = record { number = or_none (number_of a); code = added_code a }
 
 abbrev pub started_of : E.StartResult.StartResult → Started

@@ -1,10 +1,10 @@
 -- Whose a binding is: with it a caller learns which peer sent a delivered frame. `Owners` is THE STATEMENT, proved in Laws/Owner (`owners`).
-use Rattle.std.specs.Prelude.{ℕ, min, ◌<◌, ◌≤◌, ◌≡◌, cond, List, get_or, ltb}
+use Rattle.std.specs.Prelude.{ℕ, ◌<◌, ◌≤◌, ◌≡◌, cond, List, get_or, ltb}
 use Rattle.std.proofs.Math.Option.{Option, none, some}
 use Rattle.wire.specs.Bytes.{Bytes}
 use Rattle.wire.specs.Ipv4.{IsIpv4}
 use Rattle.endpoint.specs.Answer.{values_of}
-use Rattle.endpoint.specs.Config.{Config, config_of, most_bindings}
+use Rattle.endpoint.specs.Config.{Config, config_of}
 use Rattle.endpoint.specs.Formats.{ListedPeer}
 use Rattle.endpoint.specs.Receive.{step_of, receipt_of}
 use Rattle.endpoint.specs.declared.config.Endpoint.{Endpoint}
@@ -14,10 +14,6 @@ use Rattle.niulassenc.specs.Answer.{or_none, flat_of}
 
 unfoldable pub owner_of : Config → ℕ → Option ℕ
 owner_of c i = cond (ltb i c.bindings) (some (get_or c.owners i 0)) none
-
--- the same, from the endpoint's column and its count
-unfoldable pub owner_in : (owners : List ℕ) (count i : ℕ) → Option ℕ
-owner_in owners count i = cond (ltb i (min count most_bindings)) (some (get_or owners i 0)) none
 
 -- ---- the peer of a delivered frame
 

@@ -1,13 +1,13 @@
 // The answers as C has them: flat structs of numbers. specs/Answer.antt gives each from the endpoint's or the image's own answer.
-ghost use Rattle.std.specs.Prelude.{◌≡◌, ◌≤◌};
-ghost use Rattle.endpoint.specs.Answer.{values_of, wrap_values_of};
+ghost use Rattle.std.specs.Prelude.{◌≡◌};
+ghost use Rattle.endpoint.specs.Answer.{values_of};
 ghost use Rattle.image.specs.Answer.{save_values_of};
-ghost use Rattle.niulassenc.specs.Answer.{flat_of, empty_of, addition_of, writing_of, saving_of};
+ghost use Rattle.niulassenc.specs.Answer.{flat_of, empty_of, addition_of, saving_of};
 
-use endpoint::answer::{Added, Received, Wrapped};
-use endpoint::code;
-use image::answer::Saved;
-use image::code::save_code;
+use endpoint::answer::{ConfigRefusal, Drop, Received};
+use image::answer::SaveRefusal;
+
+// As it is: flat structs, a code beside the values and a number for none, are the C interface; fields, order and layout stay.
 
 // No tenant, no binding, no entry.
 pub const NONE: u16 = 0xFFFF;
@@ -67,65 +67,54 @@ pub fn empty(code: u8, offset: u8) -> Receipt
 }
 
 // The documents' number and values of a receive's answer.
-pub fn flat_received(answer: Received) -> Receipt
-    ensures { result ≡ flat_of (values_of answer) }
-{
-    match answer {
-        Received::Delivered(t, p) => Receipt {
-            start: p.start,
-            length: p.length,
-            tenant: t.tenant,
-            binding: t.binding,
-            code: 0,
-            in_memory: p.in_memory,
-            offset: 0,
-        },
-        Received::Pending => empty(1, 0),
-        Received::Dropped(d) => empty(code::drop_code(d), code::drop_offset(d)),
+impl From<Result<Received, Drop>> for Receipt {
+    ghost from_gives = { λ answer flat. flat ≡ flat_of (values_of answer) };
+
+    fn from(answer: Result<Received, Drop>) -> Receipt {
+        match answer {
+            Ok(Received::Delivered(t, p)) => Receipt {
+                start: p.start,
+                length: p.length,
+                tenant: t.tenant,
+                binding: t.binding,
+                code: 0,
+                in_memory: p.in_memory,
+                offset: 0,
+            },
+            Ok(Received::Pending) => empty(1, 0),
+            Err(d) => empty(d.code(), d.offset()),
+        }
     }
 }
 
 // Document 01's number of an adding call's answer, and the number that was given.
-pub(crate) fn flat_added(answer: Added) -> Addition
-    ensures { result ≡ addition_of answer }
-{
-    match answer {
-        Added::Number(n) => Addition { number: n, code: 0 },
-        Added::Refused(r) => Addition {
-            number: NONE,
-            code: code::config_code(r),
-        },
-    }
-}
+impl From<Result<u16, ConfigRefusal>> for Addition {
+    ghost from_gives = { λ answer flat. flat ≡ addition_of answer };
 
-// Document 01's number and values of a wrap's answer. No frame has more segments than bytes.
-pub(crate) fn flat_wrapped(answer: Wrapped) -> Writing
-    requires { (wrap_values_of answer).segments ≤ 1532 }
-    ensures { result ≡ writing_of (wrap_values_of answer) }
-{
-    match answer {
-        Wrapped::Written(p) => Writing {
-            length: p.length,
-            segments: p.segments as u32,
-            code: 0,
-        },
-        Wrapped::Refused(r) => Writing {
-            length: 0,
-            segments: 0,
-            code: code::wrap_code(r),
-        },
+    #[tactic(auto, using(endpoint::proofs::Laws::Answer::number_code, endpoint::proofs::Laws::Answer::refused_code))]
+    fn from(answer: Result<u16, ConfigRefusal>) -> Addition {
+        match answer {
+            Ok(number) => Addition { number, code: 0 },
+            Err(r) => Addition {
+                number: NONE,
+                code: r.code(),
+            },
+        }
     }
 }
 
 // The number and the length of a save's answer.
-pub(crate) fn flat_saved(answer: Saved) -> Saving
-    ensures { result ≡ saving_of (save_values_of answer) }
-{
-    match answer {
-        Saved::Written(n) => Saving { length: n, code: 0 },
-        Saved::Refused(r) => Saving {
-            length: 0,
-            code: save_code(r),
-        },
+impl From<Result<usize, SaveRefusal>> for Saving {
+    ghost from_gives = { λ answer flat. flat ≡ saving_of (save_values_of answer) };
+
+    #[tactic(auto, using(image::proofs::Laws::Answer::written_values, image::proofs::Laws::Answer::refused_values))]
+    fn from(answer: Result<usize, SaveRefusal>) -> Saving {
+        match answer {
+            Ok(length) => Saving { length, code: 0 },
+            Err(r) => Saving {
+                length: 0,
+                code: r.code(),
+            },
+        }
     }
 }

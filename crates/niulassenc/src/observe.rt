@@ -3,19 +3,18 @@ ghost use Rattle.std.specs.Prelude.{◌≡◌};
 ghost use Rattle.detector.specs.Detector.{empty, observe_of};
 ghost use Rattle.detector.specs.Source.{source_of};
 
-use detector::detector::{Detector, start};
-use detector::observe::{Observation, observe_in};
+use detector::detector::Detector;
+use detector::observe::Observation;
 use detector::source;
 
 // A detector with no entry.
 pub fn niulassenc_detector_start() -> Detector
     ensures { result ≡ empty }
 {
-    start()
+    Detector::start()
 }
 
-// Observes a delivered frame, by its tenant, the peer that sent it and its source address. Only a new one makes an entry. The detector's own call does it: this
-// one lends the fields on.
+// Observes a delivered frame, by its tenant, the peer that sent it and its source address. Only a new one makes an entry.
 pub fn niulassenc_observe(
     detector: &mut Detector,
     tenant: u16,
@@ -25,15 +24,7 @@ pub fn niulassenc_observe(
     ensures { (result ≡ (observe_of detector.old tenant peer address).answer)
         × (detector.new ≡ (observe_of detector.old tenant peer address).detector) }
 {
-    observe_in(
-        &mut detector.addresses,
-        &mut detector.tenants,
-        &mut detector.peers,
-        &mut detector.count,
-        tenant,
-        peer,
-        address,
-    )
+    detector.observe(tenant, peer, address).into()
 }
 
 // The source address of a frame, bytes 6 to 11, as a number: 02:00:00:00:00:01 is 0x020000000001. 0 of a frame under 12 bytes.

@@ -1,5 +1,6 @@
 // The library for C and Rust as a static library: one export for each function of crate niulassenc, with that function's clauses. include/niulassenc.h declares
 // them.
+// As it is: each has its function's clauses again, since an export is a function of its own (the C interface).
 #![tactic(auto)]
 
 ghost use Rattle.std.specs.Prelude.{◌≡◌};

@@ -1,36 +1,41 @@
-// The hash of the test runs and the generator of their contents, both modulo 2^32. A remainder before each step keeps the step below 2^64.
+// The hash of the test runs and the generator of their contents, both modulo 2^32.
 
-pub fn low8(n: u64) -> u8 {
-    (n % 256) as u8
-}
-
-// The generator's next state: 1,103,515,245 x + 12,345 modulo 2^32.
-fn next(x: u64) -> u64 {
-    (x % 0x100000000 * 1103515245 + 12345) % 0x100000000
-}
-
-// Fills a slice from a seed: each byte is bits 16 to 23 of the next state.
-pub fn fill(s: &mut [u8], seed: u64) {
+// Fills a slice from a seed. The generator goes from x to 1,103,515,245 x + 12,345, and each byte is bits 16 to 23 of its next state.
+pub fn fill(s: &mut [u8], seed: u32) {
     let mut x = seed;
-    let mut i = 0;
-    while i < s.len() {
-        x = next(x);
-        s[i] = low8(x / 0x10000);
-        i += 1;
+    for byte in s.iter_mut() {
+        x = x.wrapping_mul(1103515245).wrapping_add(12345);
+        *byte = x.to_be_bytes()[1];
     }
 }
 
-fn mixed(h: u64, byte: u8) -> u64 {
-    (h % 0x100000000 * 31 + byte as u64 + 1) % 0x100000000
+// A hash in the making: h := 0, then for each byte h := 31 h + byte + 1.
+#[derive(Clone, Copy)]
+pub struct Hasher {
+    hash: u32,
 }
 
-// h, then for each byte h := 31 h + byte + 1 modulo 2^32.
-pub fn hash(first: u64, s: &[u8]) -> u64 {
-    let mut h = first;
-    let mut i = 0;
-    while i < s.len() {
-        h = mixed(h, s[i]);
-        i += 1;
+impl Hasher {
+    pub fn new() -> Hasher {
+        Hasher { hash: 0 }
     }
-    h
+
+    pub fn write(&mut self, bytes: &[u8]) {
+        self.hash = bytes.iter().fold(self.hash, |h, byte| {
+            h.wrapping_mul(31)
+                .wrapping_add(u32::from(*byte))
+                .wrapping_add(1)
+        });
+    }
+
+    pub fn finish(&self) -> u32 {
+        self.hash
+    }
+}
+
+// The hash of one slice.
+pub fn hash(bytes: &[u8]) -> u32 {
+    let mut hasher = Hasher::new();
+    hasher.write(bytes);
+    hasher.finish()
 }

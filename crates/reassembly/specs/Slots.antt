@@ -4,8 +4,6 @@ use Rattle.std.specs.Prelude.{Bool, true, false, cond, not, ◌&&◌, List, [], 
 use Rattle.std.proofs.Math.Option.{Option, none, some}
 pub use Rattle.reassembly.specs.declared.slot.Slot.{Slot}
 pub use Rattle.reassembly.specs.declared.slot.Peer.{Peer}
-use Rattle.reassembly.specs.declared.slot.FoundSlot.{FoundSlot}
-use Rattle.reassembly.specs.declared.slot.FoundSlot.TheVariants.{At, Nothing}
 
 -- ---- the note: what a slot keeps of its frame's segments beside their bytes, and the mark that a segment brings for it. Nothing in the base.
 -- A later request that has slots remember something (document 02, §9) changes this section and `pending_slot`; no proof above looks into it.
@@ -102,8 +100,3 @@ bears id s = s.pending && eqb s.identifier id
 
 unfoldable pub is_free_slot : Slot → Bool
 is_free_slot s = not s.pending
-
--- the code's own words for what a search finds
-unfoldable pub found_of : Option ℕ → FoundSlot
-found_of none = Nothing
-found_of (some s) = At s

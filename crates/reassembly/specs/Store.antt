@@ -3,9 +3,8 @@
 use Rattle.std.specs.Prelude.{Bool, cond, ◌&&◌, List, ℕ, zero, suc, ◌+◌, ◌*◌, ◌/◌, ◌%◌, ◌^◌, ◌≤◌, length, get_or, set, replicate, ltb, leb, eqb}
 use Rattle.std.proofs.lemmas.List.Edits.{sets}
 use Rattle.std.specs.Int.Bits.{bit_or}
-use Rattle.reassembly.specs.Slots.{Peer, no_note, free, most_peers}
-use Rattle.reassembly.specs.Take.{Ops, Seg, NoMemory, Effect, slot_no, take_segment, complete, Complete, Pending}
-use Rattle.reassembly.specs.declared.take.Taken.{Taken}
+use Rattle.reassembly.specs.Slots.{Peer, no_note, most_peers}
+use Rattle.reassembly.specs.Take.{Ops, Seg, NoMemory, Effect, take_segment}
 
 -- ---- need not be believed: the map's bits
 
@@ -79,13 +78,3 @@ has_slots p m = ltb p most_peers && leb memory_size (length m)
 -- what `take` gives for any row, peer, memory and segment. Where the peer's slots do not lie in the memory nothing is touched
 unfoldable pub take_in : ℕ → Peer → List ℕ → Seg → Effect bytes_of
 take_in p row m g = cond (has_slots p m) (take_segment bytes_of p row m g) (record { row = row; outcome = NoMemory; note = no_note; mem = m })
-
--- what the code gives back of it: the row and the outcome
-unfoldable pub taken_of : Effect bytes_of → Taken
-taken_of e = record { row = e.row; outcome = e.outcome }
-
-unfoldable pub finished : ℕ → ℕ → Peer → List ℕ → ℕ → Taken
-finished p s row m n =
-    cond (complete bytes_of m (slot_no p s) n)
-    (record { row = record { slots = set row.slots s free }; outcome = Complete s })
-    (record { row = row; outcome = Pending })

@@ -1,6 +1,6 @@
 -- Taking a segment (document 01, "The numbered answers" and "Reassembly memory"): 14, then 15 and 16 if the identifier is pending, otherwise 17; then the
 -- segment is taken. No judgement of a frame is known here. What is asked of the memory is a parameter (`Ops`).
-use Rattle.std.specs.Prelude.{◌≡◌, Bool, true, false, cond, ◌||◌, List, ℕ, ◌+◌, ◌*◌, ◌≤◌, ◌<◌, length, get_or, set, ltb, eqb}
+use Rattle.std.specs.Prelude.{◌≡◌, Bool, true, false, cond, ◌||◌, List, ℕ, ◌+◌, ◌*◌, ◌≤◌, ◌<◌, length, get_or, set, ltb, eqb, Result, Ok, Err}
 use Rattle.std.proofs.Math.Option.{Option, none, some}
 use Rattle.wire.specs.declared.segment.Segment.{Segment}
 pub use Rattle.reassembly.specs.declared.take.Rejection.{Rejection}
@@ -10,7 +10,7 @@ pub use Rattle.reassembly.specs.declared.take.Outcome.TheVariants.{Rejected, Pen
 use Rattle.reassembly.specs.Base.{some_below, all_below, table}
 use Rattle.reassembly.specs.Slots.{Slot, Peer, most_slots, Note, Mark, no_note, no_mark, noted, note_of, free, pending_slot, first, bears, is_free_slot}
 use Rattle.reassembly.specs.declared.take.Decision.{Decision}
-use Rattle.reassembly.specs.declared.take.Decision.TheVariants.{Reject, Further, Open}
+use Rattle.reassembly.specs.declared.take.Decision.TheVariants.{Further, Open}
 
 -- a segment: what its header states, the bytes that it carries, and its mark
 pub record Seg : Type 0 where
@@ -97,11 +97,11 @@ pub record Fresh (row : List Slot) (g : Seg) (s : ℕ) : Type 0 where
   pub is_free : (get_or row s free).pending ≡ false
   pub no_bearer : (t : ℕ) → t < most_slots → bears g.identifier (get_or row t free) ≡ false
 
--- the code's own words for a decision
-unfoldable pub decision_of : Choice → Decision
-decision_of (reject r) = Reject r
-decision_of (old s) = Further s
-decision_of (fresh s) = Open s
+-- the code's words for a decision
+unfoldable pub decision_of : Choice → Result Decision Rejection
+decision_of (reject r) = Err r
+decision_of (old s) = Ok (Further s)
+decision_of (fresh s) = Ok (Open s)
 
 -- ---- a slot's number
 

@@ -1,5 +1,6 @@
 // The map of received bytes (document 01, "Reassembly memory"): frame byte i is received when bit i mod 8, lowest first, of map byte i div 8 is set.
 // The map is handled a byte at a time, with masks at the two ends.
+// As it is: a slice of 192 bytes or more, since no proof tied an array of them (`first_chunk_mut().unwrap()`, tried) to the memory that it is a part of.
 ghost use Rattle.std.specs.Prelude.{◌≡◌, ◌++◌, ◌+◌, ◌-◌, ◌≤◌, ◌^◌, length, drop, replicate};
 ghost use Rattle.reassembly.specs.Base.{some_below, all_below};
 ghost use Rattle.reassembly.specs.Store.{set_bits, bit_at};
@@ -21,11 +22,7 @@ pub(crate) fn clear(map: &mut [u8])
     requires { 192 ≤ length map.old }
     ensures { map.new ≡ replicate 192 0 ++ drop 192 map.old }
 {
-    let mut i: usize = 0;
-    while i < MAP_BYTES {
-        map[i] = 0;
-        i += 1;
-    }
+    map[..MAP_BYTES].fill(0);
 }
 
 // Sets the n bits from a on.
@@ -41,10 +38,8 @@ pub(crate) fn set_bits(map: &mut [u8], a: usize, n: usize)
         return;
     }
     map[first] |= mask(a % 8, 8);
-    let mut b = first + 1;
-    while b < last {
-        map[b] |= 0xFF;
-        b += 1;
+    for byte in &mut map[first + 1..last] {
+        *byte |= 0xFF;
     }
     map[last] |= mask(0, end % 8);
 }
@@ -61,10 +56,8 @@ pub(crate) fn any_bit(map: &[u8], a: usize, n: usize) -> bool
         return map[first] & mask(a % 8, end % 8) != 0;
     }
     let mut found = map[first] & mask(a % 8, 8);
-    let mut b = first + 1;
-    while b < last {
-        found |= map[b];
-        b += 1;
+    for byte in &map[first + 1..last] {
+        found |= *byte;
     }
     (found | (map[last] & mask(0, end % 8))) != 0
 }
@@ -76,10 +69,8 @@ pub(crate) fn all_bits(map: &[u8], n: usize) -> bool
 {
     let last = n / 8;
     let mut kept: u8 = 0xFF;
-    let mut b: usize = 0;
-    while b < last {
-        kept &= map[b];
-        b += 1;
+    for byte in &map[..last] {
+        kept &= *byte;
     }
     if kept != 0xFF {
         return false;

@@ -1,4 +1,6 @@
 // The lent memory (document 01, "Reassembly memory"): slot k starts at byte k × 1,728, with 1,536 bytes of frame, then a map of 192 bytes.
+// As it is: a slice with a `requires`, and no array: specs/Store.antt speaks of all of the memory lent, and each effect would have to be joined to the bytes
+// behind.
 ghost use Rattle.std.specs.Prelude.{◌≡◌, ◌+◌, ◌<◌, ◌≤◌, length};
 ghost use Rattle.reassembly.specs.Base.{some_below, all_below};
 ghost use Rattle.reassembly.specs.Store.{received_at, clear_at, put_at};
@@ -8,6 +10,7 @@ use crate::number::{FRAME_BYTES, SLOT_BYTES};
 use wire::copy::copy;
 
 // Forgets what slot k received: all of its map. The frame's bytes stay.
+#[tactic(auto, using(crate::proofs::Lent::cleared))]
 pub(crate) fn clear(memory: &mut [u8], k: usize)
     requires { (k < 32) × (55296 ≤ length memory.old) }
     ensures { memory.new ≡ clear_at memory.old k }
@@ -37,6 +40,7 @@ pub(crate) fn some_received(memory: &[u8], k: usize, offset: usize, n: usize) ->
 }
 
 // Is every byte below n of slot k's frame received?
+#[tactic(auto, using(crate::proofs::Lent::all_of))]
 pub(crate) fn all_received(memory: &[u8], k: usize, n: usize) -> bool
     requires { (k < 32) × (n ≤ 1532) × (55296 ≤ length memory.now) }
     ensures { result ≡ all_below n (λ i. received_at memory.now k i) }

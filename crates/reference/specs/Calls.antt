@@ -1,18 +1,21 @@
 -- THE CALLS of the reference reassembler: what its code gives back and leaves (contracts of src/receive.rt and src/tick.rt), and a run of them, each given the
 -- state and the memory that the last one left. What one call does need not be believed: Same.antt states it.
-use Rattle.std.specs.Prelude.{◌≡◌, cond, List, [], ◌∷◌, map, ℕ, ◌+◌, ◌-◌, ◌≤◌, length, get_or, set, replicate, ltb}
+use Rattle.std.specs.Prelude.{◌≡◌, cond, List, [], ◌∷◌, map, ℕ, ◌+◌, ◌-◌, ◌≤◌, length, get_or, set, replicate, ltb, Result, Ok, Err}
 use Rattle.reassembly.specs.Receive.{view_of, Answers, Verdict, bad, good, Reading, other_sender, direct, segment, Event, receive, tick}
 use Rattle.reassembly.specs.SetUp.{Layers}
 use Rattle.endpoint.specs.Answer.{values_of}
 use Rattle.endpoint.specs.Config.{Config, config_of}
 use Rattle.endpoint.specs.Receive.{answers, layers}
+use Rattle.endpoint.specs.declared.answer.Drop.{Drop}
+use Rattle.endpoint.specs.declared.answer.Received.{Received}
 use Rattle.endpoint.specs.declared.config.Endpoint.{Endpoint}
-use Rattle.reference.specs.Reassembler.{Result, rejects, too_many, waits, complete}
+use Rattle.reference.specs.Reassembler as D
+use Rattle.reference.specs.Reassembler.{rejects, too_many, waits, complete}
 use Rattle.reference.specs.Run.{need, rebuilt_at, Reply, said, said32}
 use Rattle.reference.specs.Layout.{bytes_at, buffers_of, older_buffers, Effect, taken_in}
 use Rattle.reference.specs.declared.buffer.Buffer.{Buffer}
-use Rattle.reference.specs.declared.answer as C
-use Rattle.reference.specs.declared.answer.Reply.TheVariants as X
+use Rattle.reference.specs.declared.answer.Refusal.{Refusal}
+use Rattle.reference.specs.declared.answer.Refusal.TheVariants.{Dropped, TooManySegments}
 use Rattle.reference.specs.declared.reassembler.Reassembler.{Reassembler}
 
 -- ---- need not be believed: one call, over any answers and layers
@@ -33,7 +36,7 @@ module _ (W : Answers) (Config : Type 0) (U : Layers W Config) where
   judged_in (good v) n = W.gives v (rebuilt_at + 18) (n - 18)
 
   -- a complete frame is judged where it lies
-  abbrev pub replied_in : Config → ℕ → List ℕ → List ℕ → Result → Reply W Config U
+  abbrev pub replied_in : Config → ℕ → List ℕ → List ℕ → D.Result → Reply W Config U
   replied_in c p k m (rejects r) = viewed k m (W.rejected r)
   replied_in c p k m too_many = said32
   replied_in c p k m waits = viewed k m W.pending
@@ -92,12 +95,18 @@ left_of r m = record { config = config_of r.endpoint; peers = map buffers_of r.p
 abbrev pub begun_of : Endpoint → List ℕ → Left answers Config layers
 begun_of e m = record { config = config_of e; peers = replicate 8 []; mem = m }
 
+-- what the endpoint gives, with its refusal as one of the reference's
+abbrev pub passed : {A : Type 0} → Result A Drop → Result A Refusal
+passed (Ok x) = Ok x
+passed (Err why) = Err (Dropped why)
+
 -- an answer, as the code has it
-abbrev pub reply_of : Reply answers Config layers → C.Reply.Reply
-reply_of (said a) = X.Answer a.reply
-reply_of said32 = X.TooManySegments
+abbrev pub reply_of : Reply answers Config layers → Result Received Refusal
+reply_of (said a) = passed a.reply
+reply_of said32 = Err TooManySegments
 
 -- its number
-abbrev pub number_of : C.Reply.Reply → ℕ
-number_of (X.Answer a) = (values_of a).number
-number_of X.TooManySegments = 32
+abbrev pub number_of : Result Received Refusal → ℕ
+number_of (Ok a) = (values_of (Ok a)).number
+number_of (Err (Dropped why)) = (values_of (Err why)).number
+number_of (Err TooManySegments) = 32

@@ -1,27 +1,29 @@
 -- How the code keeps the frames of the definition (Reassembler.antt): a `Buffer` for each pending frame, with an `Extent` for each of its segments, by value;
 -- the segments' bytes in the lent memory, end to end in the order in which they came, in the frame's block; behind the 32 blocks, room for one rebuilt frame.
 -- `frames_in` reads the definition's frames back. Nothing here need be believed: `Same.antt` states what comes of it.
-use Rattle.std.specs.Prelude.{◌≡◌, Bool, false, cond, not, ◌&&◌, ◌||◌, List, [], ◌∷◌, map, ℕ, zero, suc, ◌+◌, ◌-◌, ◌*◌, min, length, get_or, set, take, replicate, ltb, leb, eqb}
-use Rattle.std.proofs.Math.Option.{Option, none, some}
+use Rattle.std.specs.Prelude.{◌≡◌, Bool, cond, not, ◌&&◌, ◌||◌, List, [], ◌∷◌, map, ℕ, zero, suc, ◌+◌, ◌-◌, ◌*◌, ◌<◌, min, length, get_or, set, take, replicate}
+use Rattle.std.specs.Prelude.{ltb, leb, eqb, Option, Some, None, Result, Ok, Err}
+use Rattle.std.specs.List.{list_any}
+use Rattle.std.proofs.Math.Option as Math
+use Rattle.std.proofs.Math.Option.{none, some}
 use Rattle.std.proofs.lemmas.List.Edits.{sets}
 use Rattle.reassembly.specs.Base.{table}
 use Rattle.reassembly.specs.Slots.{no_mark}
-use Rattle.reassembly.specs.Take.{Seg}
+use Rattle.reassembly.specs.Take.{Seg, Fits}
 use Rattle.reassembly.specs.declared.take.Rejection.{Rejection}
 use Rattle.reassembly.specs.declared.take.Rejection.TheVariants.{Empty, FrameLength, PastEnd, LengthDiffers, AlreadyReceived, NoSlot}
 use Rattle.reference.specs.Keyed.{find, put, without}
-use Rattle.reference.specs.Reassembler.{Part, Frame, is_some, rebuilt, repeats, notes, Result, rejects, too_many, waits, complete, part_of, most_segments}
+use Rattle.reference.specs.Reassembler as D
+use Rattle.reference.specs.Reassembler.{Part, Frame, rebuilt, repeats, notes, rejects, too_many, waits, complete, part_of, most_segments}
 use Rattle.reference.specs.Run.{rebuilt_at}
+use Rattle.endpoint.specs.declared.answer.Drop.TheVariants.{Segment}
+use Rattle.reference.specs.declared.answer.Refusal.{Refusal}
+use Rattle.reference.specs.declared.answer.Refusal.TheVariants.{Dropped, TooManySegments}
 use Rattle.reference.specs.declared.buffer.Extent.{Extent}
 use Rattle.reference.specs.declared.buffer.Buffer.{Buffer}
-use Rattle.reference.specs.declared.buffer.FoundByte.{FoundByte}
-use Rattle.reference.specs.declared.buffer.FoundByte.TheVariants as B
 use Rattle.reference.specs.declared.list.Buffers.{Buffers}
-use Rattle.reference.specs.declared.list.FoundBuffer.{FoundBuffer}
-use Rattle.reference.specs.declared.list.FoundBuffer.TheVariants as L
-use Rattle.reference.specs.declared.take.Outcome.{Outcome}
-use Rattle.reference.specs.declared.take.Outcome.TheVariants as O
-use Rattle.reference.specs.declared.take.Taken.{Taken}
+use Rattle.reference.specs.declared.take.Progress.{Progress}
+use Rattle.reference.specs.declared.take.Progress.TheVariants.{Pending, Complete}
 
 -- ---- need not be believed: a frame's segments
 
@@ -55,22 +57,19 @@ unfoldable pub has_byte : Extent → ℕ → Bool
 has_byte e i = leb e.offset i && ltb i (e.offset + e.length)
 
 unfoldable pub place_in : List Extent → ℕ → ℕ → Option ℕ
-place_in es zero i = none
+place_in es zero i = None
 place_in es (suc j) i =
-    cond (has_byte (get_or es j no_extent) i) (some (begins es j + (i - (get_or es j no_extent).offset))) (place_in es j i)
-
-abbrev pub found_byte : Option ℕ → FoundByte
-found_byte none = B.Nothing
-found_byte (some at) = B.At at
+    cond (has_byte (get_or es j no_extent) i) (Some (begins es j + (i - (get_or es j no_extent).offset))) (place_in es j i)
 
 -- bytes to their place in the memory, where it has that place
 unfoldable pub stored : List ℕ → ℕ → List ℕ → List ℕ
 stored m at bs = cond (leb (at + length bs) (length m)) (sets m at bs) m
 
--- what rebuilding gives: is every byte there, and then the frame's bytes, at the front of what was lent
-pub record Rebuilds (x : Option (List ℕ)) (r : Bool) (frame : List ℕ) : Type 0 where
-  pub all_there : r ≡ is_some x
-  pub bytes : (bs : List ℕ) → x ≡ some bs → take (length bs) frame ≡ bs
+-- what rebuilding gives: where every byte is there, an array with the frame's bytes at its front
+abbrev pub Rebuilds : Math.Option (List ℕ) → Option (List ℕ) → Type 0
+Rebuilds none r = r ≡ None
+Rebuilds (some bs) None = ⊥
+Rebuilds (some bs) (Some frame) = take (length bs) frame ≡ bs
 
 -- a segment more
 abbrev pub added : Buffer → ℕ → ℕ → Buffer
@@ -107,14 +106,6 @@ buffers_of s = take (min s.count 4) s.buffers
 abbrev pub no_buffer : Buffer
 no_buffer = record { extents = []; identifier = 0; frame_length = 0; count = 0; age = 0; block = 0 }
 
--- does the i-th frame bear this identifier; the answer of the search for the lowest that does
-abbrev pub bears_at : Buffers → ℕ → ℕ → Bool
-bears_at s id i = eqb (get_or s.buffers i no_buffer).identifier id
-
-abbrev pub found_buffer : Option ℕ → FoundBuffer
-found_buffer none = L.Nothing
-found_buffer (some i) = L.At i
-
 -- a tick
 abbrev pub aged_buffer : Buffer → Buffer
 aged_buffer b =
@@ -132,9 +123,8 @@ older_buffers [] = []
 older_buffers (b ∷ bs) = cond (ltb (b.age + 1) 4) (aged_buffer b ∷ older_buffers bs) (older_buffers bs)
 
 -- the lowest block that no frame uses
-unfoldable pub uses : List Buffer → ℕ → Bool
-uses [] n = false
-uses (b ∷ bs) n = eqb b.block n || uses bs n
+abbrev pub uses : List Buffer → ℕ → Bool
+uses bs n = list_any (λ b. eqb b.block n) bs
 
 unfoldable pub spare : List Buffer → ℕ
 spare bs = cond (not (uses bs 0)) 0 (cond (not (uses bs 1)) 1 (cond (not (uses bs 2)) 2 3))
@@ -147,15 +137,15 @@ blank block identifier size =
 -- ---- need not be believed: a segment of peer p's
 
 pub record Effect : Type 0 where
-  pub result : Result
+  pub result : D.Result
   pub buffers : List Buffer
   pub mem : List ℕ
 
-abbrev pub leaves : List Buffer → List ℕ → Result → Effect
+abbrev pub leaves : List Buffer → List ℕ → D.Result → Effect
 leaves bs m r = record { result = r; buffers = bs; mem = m }
 
 -- frame b has its newest segment, in the memory m too: it waits; or it is complete, and is rebuilt behind the blocks
-abbrev pub settled_in : List Buffer → List ℕ → Buffer → List Part → Option (List ℕ) → Effect
+abbrev pub settled_in : List Buffer → List ℕ → Buffer → List Part → Math.Option (List ℕ) → Effect
 settled_in bs m b gs none = record { result = waits; buffers = put identifier_in b bs; mem = m }
 settled_in bs m b gs (some frame) =
     record { result = complete (notes gs) frame; buffers = without identifier_in b.identifier bs; mem = stored m rebuilt_at frame }
@@ -180,7 +170,7 @@ further_in p bs m g b =
     (cond (leb most_segments (kept b)) (leaves bs m too_many)
     (joined_in p bs m g b)))
 
-abbrev pub looked_in : ℕ → List Buffer → List ℕ → Seg → Option Buffer → Effect
+abbrev pub looked_in : ℕ → List Buffer → List ℕ → Seg → Math.Option Buffer → Effect
 looked_in p bs m g none = opened_in p bs m g
 looked_in p bs m g (some b) = further_in p bs m g b
 
@@ -191,18 +181,44 @@ taken_in p bs m g =
     (cond (ltb g.frame_length (g.offset + length g.bytes)) (leaves bs m (rejects PastEnd))
     (looked_in p bs m g (find identifier_in g.identifier bs))))
 
--- the code's own words for a result: a complete frame lies behind the blocks
-abbrev pub outcome_of : Result → Outcome
-outcome_of (rejects r) = O.Rejected r
-outcome_of too_many = O.TooMany
-outcome_of waits = O.Pending
-outcome_of (complete note frame) = O.Complete
+-- the code's own words for a rejection, and for a result: a complete frame lies behind the blocks
+abbrev pub refusal_of : Rejection → Refusal
+refusal_of r = Dropped (Segment r)
 
-abbrev pub rejected_of : Buffers → Rejection → Taken
-rejected_of s why = record { buffers = s; outcome = O.Rejected why }
+abbrev pub outcome_of : D.Result → Result Progress Refusal
+outcome_of (rejects r) = Err (refusal_of r)
+outcome_of too_many = Err TooManySegments
+outcome_of waits = Ok Pending
+outcome_of (complete note frame) = Ok Complete
 
--- what taking gives back, and the memory that it leaves
-pub record TakenAs (x : Effect) (r : Taken) (m : List ℕ) : Type 0 where
-  pub outcome : r.outcome ≡ outcome_of x.result
-  pub buffers : buffers_of r.buffers ≡ x.buffers
+-- what taking gives back, and the frames and the memory that it leaves
+pub record TakenAs (x : Effect) (r : Result Progress Refusal) (bs : List Buffer) (m : List ℕ) : Type 0 where
+  pub outcome : r ≡ outcome_of x.result
+  pub buffers : bs ≡ x.buffers
   pub mem : m ≡ x.mem
+
+-- ---- need not be believed: taking in stages, as the code makes it
+
+-- 14 applies, for this reason
+abbrev pub Unfit : Seg → Rejection → Type 0
+Unfit g why = (p : ℕ) (bs : List Buffer) (m : List ℕ) → taken_in p bs m g ≡ leaves bs m (rejects why)
+
+-- a further segment of frame b is refused, and nothing changes; or it joins the frame
+abbrev pub Excludes : Buffer → Seg → Refusal → Type 0
+Excludes b g why = (p : ℕ) (bs : List Buffer) (m : List ℕ) → TakenAs (further_in p bs m g b) (Err why) bs m
+
+pub record Admits (b : Buffer) (g : Seg) : Type 0 where
+  pub size : b.frame_length ≡ g.frame_length
+  pub few : kept b < most_segments
+  pub effect : (p : ℕ) (bs : List Buffer) (m : List ℕ) → further_in p bs m g b ≡ joined_in p bs m g b
+
+-- a segment of a peer with these frames is refused, and nothing changes; or it joins frame b, which is one of them or has room
+abbrev pub Refuses : List Buffer → Seg → Refusal → Type 0
+Refuses bs g why = (p : ℕ) (m : List ℕ) → TakenAs (taken_in p bs m g) (Err why) bs m
+
+pub record Joins (bs : List Buffer) (g : Seg) (b : Buffer) : Type 0 where
+  pub fits : Fits g
+  pub size : b.frame_length ≡ g.frame_length
+  pub few : kept b < most_segments
+  pub room : find identifier_in b.identifier bs ≡ none → length bs < 4
+  pub effect : (p : ℕ) (m : List ℕ) → taken_in p bs m g ≡ joined_in p bs m g b

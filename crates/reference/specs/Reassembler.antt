@@ -1,7 +1,7 @@
 -- THE REFERENCE REASSEMBLER (document 02, §7: a slow reassembler we can read). For each peer it keeps the frames that are pending, and for each frame the
 -- segments that were taken for it; at each segment it rebuilds the frame from nothing. There are no slots and there is no map.
--- How to read it: `cond b x y` is x where the test b passes, and y where not; `eqb`, `ltb`, `leb` test =, < and ≤; `get_or l i 0` is entry i of l; `find`, `put`
--- and `without` (Keyed.antt) look an entry up, put it in its place or at the end, and leave it out. The numbers are those of document 01's table.
+-- How to read it: `cond b x y` is x where the test b passes, and y where not; `eqb`, `ltb`, `leb` test =, < and ≤; `get_or l i 0` is entry i of l; `find`,
+-- `put` and `without` (Keyed.antt) look an entry up, put it in its place or at the end, and leave it out. The numbers are those of document 01's table.
 -- Only definitions. Promises.antt states what holds of it, first that it answers as the first reassembler does.
 use Rattle.std.specs.Prelude.{Bool, true, false, cond, not, ◌&&◌, ◌||◌, List, [], ◌∷◌, ◌++◌, ℕ, zero, suc, ◌+◌, ◌-◌, length, get_or, ltb, leb, eqb}
 use Rattle.std.proofs.Math.Option.{Option, none, some}

@@ -3,7 +3,7 @@
 -- delivered. Of the endpoint's answers the values are number, offset, tenant, binding and length; where the frame lies may differ.
 -- A run up to its first 32 is a run without it, so the answers before a first 32 are covered too. When 32 is given is stated in Many.antt.
 -- Only definitions; proved in Laws/Same, and of the endpoint in Laws/Endpoint.
-use Rattle.std.specs.Prelude.{◌≡◌, refl, List, [], ◌∷◌, map, ℕ, ◌≤◌, length, replicate}
+use Rattle.std.specs.Prelude.{◌≡◌, refl, List, [], ◌∷◌, map, ℕ, ◌≤◌, length, replicate, Result}
 use Rattle.std.proofs.Math.Option.{Option, none, some}
 use Rattle.reassembly.specs.Receive.{Answers, Answer, Event, receive, tick}
 use Rattle.reassembly.specs.SetUp as S
@@ -15,6 +15,7 @@ use Rattle.endpoint.specs.Run.{ends_of}
 use Rattle.endpoint.specs.declared.answer.Received.{Received}
 use Rattle.reference.specs.Run.{start, Reply, said, said32, replies}
 use Rattle.reference.specs.Calls.{replies_in}
+use Rattle.endpoint.specs.declared.answer.Drop.{Drop}
 
 -- what is compared of an answer: any values that it carries, but not where in the memory its frame lies
 pub record Compared (W : Answers) : Type 1 where
@@ -79,7 +80,7 @@ pub record ComparedValues : Type 0 where
   pub binding : Option ℕ
   pub len : ℕ
 
-abbrev pub compared_of : Received → ComparedValues
+abbrev pub compared_of : Result Received Drop → ComparedValues
 compared_of a =
     record {
       number = (values_of a).number;

@@ -1,6 +1,6 @@
 -- THE 65TH SEGMENT, worked through the definition: segments of one byte each, from the last byte of the frame down, so that byte 0 comes last and would
 -- complete the frame. And a run, whole, in which 32 is not answered and frames are delivered. Proved by computing in Laws/Worked.antt.
-use Rattle.std.specs.Prelude.{◌≡◌, true, List, [], ◌∷◌, ℕ, zero, suc, ◌+◌, length}
+use Rattle.std.specs.Prelude.{◌≡◌, true, List, [], ◌∷◌, ℕ, zero, suc, ◌+◌, length, Ok, Err}
 use Rattle.std.proofs.Math.Option.{Option, none, some}
 use Rattle.reassembly.specs.Base.{table}
 use Rattle.reassembly.specs.Slots.{no_mark}
@@ -49,9 +49,9 @@ worked_run = receive (table 32 (λ k. k)) ∷ tick ∷ receive [] ∷ receive (t
 
 abbrev pub worked_replies : List (Reply answers (Unit {0}) in_one)
 worked_replies =
-    said (record { reply = R.Delivered target (record { start = 49170; length = 14; in_memory = true }); bytes = table 14 (λ k. 18 + k) })
-    ∷ said (bare answers (R.Dropped (D.Segment Empty)))
-    ∷ said (record { reply = R.Delivered target (record { start = 49170; length = 15; in_memory = true }); bytes = table 15 (λ k. 18 + k) })
+    said (record { reply = Ok (R.Delivered target (record { start = 49170; length = 14; in_memory = true })); bytes = table 14 (λ k. 18 + k) })
+    ∷ said (bare answers (Err (D.Segment Empty)))
+    ∷ said (record { reply = Ok (R.Delivered target (record { start = 49170; length = 15; in_memory = true })); bytes = table 15 (λ k. 18 + k) })
     ∷ []
 
 pub record WorkedMany : Type 0 where

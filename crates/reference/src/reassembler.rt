@@ -2,7 +2,7 @@
 ghost use Rattle.std.specs.Prelude.{◌≡◌, List, ℕ};
 ghost use Rattle.reference.specs.Calls.{left_of, begun_of};
 
-use crate::list::{Buffers, no_buffers};
+use crate::list::Buffers;
 use endpoint::config::Endpoint;
 use reassembly::number::PEERS;
 
@@ -14,13 +14,14 @@ pub struct Reassembler {
     pub peers: [Buffers; PEERS],
 }
 
-// With this endpoint's configuration, and no frame pending.
-pub fn start(e: Endpoint) -> Reassembler
-    ensures { (result.endpoint ≡ e) × ((m : List ℕ) → left_of result m ≡ begun_of e m) }
-{
-    let none = no_buffers();
-    Reassembler {
-        endpoint: e,
-        peers: [none; PEERS],
+impl Reassembler {
+    // With this endpoint's configuration, and no frame pending.
+    pub fn start(e: Endpoint) -> Reassembler
+        ensures { (result.endpoint ≡ e) × ((m : List ℕ) → left_of result m ≡ begun_of e m) }
+    {
+        Reassembler {
+            endpoint: e,
+            peers: [Buffers::new(); PEERS],
+        }
     }
 }

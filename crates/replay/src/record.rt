@@ -1,91 +1,138 @@
 // The form of a record: op (1 byte), length (2 bytes), then that many bytes. host/README.md has it.
-use crate::number;
-use program::number::low8;
+use std::alloc::{AllocError, Global};
+use std::io;
+use std::io::BufRead;
 
-// The calls by their op.
-pub(crate) const START: u8 = 1;
-
-pub(crate) const ADD_PEER: u8 = 2;
-
-pub(crate) const ADD_BINDING: u8 = 3;
-
-pub(crate) const LEND: u8 = 4;
-
-pub(crate) const RECEIVE: u8 = 5;
-
-pub(crate) const TICK: u8 = 6;
-
-pub(crate) const VIEW: u8 = 7;
-
-pub(crate) const WRAP: u8 = 8;
-
-pub(crate) const OBSERVE: u8 = 9;
-
-pub(crate) const SAVE: u8 = 10;
-
-pub(crate) const LOAD: u8 = 11;
-
-// The longest payload, and the longest one that is neither a packet, a frame nor an image.
+// The longest payload.
 pub(crate) const PAYLOAD_MAX: usize = 2000;
 
-pub(crate) const FIELDS_MAX: usize = 17;
-
-// The most memory that a record lends.
-pub(crate) const LENT_MAX: usize = 60000;
-
-// What the next record is, if there is one.
-#[derive(Clone, Copy)]
-pub(crate) enum Head {
-    Record(u8, usize),
-    End,
+// Why a run stops early: a record breaks the form, or the input ends within it; or the system fails.
+#[derive(Debug, Drop)]
+pub(crate) enum Stop {
     Broken,
+    Failed(io::Error),
 }
 
-pub(crate) fn read_head(bytes: &mut [u8]) -> Head {
-    let n = io::read_full(0, bytes);
-    if n == 0 {
-        return Head::End;
-    }
-    if n < 3 {
-        return Head::Broken;
-    }
-    let op = number::at(bytes, 0, 1);
-    let length = number::at(bytes, 1, 3);
-    Head::Record(low8(op), number::low16(length) as usize)
-}
-
-// The length of a payload that is neither a packet, a frame nor an image. An op that has none gives one that no record tells.
-fn fields_length(op: u8) -> usize {
-    match op {
-        START => 8,
-        ADD_PEER => 4,
-        ADD_BINDING => 13,
-        LEND => 8,
-        TICK => 0,
-        VIEW => FIELDS_MAX,
-        OBSERVE => 12,
-        SAVE => 2,
-        _ => 65536,
+impl From<io::Error> for Stop {
+    fn from(error: io::Error) -> Stop {
+        Stop::Failed(error)
     }
 }
 
-// Reads a payload of fields; false where its length is not the op's, or the input ends.
-pub(crate) fn read_fields(op: u8, length: usize, out: &mut [u8]) -> bool {
-    if length != fields_length(op) {
-        return false;
+impl From<AllocError> for Stop {
+    fn from(error: AllocError) -> Stop {
+        Stop::Failed(io::Error::from(error))
     }
-    if out.len() < length {
-        return false;
-    }
-    let n = io::read_full(0, &mut out[..length]);
-    n == length
 }
 
-// Reads a packet, or another payload of any length; false where there is no room for it or the input ends.
-pub(crate) fn read_packet(length: usize, out: &mut [u8]) -> bool {
-    if out.len() < length {
-        return false;
+// The calls.
+#[derive(Clone, Copy)]
+pub(crate) enum Op {
+    Start,
+    AddPeer,
+    AddBinding,
+    Lend,
+    Receive,
+    Tick,
+    View,
+    Wrap,
+    Observe,
+    Save,
+    Load,
+}
+
+impl TryFrom<u8> for Op {
+    type Error = Stop;
+
+    fn try_from(number: u8) -> Result<Op, Stop> {
+        match number {
+            1 => Ok(Op::Start),
+            2 => Ok(Op::AddPeer),
+            3 => Ok(Op::AddBinding),
+            4 => Ok(Op::Lend),
+            5 => Ok(Op::Receive),
+            6 => Ok(Op::Tick),
+            7 => Ok(Op::View),
+            8 => Ok(Op::Wrap),
+            9 => Ok(Op::Observe),
+            10 => Ok(Op::Save),
+            11 => Ok(Op::Load),
+            _ => Err(Stop::Broken),
+        }
     }
-    let n = io::read_full(0, &mut out[..length]);
-    n == length
+}
+
+#[derive(Drop)]
+pub(crate) struct Record {
+    pub op: Op,
+    pub payload: Vec<u8>,
+}
+
+impl Record {
+    // The next record, if there is one. An input that cannot be read ends there.
+    pub(crate) fn read(alloc: Global, input: &mut impl BufRead) -> Result<Option<Record>, Stop> {
+        if input.fill_buf().map_or(true, |bytes| bytes.is_empty()) {
+            return Ok(None);
+        }
+        let mut head = [0u8; 3];
+        input.read_exact(&mut head).map_err(|_| Stop::Broken)?;
+        let [number, high, low] = head;
+        let op = Op::try_from(number)?;
+        let length = usize::from(u16::from_be_bytes([high, low]));
+        if PAYLOAD_MAX < length {
+            return Err(Stop::Broken);
+        }
+        let mut payload = vec![in alloc; 0; length]?;
+        input.read_exact(&mut payload).map_err(|_| Stop::Broken)?;
+        Ok(Some(Record { op, payload }))
+    }
+}
+
+// The fields of a payload, which are big-endian numbers, read from the front.
+#[derive(Clone, Copy)]
+pub(crate) struct Fields<'a> {
+    rest: &'a [u8],
+}
+
+impl<'a> Fields<'a> {
+    pub(crate) fn of(payload: &'a [u8]) -> Fields<'a> {
+        Fields { rest: payload }
+    }
+
+    fn bytes<const N: usize>(&mut self) -> Result<[u8; N], Stop> {
+        let (bytes, rest) = self.rest.split_first_chunk::<N>().ok_or(Stop::Broken)?;
+        self.rest = rest;
+        Ok(*bytes)
+    }
+
+    // As it is: one line each over `bytes`, since no const parameter gives a number's type its width.
+    pub(crate) fn u8(&mut self) -> Result<u8, Stop> {
+        Ok(u8::from_be_bytes(self.bytes()?))
+    }
+
+    pub(crate) fn u16(&mut self) -> Result<u16, Stop> {
+        Ok(u16::from_be_bytes(self.bytes()?))
+    }
+
+    pub(crate) fn u32(&mut self) -> Result<u32, Stop> {
+        Ok(u32::from_be_bytes(self.bytes()?))
+    }
+
+    pub(crate) fn u64(&mut self) -> Result<u64, Stop> {
+        Ok(u64::from_be_bytes(self.bytes()?))
+    }
+
+    // What stands behind the fields.
+    pub(crate) fn rest(self) -> &'a [u8] {
+        self.rest
+    }
+
+    // Nothing stands behind the fields.
+    pub(crate) fn end(self) -> Result<(), Stop> {
+        if self.rest.is_empty() {
+            Ok(())
+        } else {
+            Err(Stop::Broken)
+        }
+    }
 }

@@ -1,7 +1,7 @@
 -- WHAT RERUN PROMISES (document 02, §6): `Reruns`, THE STATEMENT. The lines as text are Rerun.antt, what a trace reads as is crate trace's (specs/Trace.antt),
 -- which images are good is crate image's (specs/Images.antt).
 -- Only definitions; proved in Laws/Reruns (`reruns`).
-use Rattle.std.specs.Prelude.{ℕ, ◌+◌, ◌≡◌, ◌≢◌, List, [], ◌∷◌, ◌++◌, map, length, take}
+use Rattle.std.specs.Prelude.{ℕ, ◌+◌, ◌≡◌, ◌≢◌, List, [], ◌∷◌, ◌++◌, map, length, take, Ok, Err}
 use Rattle.std.proofs.Math.Option.{none, some}
 use Rattle.wire.specs.Bytes.{Bytes, ◌then◌}
 use Rattle.endpoint.specs.Account.{Accounts}
@@ -17,6 +17,7 @@ use Rattle.image.specs.Load.{load_of}
 use Rattle.trace.specs.Trace.{Record, packet, no_trace, read, ReadsAs}
 use Rattle.trace.specs.Traces.{joined}
 use Rattle.rerun.specs.Rerun.{answered, line_text, loaded, event_of, said_of, lines_of, bad_trace, bad_settings}
+use Rattle.rerun.specs.declared.input.Phase.TheVariants as P
 use Rattle.rerun.specs.Standing.{trace_text, output_of, Standing, goes_on, Fed}
 use Rattle.rerun.specs.WorkedRerun.{WorkedRerun}
 
@@ -45,7 +46,7 @@ abbrev pub last : Standing → List Call → Standing
 last x [] = x
 last x (c ∷ cs) = last c.after cs
 
--- the run that `begin_from` makes of a good image's endpoint, with the memory that it is lent (its contract, `Started`)
+-- the run that `Run::load` makes of a good image's endpoint, with the memory that it is lent (its contract, `Started`)
 pub record Begun (settings : List ℕ) (x : Standing) : Type 0 where
   pub good : load_code (load_of settings).answer ≡ 0
   pub goes : (t : List ℕ) → goes_on x t ≡ trace_text (loaded settings) 0 t
@@ -69,7 +70,7 @@ pub record Reruns : Type 0 where
   -- broken record the last line alone is, whatever follows
   pub in_pieces : (settings : List ℕ) (x : Standing) → Begun settings x → (cs : List Call) → Calls x cs → (t : List ℕ)
       → written cs ++ goes_on (last x cs) t ≡ output_of settings (joined (pieces cs) ++ t)
-  pub stopped : (x : Standing) → x.phase ≡ 2 → (t : List ℕ) → goes_on x t ≡ bad_trace
+  pub stopped : (x : Standing) → x.phase ≡ P.Broken → (t : List ℕ) → goes_on x t ≡ bad_trace
   -- of a long settings file the first 1,024 bytes are enough
   pub front : (settings trace : List ℕ) → Bytes settings → output_of (take 1024 settings) trace ≡ output_of settings trace
   -- the accounting of every run holds of the image's endpoint
@@ -78,8 +79,8 @@ pub record Reruns : Type 0 where
   pub follows : (w : Left) (n : ℕ) (rs : List Record) (r : Record)
       → lines_of w n (rs ++ (r ∷ [])) ≡ lines_of w n rs then line_text (n + length rs + 1) (said_of (calls w (map event_of rs)) r)
   -- an answer that delivers tells its tenant, and no other tells one
-  pub delivered : (w : Left) (k : List ℕ) (t : Target) (p : Place) → (step_of w.endpoint w.mem k).answer ≡ R.Delivered t p
+  pub delivered : (w : Left) (k : List ℕ) (t : Target) (p : Place) → (step_of w.endpoint w.mem k).answer ≡ Ok (R.Delivered t p)
       → said_of w (packet k) ≡ answered 0 (some t.tenant)
-  pub pending : (w : Left) (k : List ℕ) → (step_of w.endpoint w.mem k).answer ≡ R.Pending → said_of w (packet k) ≡ answered 1 none
-  pub dropped : (w : Left) (k : List ℕ) (d : Drop) → (step_of w.endpoint w.mem k).answer ≡ R.Dropped d → said_of w (packet k) ≡ answered (drop_code d) none
+  pub pending : (w : Left) (k : List ℕ) → (step_of w.endpoint w.mem k).answer ≡ Ok R.Pending → said_of w (packet k) ≡ answered 1 none
+  pub dropped : (w : Left) (k : List ℕ) (d : Drop) → (step_of w.endpoint w.mem k).answer ≡ Err d → said_of w (packet k) ≡ answered (drop_code d) none
   pub worked : WorkedRerun

@@ -1,13 +1,18 @@
 -- How the program comes to what it writes: where a run stands in its trace, and what it will still write.
-use Rattle.std.specs.Prelude.{ℕ, ◌+◌, ◌*◌, ◌<◌, ◌≤◌, ◌≡◌, ◌≢◌, Bool, true, false, List, [], ◌∷◌, ◌++◌, length, take, drop}
+use Rattle.std.specs.Prelude.{ℕ, ◌+◌, ◌*◌, ◌<◌, ◌≤◌, ◌≡◌, ◌≢◌, List, [], ◌∷◌, ◌++◌, Option, None, Some, Result, Ok, Err, length, take, drop}
 use Rattle.wire.specs.Bytes.{◌then◌}
 use Rattle.wire.specs.Checks.{pick, ◌is◌}
 use Rattle.endpoint.specs.Run.{Left, called}
 use Rattle.image.specs.Answer.{load_code}
 use Rattle.image.specs.Load.{load_of}
-use Rattle.trace.specs.Reader.{Reading, begins_trace, read_of, HeaderWaits, Waits}
+use Rattle.trace.specs.Reader.{Reading, bytes_of, begins_trace, read_of, HeaderWaits, Waits}
 use Rattle.trace.specs.Trace.{Record, tick, packet}
+use Rattle.trace.specs.declared.reader.Complete.{Complete}
+use Rattle.trace.specs.declared.reader.Complete.TheVariants as C
 use Rattle.rerun.specs.Rerun.{line_text, event_of, said_of, loaded, lines_of, bad_trace, bad_settings}
+use Rattle.rerun.specs.declared.input.Input.{Input}
+use Rattle.rerun.specs.declared.input.Phase.{Phase}
+use Rattle.rerun.specs.declared.input.Phase.TheVariants as P
 use Rattle.rerun.specs.declared.run.Run.{Run}
 
 -- ---- need not be believed: Reruns.antt says what is written
@@ -31,51 +36,68 @@ output_of settings s = pick (load_code (load_of settings).answer is 0) (trace_te
 -- where a run stands: in the header, behind it, or at a broken record; the bytes held of what is not complete yet; how many records are told; the
 -- endpoint and its memory
 pub record Standing : Type 0 where
-  pub phase : ℕ
+  pub phase : Phase
   pub held : List ℕ
   pub number : ℕ
   pub left : Left
 
-unfoldable pub standing : Run → (held mem : List ℕ) → Standing
-standing r held mem = record { phase = r.phase; held = take r.count held; number = r.number; left = record { endpoint = r.endpoint; mem = mem } }
+-- Open: a record of an input's phase and bytes
+abbrev pub stands : Input → (number : ℕ) → Left → Standing
+stands i n w = record { phase = i.phase; held = bytes_of i.reader; number = n; left = w }
 
--- what it will write yet, where these bytes are still to come
+unfoldable pub standing : Run → (mem : List ℕ) → Standing
+standing r mem = stands r.input r.number (record { endpoint = r.endpoint; mem = mem })
+
+-- what it will write yet, of the bytes held and those that are still to come
+abbrev pub text_from : Phase → Left → (n : ℕ) → List ℕ → List ℕ
+text_from P.Header w n s = trace_text w n s
+text_from P.Records w n s = records_text w n (read_of s)
+text_from P.Broken w n s = bad_trace
+
 unfoldable pub goes_on : Standing → List ℕ → List ℕ
-goes_on x t =
-    pick (x.phase is 0) (trace_text x.left x.number (x.held ++ t))
-    (pick (x.phase is 1) (records_text x.left x.number (read_of (x.held ++ t))) bad_trace)
+goes_on x t = text_from x.phase x.left x.number (x.held ++ t)
 
 -- what is held is not complete yet
+abbrev pub Incomplete : Phase → (held : List ℕ) → Type 0
+Incomplete P.Header h = HeaderWaits h
+Incomplete P.Records h = Waits h
+Incomplete P.Broken h = Unit {0}
+
 unfoldable pub Ready : Standing → Type 0
-Ready x = (x.phase ≡ 0 → HeaderWaits x.held) × (x.phase ≡ 1 → Waits x.held)
+Ready x = Incomplete x.phase x.held
 
--- one step through a piece: what was written, and what will be, is together the same. `at` and `end` are how much of the output is text
-pub record Turned (x : Standing) (piece : List ℕ) (at : ℕ) (out : List ℕ) (used : ℕ) (x' : Standing) (end : ℕ) (out' : List ℕ) : Type 0 where
-  pub goes : (t : List ℕ) → take at out ++ goes_on x (piece ++ t) ≡ take end out' ++ goes_on x' (drop used piece ++ t)
-  pub some : 0 < used
-  pub fits : used ≤ length piece
-  pub room : end ≤ at + 64 * used
-  pub told : x'.number ≤ x.number + used
+-- a step that completes nothing: what will be written is the same. Some of the piece is used: `piece'` is left of it
+abbrev pub Quiet : (i : Input) (piece : List ℕ) (i' : Input) (piece' : List ℕ) → Type 0
+Quiet i piece i' piece' =
+    ((n : ℕ) (w : Left) (t : List ℕ) → goes_on (stands i n w) (piece ++ t) ≡ goes_on (stands i' n w) (piece' ++ t))
+    × Incomplete i'.phase (bytes_of i'.reader)
+
+-- and one that completes a record: its line comes first, and then what the endpoint that it is fed to will write with nothing held
+abbrev pub behind_record : Record → Input → (number : ℕ) → Left → Standing
+behind_record r i n w = record { phase = i.phase; held = []; number = n + 1; left = called w (event_of r) }
+
+abbrev pub Completes : Record → (i : Input) (piece : List ℕ) (i' : Input) (piece' : List ℕ) → Type 0
+Completes r i piece i' piece' =
+    ((n : ℕ) (w : Left) (t : List ℕ)
+    → goes_on (stands i n w) (piece ++ t) ≡ line_text (n + 1) (said_of w r) ++ goes_on (behind_record r i' n w) (piece' ++ t))
+    × Incomplete i'.phase []
+
+-- what a step reads, by the record that is complete: it is held, and a packet lies behind its tag and its length
+pub record Stepped (i : Input) (piece : List ℕ) (complete : Option Complete) (i' : Input) (piece' : List ℕ) : Type 0 where
+  pub less : length piece' < length piece
+  pub held : length (bytes_of i'.reader) ≡ i'.reader.count
+  pub quiet : complete ≡ None → Quiet i piece i' piece'
+  pub ticks : complete ≡ Some C.Tick → Completes tick i piece i' piece'
+  pub packets : complete ≡ Some C.Packet → Completes (packet (drop 3 (bytes_of i'.reader))) i piece i' piece' × (3 ≤ i'.reader.count)
+      × (i'.reader.count ≤ 1603)
+
+-- the steps through a piece so far: what was written, which ends at `end` of the output, and what will be is together the same; and for the lines that the rest
+-- of the piece can bring there is room
+pub record Through (x : Standing) (piece : List ℕ) (x' : Standing) (rest : List ℕ) (end : ℕ) (out : List ℕ) : Type 0 where
+  pub goes : (t : List ℕ) → goes_on x (piece ++ t) ≡ take end out ++ goes_on x' (rest ++ t)
+  pub room : end + 64 * length rest ≤ 64 * length piece
+  pub told : x'.number + length rest ≤ x.number + length piece
   pub ready : Ready x'
-
--- a step that tells nothing; and one that completes a record, whose line then stands behind the text
-abbrev pub Quiet : (phase : ℕ) (held piece : List ℕ) (used phase' : ℕ) (held' : List ℕ) → Type 0
-Quiet p h piece used p' h' = (n : ℕ) (w : Left) (at : ℕ) (out : List ℕ)
-    → Turned (record { phase = p; held = h; number = n; left = w }) piece at out used (record { phase = p'; held = h'; number = n; left = w }) at out
-
-abbrev pub Completes : Record → (phase : ℕ) (held piece : List ℕ) (used phase' : ℕ) → Type 0
-Completes r p h piece used p' = (n : ℕ) (w : Left) (at : ℕ) (out : List ℕ) (end : ℕ) (out' : List ℕ) → end ≤ at + 64
-    → take end out' ≡ take at out ++ line_text (n + 1) (said_of w r)
-    → Turned (record { phase = p; held = h; number = n; left = w }) piece at out used
-    (record { phase = p'; held = []; number = n + 1; left = called w (event_of r) }) end out'
-
--- what a step reads, by the tag of the record that is complete: it is held, and a packet lies behind its tag and its length
-pub record Stepped (phase : ℕ) (held piece : List ℕ) (tag used phase' count' : ℕ) (held' : List ℕ) : Type 0 where
-  pub some : 0 < used
-  pub fits : used ≤ length piece
-  pub quiet : tag ≡ 0 → Quiet phase held piece used phase' (take count' held') × (length (take count' held') ≡ count')
-  pub ticks : tag ≡ 1 → Completes tick phase held piece used phase'
-  pub packets : (tag ≡ 0 → ⊥) → (tag ≡ 1 → ⊥) → Completes (packet (drop 3 (take count' held'))) phase held piece used phase' × (3 ≤ count') × (count' ≤ 1603)
 
 -- a piece, all of it: what it makes the run write, and then what the run will write yet
 pub record Fed (x : Standing) (piece : List ℕ) (x' : Standing) (text : List ℕ) : Type 0 where
@@ -83,9 +105,10 @@ pub record Fed (x : Standing) (piece : List ℕ) (x' : Standing) (text : List �
   pub told : x'.number ≤ x.number + length piece
   pub ready : Ready x'
 
--- what a settings file begins: a run of the image's endpoint, with any memory; or, of a bad image, its line
-pub record Started (settings : List ℕ) (good : Bool) (r : Run) (text : List ℕ) : Type 0 where
-  pub ready : (held m : List ℕ) → Ready (standing r held m)
-  pub run : good ≡ true → (load_code (load_of settings).answer ≡ 0)
-      × ((held m t : List ℕ) → goes_on (standing r held m) t ≡ trace_text (record { endpoint = (load_of settings).endpoint; mem = m }) 0 t)
-  pub line : good ≡ false → (load_code (load_of settings).answer ≢ 0) × (text ≡ bad_settings)
+-- what a settings file begins: a run of the image's endpoint, with any memory; or, of a bad image, its line, up to here in the output
+abbrev pub Started : (settings : List ℕ) → Result Run ℕ → (out : List ℕ) → Type 0
+Started settings (Ok r) out =
+    (load_code (load_of settings).answer ≡ 0)
+    × ((m t : List ℕ) → goes_on (standing r m) t ≡ trace_text (record { endpoint = (load_of settings).endpoint; mem = m }) 0 t)
+    × ((m : List ℕ) → Ready (standing r m))
+Started settings (Err end) out = (load_code (load_of settings).answer ≢ 0) × (take end out ≡ bad_settings)

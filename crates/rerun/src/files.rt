@@ -16,8 +16,8 @@ pub(crate) fn is_passing(error: &io::Error) -> bool {
     matches!(error.kind(), ErrorKind::Interrupted | ErrorKind::WouldBlock)
 }
 
-// Reads some bytes, and says how many: 0 at the end. An error is the system's, and no bytes count then. Nothing says that a file is ready at last, so the tries are
-// as many as no run uses up.
+// Reads some bytes, and says how many: 0 at the end. An error is the system's, and no bytes count then. Nothing says that a file is ready at last, so the
+// tries are as many as no run uses up.
 pub(crate) fn read_some(file: &mut impl Read, buf: &mut [u8]) -> io::Result<usize>
     ensures ok { IfOk result (λ n. IsPrefixLen n buf.new) }
     ensures err { OnErr result (length buf.new ≡ length buf.old) }
@@ -32,6 +32,7 @@ pub(crate) fn read_some(file: &mut impl Read, buf: &mut [u8]) -> io::Result<usiz
 }
 
 // Reads as many bytes as there is room for, and says how many came; of a file that cannot be read, 0.
+// As it is: a while: how far a turn goes is what the system says.
 pub(crate) fn read_front(rt: &impl Eprint, file: &mut impl Read, buf: &mut [u8]) -> usize
     ensures { IsPrefixLen result buf.new }
 {

@@ -1,11 +1,11 @@
 // The lines as text, put into an output one behind the other: `at` is where it ends so far.
+// As it is: no `write!`: the contracts give each line's bytes, and the output is fixed memory.
 ghost use Rattle.std.specs.Prelude.{◌≡◌, ◌++◌, ◌+◌, ◌≤◌, length, take};
 ghost use Rattle.io.specs.Counts.{IsPrefixLen};
 ghost use Rattle.endpoint.specs.Answer.{values_of};
 ghost use Rattle.rerun.specs.Rerun.{decimal, ticked, answered, line_text, bad_trace, bad_settings};
 
-use endpoint::answer::Received;
-use endpoint::code::drop_code;
+use endpoint::answer::{Drop, Received};
 
 fn put(out: &mut [u8], at: usize, text: &[u8]) -> usize
     requires { at + length text.now ≤ length out.old }
@@ -38,27 +38,29 @@ pub(crate) fn put_tick(out: &mut [u8], at: usize, number: u64) -> usize
 }
 
 // A packet's line: a tenant is told where a frame was delivered, and nowhere else.
-pub(crate) fn put_answer(out: &mut [u8], at: usize, number: u64, answer: Received) -> usize
+pub(crate) fn put_answer(
+    out: &mut [u8],
+    at: usize,
+    number: u64,
+    answer: Result<Received, Drop>,
+) -> usize
     requires { at + 64 ≤ length out.old }
     ensures upper_bound { result ≤ at + 64 }
     ensures out_after { take result out.new ≡ take at out.old ++ line_text number (answered (values_of answer).number (values_of answer).tenant) }
 {
     let said = put_number(out, at, number, b" ");
     match answer {
-        Received::Delivered(target, _) => {
+        Ok(Received::Delivered(target, _)) => {
             let tenant = put(out, said, b"0 ");
-            return put_number(out, tenant, target.tenant as u64, b"\n");
+            put_number(out, tenant, u64::from(target.tenant), b"\n")
         }
-        Received::Pending => {
-            return put(out, said, b"1 -\n");
-        }
-        Received::Dropped(d) => {
-            return put_number(out, said, drop_code(d) as u64, b" -\n");
-        }
+        Ok(Received::Pending) => put(out, said, b"1 -\n"),
+        Err(d) => put_number(out, said, u64::from(d.code()), b" -\n"),
     }
 }
 
 // The last line of a trace that is broken or cut off, alone in the output.
+// As it is: beside `put_bad_settings`, since each names the definition that it writes.
 pub(crate) fn put_bad_trace(out: &mut [u8]) -> usize
     requires { 64 ≤ length out.old }
     ensures prefix_len { IsPrefixLen result out.new }

@@ -9,12 +9,5 @@ pub(crate) const SETTINGS: usize = 1024;
 // The system takes no longer path.
 pub(crate) const PATH: usize = 4096;
 
-// Where a run stands in its trace.
-pub(crate) const IN_HEADER: u8 = 0;
-
-pub(crate) const IN_RECORDS: u8 = 1;
-
-pub(crate) const AT_BROKEN: u8 = 2;
-
 // More pieces than any file has; and the records in so many stay below 2^64.
 pub(crate) const PIECES: u64 = 0x0001000000000000;

@@ -6,6 +6,7 @@ use std::io::ErrorKind;
 use std::{io, thread};
 
 // Writes some bytes, and says how many.
+// As it is: the loops of files.rt again, since `Read` and `Print` share no trait.
 fn write_some(rt: &impl Print, text: &[u8]) -> io::Result<usize>
     ensures { IfOk result (λ n. n ≤ length text.now) }
 {
@@ -19,6 +20,7 @@ fn write_some(rt: &impl Print, text: &[u8]) -> io::Result<usize>
 }
 
 // Writes all of it, or says on standard error why not.
+// As it is: a while: how far a turn goes is what the system says.
 pub(crate) fn write(rt: &(impl Print + Eprint), text: &[u8]) -> bool {
     let mut done: usize = 0;
     while done < text.len() {

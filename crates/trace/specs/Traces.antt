@@ -1,10 +1,10 @@
 -- WHAT READING A TRACE PROMISES (document 02, §6): `Traces`, THE STATEMENT. The form is Trace.antt. Only definitions; proved in Laws/Traces (`traces`).
-use Rattle.std.specs.Prelude.{ℕ, ◌+◌, ◌-◌, ◌≡◌, true, ◌↔◌, List, [], ◌∷◌, ◌++◌, length, take, drop}
+use Rattle.std.specs.Prelude.{ℕ, ◌+◌, ◌-◌, ◌≡◌, true, false, ◌↔◌, List, [], ◌∷◌, ◌++◌, Some, None, Ok, Err, length, take, drop}
 use Rattle.wire.specs.Bytes.{Bytes}
 use Rattle.trace.specs.Trace.{Record, tick, packet, records_bytes, header, Reads, Outcome, no_trace, read, ReadsAs}
-use Rattle.trace.specs.Reader.{header_at, header_end, begins_trace, record_at, record_end, read_of}
+use Rattle.trace.specs.Reader.{bad, header_at, header_end, begins_trace, record_at, record_end, read_of}
 use Rattle.trace.specs.WorkedTrace.{WorkedTrace}
-use Rattle.trace.specs.declared.reader.Event.TheVariants as E
+use Rattle.trace.specs.declared.reader.Complete.TheVariants as C
 
 -- ---- a reader that is fed in pieces: calls of `read_header`, then of `read_record` (their contracts: src/reader.rt)
 
@@ -17,8 +17,8 @@ left end held piece = drop (end (held ++ piece) - length held) piece
 
 -- a call of `read_record` gives this record
 abbrev pub Gives : (held piece : List ℕ) → Record → Type 0
-Gives h p tick = record_at (h ++ p) ≡ E.Tick
-Gives h p (packet k) = (record_at (h ++ p) ≡ E.Packet) × (drop 3 (kept record_end h p) ≡ k)
+Gives h p tick = record_at (h ++ p) ≡ Ok (Some C.Tick)
+Gives h p (packet k) = (record_at (h ++ p) ≡ Ok (Some C.Packet)) × (drop 3 (kept record_end h p) ≡ k)
 
 -- all pieces together
 abbrev pub joined : List (List ℕ) → List ℕ
@@ -29,21 +29,21 @@ joined (p ∷ ps) = p ++ joined ps
 pub data Records : (held : List ℕ) (pieces : List (List ℕ)) → List Record → (rest : List ℕ) → Type 0 where
   done : {h : List ℕ} → Records h [] [] h
   next : {h : List ℕ} {ps : List (List ℕ)} {rs : List Record} {rest : List ℕ} → Records h ps rs rest → Records h ([] ∷ ps) rs rest
-  more : {h p : List ℕ} {ps : List (List ℕ)} {rs : List Record} {rest : List ℕ} → record_at (h ++ p) ≡ E.More
+  more : {h p : List ℕ} {ps : List (List ℕ)} {rs : List Record} {rest : List ℕ} → record_at (h ++ p) ≡ Ok None
       → Records (kept record_end h p) (left record_end h p ∷ ps) rs rest → Records h (p ∷ ps) rs rest
   given : {h p : List ℕ} {ps : List (List ℕ)} {r : Record} {rs : List Record} {rest : List ℕ} → Gives h p r
       → Records [] (left record_end h p ∷ ps) rs rest → Records h (p ∷ ps) (r ∷ rs) rest
-  broken : {h p : List ℕ} {ps : List (List ℕ)} → record_at (h ++ p) ≡ E.Broken → Records h (p ∷ ps) [] (h ++ (p ++ joined ps))
+  broken : {h p : List ℕ} {ps : List (List ℕ)} → record_at (h ++ p) ≡ Err bad → Records h (p ∷ ps) [] (h ++ (p ++ joined ps))
 
 -- the header before them
 pub data Run : (held : List ℕ) (pieces : List (List ℕ)) → Outcome → Type 0 where
   too_short : {h : List ℕ} → Run h [] no_trace
   next-piece : {h : List ℕ} {ps : List (List ℕ)} {o : Outcome} → Run h ps o → Run h ([] ∷ ps) o
-  more-header : {h p : List ℕ} {ps : List (List ℕ)} {o : Outcome} → header_at (h ++ p) ≡ E.More
+  more-header : {h p : List ℕ} {ps : List (List ℕ)} {o : Outcome} → header_at (h ++ p) ≡ Ok false
       → Run (kept header_end h p) (left header_end h p ∷ ps) o → Run h (p ∷ ps) o
-  header-given : {h p : List ℕ} {ps : List (List ℕ)} {rs : List Record} {rest : List ℕ} → header_at (h ++ p) ≡ E.Header
+  header-given : {h p : List ℕ} {ps : List (List ℕ)} {rs : List Record} {rest : List ℕ} → header_at (h ++ p) ≡ Ok true
       → Records [] (left header_end h p ∷ ps) rs rest → Run h (p ∷ ps) (read rs rest)
-  no_header : {h p : List ℕ} {ps : List (List ℕ)} → header_at (h ++ p) ≡ E.Broken → Run h (p ∷ ps) no_trace
+  no_header : {h p : List ℕ} {ps : List (List ℕ)} → header_at (h ++ p) ≡ Err bad → Run h (p ∷ ps) no_trace
 
 -- ---- THE STATEMENT
 

@@ -1,15 +1,16 @@
 // The numbers of the form.
 
 // TRP, and the version: five bytes.
-pub const LETTERS: u32 = 0x545250;
+pub const LETTERS: u64 = 0x545250;
 
-pub const VERSION: u16 = 1;
+pub const VERSION: u64 = 1;
 
 pub const VERSION_AT: usize = 3;
 
 pub const HEADER_BYTES: usize = 5;
 
 // A record's first byte.
+// As it is: bytes of the form (document 02, §6); read, they are `Complete`.
 pub const TICK: u8 = 1;
 
 pub const PACKET: u8 = 2;

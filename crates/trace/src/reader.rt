@@ -1,119 +1,103 @@
-// A reader of traces. It holds the bytes of one record, in an array that is lent, and is fed the trace in pieces, of any size: each call takes what the record
-// at hand still lacks, up to its end or the piece's.
-ghost use Rattle.std.specs.Prelude.{◌≡◌, ◌++◌, ◌+◌, ◌-◌, ◌^◌, ◌≤◌, ◌<◌, min, length, take};
-ghost use Rattle.trace.specs.Reader.{header_at, record_at, header_end, record_end};
+// A reader of traces. It holds the bytes of one record and is fed the trace in pieces, of any size: each call takes from the front of the piece what the
+// record at hand still lacks, up to its end or the piece's.
+ghost use Rattle.std.specs.Prelude.{◌≡◌, ◌++◌, ◌+◌, ◌≤◌, min, length};
+ghost use Rattle.trace.specs.Reader.{bytes_of, Fed, record_most, header_at, header_end, record_at, record_end};
 
 use crate::number::{
     HEADER_BYTES, LENGTH_AT, LETTERS, PACKET, PACKET_AT, PACKET_MAX, RECORD_MAX, TICK, VERSION,
     VERSION_AT,
 };
-use wire::field::{get16, get24};
+use wire::field::get;
 
-// What the bytes held and a piece give.
+// What is held: the first `count` bytes. They stay when the header or a record is complete: `count` is set back to 0 before the next one is read.
+// As it is: an array and a count, since there is no heap; any count may be handed in, so it has no invariant.
 #[derive(Clone, Copy)]
-pub enum Event {
-    // the piece is used up, and what is held is not complete yet
-    More,
-    Header,
-    Tick,
-    // its bytes are held, behind tag and length
-    Packet,
-    // no trace begins so, or no record
-    Broken,
-}
-
-#[derive(Clone, Copy)]
-pub struct Fed {
-    pub event: Event,
-    // how many bytes of the piece are taken, and how many are held now
-    pub used: usize,
+pub struct Reader {
+    pub held: [u8; RECORD_MAX],
     pub count: usize,
 }
 
-fn least(a: usize, b: usize) -> usize
-    ensures { result ≡ min a b }
-{
-    if a < b {
-        return a;
-    }
-    b
+// A record that is complete. A packet's bytes are held, behind tag and length.
+#[derive(Clone, Copy, Debug, PartialEq, Eq)]
+pub enum Complete {
+    Tick,
+    Packet,
 }
 
-// Takes bytes of the piece, until `want` are held or the piece is used up, and says how many. Calls with a larger `want` take the same bytes again.
-fn fill(held: &mut [u8], count: usize, piece: &[u8], want: usize) -> usize
-    requires { want ≤ length held.old }
-    ensures value { result ≡ min (want - count) (length piece.now) }
-    ensures held_after { take (count + result) held.new ≡ take count held.old ++ take result piece.now }
-{
-    if count >= want {
-        return 0;
-    }
-    let n = least(want - count, piece.len());
-    held[count..count + n].copy_from_slice(&piece[..n]);
-    n
-}
+// No trace begins so, or no record.
+#[derive(Clone, Copy, Debug, PartialEq, Eq)]
+pub struct Broken;
 
-fn given(event: Event, used: usize, count: usize) -> Fed
-    requires { count + used < 2 ^ 64 }
-    ensures event_value { result.event ≡ event }
-    ensures used_value { result.used ≡ used }
-    ensures count_value { result.count ≡ count + used }
-{
-    Fed {
-        event: event,
-        used: used,
-        count: count + used,
+impl Reader {
+    // Nothing is held.
+    pub fn start() -> Reader
+        ensures { result.count ≡ 0 }
+    {
+        Reader {
+            held: [0; RECORD_MAX],
+            count: 0,
+        }
     }
-}
 
-// Reads the trace's header.
-pub fn read_header(held: &mut [u8; RECORD_MAX], count: usize, piece: &[u8]) -> Fed
-    ensures event_value { result.event ≡ header_at (take count held.old ++ piece.now) }
-    ensures used_value { result.used ≡ header_end (take count held.old ++ piece.now) - count }
-    ensures count_value { result.count ≡ count + result.used }
-    ensures held_after { take result.count held.new ≡ take count held.old ++ take result.used piece.now }
-{
-    let n = fill(held, count, piece, HEADER_BYTES);
-    if count + n < HEADER_BYTES {
-        return given(Event::More, n, count);
+    // Takes bytes of the piece, until `want` are held or the piece is used up.
+    fn fill(&mut self, piece: &mut &[u8], want: usize)
+        requires { want ≤ record_most }
+        ensures { Fed (min want (self.old.count + length piece.old.now)) self.old piece.old.now self.new piece.new.now }
+    {
+        if self.count >= want {
+            return;
+        }
+        let n = (want - self.count).min(piece.len());
+        let (taken, rest) = piece.split_at(n);
+        self.held[self.count..self.count + n].copy_from_slice(taken);
+        self.count += n;
+        *piece = rest;
     }
-    if get24(held, 0) != LETTERS {
-        return given(Event::Broken, n, count);
-    }
-    if get16(held, VERSION_AT) != VERSION {
-        return given(Event::Broken, n, count);
-    }
-    given(Event::Header, n, count)
-}
 
-// Reads a record.
-pub fn read_record(held: &mut [u8; RECORD_MAX], count: usize, piece: &[u8]) -> Fed
-    ensures event_value { result.event ≡ record_at (take count held.old ++ piece.now) }
-    ensures used_value { result.used ≡ record_end (take count held.old ++ piece.now) - count }
-    ensures count_value { result.count ≡ count + result.used }
-    ensures held_after { take result.count held.new ≡ take count held.old ++ take result.used piece.now }
-{
-    let tag = fill(held, count, piece, LENGTH_AT);
-    if count + tag < LENGTH_AT {
-        return given(Event::More, tag, count);
+    // Reads the trace's header, and says whether all of it is there.
+    pub fn read_header(&mut self, piece: &mut &[u8]) -> Result<bool, Broken>
+        ensures value { result ≡ header_at (bytes_of self.old ++ piece.old.now) }
+        ensures fed { Fed (header_end (bytes_of self.old ++ piece.old.now)) self.old piece.old.now self.new piece.new.now }
+    {
+        self.fill(piece, HEADER_BYTES);
+        if self.count < HEADER_BYTES {
+            return Ok(false);
+        }
+        if get::<3>(&self.held, 0) != LETTERS {
+            return Err(Broken);
+        }
+        if get::<2>(&self.held, VERSION_AT) != VERSION {
+            return Err(Broken);
+        }
+        Ok(true)
     }
-    if held[0] == TICK {
-        return given(Event::Tick, tag, count);
+
+    // Reads a record. With `None` it is not complete yet, and the piece is used up.
+    pub fn read_record(&mut self, piece: &mut &[u8]) -> Result<Option<Complete>, Broken>
+        ensures value { result ≡ record_at (bytes_of self.old ++ piece.old.now) }
+        ensures fed { Fed (record_end (bytes_of self.old ++ piece.old.now)) self.old piece.old.now self.new piece.new.now }
+    {
+        self.fill(piece, LENGTH_AT);
+        if self.count < LENGTH_AT {
+            return Ok(None);
+        }
+        match self.held[0] {
+            TICK => return Ok(Some(Complete::Tick)),
+            PACKET => {}
+            _ => return Err(Broken),
+        }
+        self.fill(piece, PACKET_AT);
+        if self.count < PACKET_AT {
+            return Ok(None);
+        }
+        let length = get::<2>(&self.held, LENGTH_AT) as usize;
+        if length > PACKET_MAX {
+            return Err(Broken);
+        }
+        self.fill(piece, PACKET_AT + length);
+        if self.count < PACKET_AT + length {
+            return Ok(None);
+        }
+        Ok(Some(Complete::Packet))
     }
-    if held[0] != PACKET {
-        return given(Event::Broken, tag, count);
-    }
-    let head = fill(held, count, piece, PACKET_AT);
-    if count + head < PACKET_AT {
-        return given(Event::More, head, count);
-    }
-    let length = get16(held, LENGTH_AT) as usize;
-    if length > PACKET_MAX {
-        return given(Event::Broken, head, count);
-    }
-    let all = fill(held, count, piece, PACKET_AT + length);
-    if count + all < PACKET_AT + length {
-        return given(Event::More, all, count);
-    }
-    given(Event::Packet, all, count)
 }

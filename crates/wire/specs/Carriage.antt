@@ -1,5 +1,5 @@
 -- What an IP payload carries (document 01, "Carriage and tunnel headers"): a frame on a VXLAN or NVGRE network, or a segment of an STT frame.
-use Rattle.std.specs.Prelude.{◌≡◌, ℕ, ◌+◌, ◌/◌, ◌%◌, ◌≤◌, ◌⊎◌, List, ◌++◌, length, drop, ◌==◌}
+use Rattle.std.specs.Prelude.{◌≡◌, ℕ, ◌+◌, ◌/◌, ◌%◌, ◌≤◌, ◌⊎◌, List, ◌++◌, length, drop, ◌==◌, Result, Ok, Err}
 use Rattle.wire.specs.Bytes.{Bytes, be_at}
 use Rattle.wire.specs.Sum.{total, ones, pseudo}
 use Rattle.wire.specs.Checks.{pick}
@@ -10,8 +10,9 @@ use Rattle.wire.specs.Segment.{header, IsSegment, segment_of}
 use Rattle.wire.specs.declared.refusal.Refusal.TheVariants as R
 use Rattle.wire.specs.declared.segment.Segment.{Segment}
 use Rattle.wire.specs.declared.carriage.Tunnel.{Tunnel}
-use Rattle.wire.specs.declared.carriage.Carried.{Carried}
 use Rattle.wire.specs.declared.carriage.Carried.TheVariants as C
+use Rattle.wire.specs.declared.carriage.Carried.{Carried}
+use Rattle.wire.specs.declared.refusal.Refusal.{Refusal}
 
 -- ---- the format
 
@@ -29,35 +30,40 @@ Tunnels kind protocol source destination id frame payload =
 
 -- ---- need not be believed: what the reader answers
 
-unfoldable pub carriage_of : (protocol source destination port : ℕ) → List ℕ → Carried
+-- the answer of one of the readers below
+abbrev pub carried : {A : Type 0} → (A → Carried) → Result A Refusal → Result Carried Refusal
+carried kind (Ok x) = Ok (kind x)
+carried kind (Err r) = Err r
+
+unfoldable pub carriage_of : (protocol source destination port : ℕ) → List ℕ → Result Carried Refusal
 carriage_of protocol source destination port s =
-    pick (protocol == 17) (udp_of source destination s)
-    (pick (protocol == 47) (nvgre_of s)
-    (pick (protocol == 6) (segment_of source destination port s)
-    (C.Refused R.Protocol)))
+    pick (protocol == 17) (carried C.Tunnel (udp_of source destination s))
+    (pick (protocol == 47) (carried C.Tunnel (nvgre_of s))
+    (pick (protocol == 6) (carried C.Segment (segment_of source destination port s))
+    (Err R.Protocol)))
 
 -- ---- need not be believed: THE STATEMENT of this reader. Every payload that carries a frame or a segment is read, as what it says and where it lies; what is
 -- read is one; what document 01 ignores does not count
 
 -- the reader answers the network, and where the frame lies
-pub record TunnelRead (read : Carried) (kind id : ℕ) (frame payload : List ℕ) : Type 0 where
+pub record TunnelRead (read : Result Carried Refusal) (kind id : ℕ) (frame payload : List ℕ) : Type 0 where
   pub start : ℕ
-  pub is : read ≡ C.Tunnel (record { start = start; network = id; kind = kind })
+  pub is : read ≡ Ok (C.Tunnel (record { start = start; network = id; kind = kind }))
   pub frame_is : drop start payload ≡ frame
   pub long : length payload ≡ start + length frame
 
 pub record ReadsCarriage : Type 0 where
   pub tunnel_complete : (kind protocol source destination port id : ℕ) (frame payload : List ℕ) → Tunnels kind protocol source destination id frame payload
       → TunnelRead (carriage_of protocol source destination port payload) kind id frame payload
-  pub tunnel_sound : (protocol source destination port : ℕ) (s : List ℕ) → Bytes s → (t : Tunnel) → carriage_of protocol source destination port s ≡ C.Tunnel t
+  pub tunnel_sound : (protocol source destination port : ℕ) (s : List ℕ) → Bytes s → (t : Tunnel) → carriage_of protocol source destination port s ≡ Ok (C.Tunnel t)
       → Tunnels t.kind protocol source destination t.network (drop t.start s) s × (t.start ≤ length s)
   pub segment_complete : (source destination port frame_length_at offset identifier : ℕ) (bytes payload : List ℕ)
       (w : IsSegment source destination port frame_length_at offset identifier bytes payload)
       → let n = length (header w.f) in
-      (carriage_of 6 source destination port payload ≡ C.Segment (record { start = n; identifier = identifier; frame_length = frame_length_at; offset = offset }))
+      (carriage_of 6 source destination port payload ≡ Ok (C.Segment (record { start = n; identifier = identifier; frame_length = frame_length_at; offset = offset })))
       × (drop n payload ≡ bytes)
   pub segment_sound : (protocol source destination port : ℕ) (s : List ℕ) → Bytes s → (g : Segment) → carriage_of protocol source destination port s
-      ≡ C.Segment g
+      ≡ Ok (C.Segment g)
       → (protocol ≡ 6) × IsSegment source destination port g.frame_length g.offset g.identifier (drop g.start s) s × (g.start ≤ length s)
   -- VXLAN: the answer depends on the length, the flag I and the VNI alone
   pub vxlan_ignores : (s t : List ℕ) → length s ≡ length t → be_at s 0 1 / 8 % 2 ≡ be_at t 0 1 / 8 % 2 → be_at s 4 3 ≡ be_at t 4 3 → vxlan_of s ≡ vxlan_of t

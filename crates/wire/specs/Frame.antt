@@ -1,11 +1,9 @@
 -- The inner frame: Ethernet (IEEE 802.3) with no check sequence and no VLAN tag.
-use Rattle.std.specs.Prelude.{◌≡◌, ℕ, ◌≤◌, ◌≢◌, List, [], ◌∷◌, length, nat_eq, nat_lt}
+use Rattle.std.specs.Prelude.{◌≡◌, ℕ, ◌≤◌, ◌≢◌, List, [], ◌∷◌, length, nat_eq, nat_lt, Result, Ok, Err}
 use Rattle.wire.specs.Bytes.{be_at}
 use Rattle.wire.specs.Checks.{Check, ◌⇒◌, first}
 use Rattle.wire.specs.declared.refusal.Refusal.{Refusal}
 use Rattle.wire.specs.declared.refusal.Refusal.TheVariants as R
-use Rattle.wire.specs.declared.frame.FrameRead.{FrameRead}
-use Rattle.wire.specs.declared.frame.FrameRead.TheVariants as F
 
 pub record IsFrame (frame : List ℕ) : Type 0 where
   pub least : 14 ≤ length frame
@@ -24,10 +22,10 @@ frame_checks s =
     ∷ (nat_eq (be_at s 12 2) 0x88A8 ⇒ R.FrameTag)
     ∷ []
 
-unfoldable pub frame_of : List ℕ → FrameRead
-frame_of s = first F.Refused (frame_checks s) F.Good
+unfoldable pub frame_of : List ℕ → Result (Unit {0}) Refusal
+frame_of s = first Err (frame_checks s) (Ok tt)
 
 -- THE STATEMENT: exactly the good frames are read as such.
 pub record ReadsFrame : Type 0 where
-  pub complete : (s : List ℕ) → IsFrame s → frame_of s ≡ F.Good
-  pub sound : (s : List ℕ) → frame_of s ≡ F.Good → IsFrame s
+  pub complete : (s : List ℕ) → IsFrame s → frame_of s ≡ Ok tt
+  pub sound : (s : List ℕ) → frame_of s ≡ Ok tt → IsFrame s

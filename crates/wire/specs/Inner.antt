@@ -1,12 +1,10 @@
 -- What an inner frame carries, as far as the hints of an STT frame tell of it (draft-davie-stt-06, 3.1; document 02, §5), in two parts: an IP header, whole,
 -- and behind it TCP or UDP. The transport header itself is not looked at, and may be cut off.
-use Rattle.std.specs.Prelude.{◌≡◌, ℕ, ◌+◌, ◌*◌, ◌/◌, ◌%◌, ◌^◌, ◌<◌, ◌≤◌, Bool, true, cond, ◌&&◌, ◌||◌, ◌⊎◌, List, length}
+use Rattle.std.specs.Prelude.{◌≡◌, ℕ, ◌+◌, ◌*◌, ◌/◌, ◌%◌, ◌^◌, ◌<◌, ◌≤◌, Bool, true, cond, ◌&&◌, ◌||◌, ◌⊎◌, List, length, Option, Some, None, unwrap_or}
 use Rattle.wire.specs.Bytes.{Bytes, be, be_at, ◌then◌}
 use Rattle.wire.specs.Ipv4 as I
 use Rattle.wire.specs.Checks.{◌is◌, ◌at_least◌}
 use Rattle.wire.specs.declared.inner.Hints.{Hints}
-use Rattle.wire.specs.declared.inner.Transport.{Transport}
-use Rattle.wire.specs.declared.inner.Transport.TheVariants as T
 
 -- ---- an IP header, whole, behind the 14 bytes of the Ethernet header
 
@@ -77,20 +75,19 @@ carries_transport frame =
 
 -- ---- need not be believed: what the code answers, and its statement
 
-unfoldable pub transport_by : (protocol flags l4 : ℕ) → Transport
+unfoldable pub transport_by : (protocol flags l4 : ℕ) → Option Hints
 transport_by protocol flags l4 =
-    cond (protocol is 6) (T.Found (record { flags = flags + 0x08; l4 = l4 }))
-    (cond (protocol is 17) (T.Found (record { flags = flags; l4 = l4 })) T.Nothing)
+    cond (protocol is 6) (Some (record { flags = flags + 0x08; l4 = l4 }))
+    (cond (protocol is 17) (Some (record { flags = flags; l4 = l4 })) None)
 
-unfoldable pub over_ipv4 : (frame : List ℕ) → Transport
-over_ipv4 frame = cond (be_at frame 20 2 % 2 ^ 13 is 0) (transport_by (be_at frame 23 1) 0x04 (14 + 4 * (be_at frame 14 1 % 16))) T.Nothing
+unfoldable pub over_ipv4 : (frame : List ℕ) → Option Hints
+over_ipv4 frame = cond (be_at frame 20 2 % 2 ^ 13 is 0) (transport_by (be_at frame 23 1) 0x04 (14 + 4 * (be_at frame 14 1 % 16))) None
 
-unfoldable pub transport_of : List ℕ → Transport
-transport_of frame = cond (carries_ipv4 frame) (over_ipv4 frame) (cond (carries_ipv6 frame) (transport_by (be_at frame 20 1) 0 54) T.Nothing)
+unfoldable pub transport_of : List ℕ → Option Hints
+transport_of frame = cond (carries_ipv4 frame) (over_ipv4 frame) (cond (carries_ipv6 frame) (transport_by (be_at frame 20 1) 0 54) None)
 
-abbrev pub hints_by : Transport → Hints
-hints_by (T.Found h) = h
-hints_by T.Nothing = record { flags = 0; l4 = 0 }
+abbrev pub hints_by : Option Hints → Hints
+hints_by x = unwrap_or x (record { flags = 0; l4 = 0 })
 
 unfoldable pub hints_of : List ℕ → Hints
 hints_of frame = hints_by (transport_of frame)
@@ -103,8 +100,8 @@ pub record Looks : Type 0 where
   pub ipv6_sound : (frame : List ℕ) → carries_ipv6 frame ≡ true → CarriesIpv6 frame
   pub test : (frame : List ℕ) → CarriesTransport frame → carries_transport frame ≡ true
   pub test_sound : (frame : List ℕ) → carries_transport frame ≡ true → CarriesTransport frame
-  pub transport : (flags l4 : ℕ) (frame : List ℕ) → FoundHints flags l4 frame → transport_of frame ≡ T.Found (record { flags = flags; l4 = l4 })
-  pub transport_sound : (h : Hints) (frame : List ℕ) → transport_of frame ≡ T.Found h → FoundHints h.flags h.l4 frame
+  pub transport : (flags l4 : ℕ) (frame : List ℕ) → FoundHints flags l4 frame → transport_of frame ≡ Some (record { flags = flags; l4 = l4 })
+  pub transport_sound : (h : Hints) (frame : List ℕ) → transport_of frame ≡ Some h → FoundHints h.flags h.l4 frame
   pub hints : (frame : List ℕ) → WrittenHints (hints_of frame).flags (hints_of frame).l4 frame
 
 -- ---- need not be believed: that the fields lie where the RFCs' pictures have them

@@ -1,13 +1,11 @@
 -- IPv4 (RFC 791, 3.1): what a packet is, and what the reader answers.
-use Rattle.std.specs.Prelude.{◌≡◌, ℕ, ◌+◌, ◌*◌, ◌/◌, ◌%◌, ◌^◌, ◌<◌, ◌≤◌, not, List, [], ◌∷◌, ◌++◌, length, take, ◌==◌, nat_lt}
+use Rattle.std.specs.Prelude.{◌≡◌, ℕ, ◌+◌, ◌*◌, ◌/◌, ◌%◌, ◌^◌, ◌<◌, ◌≤◌, not, List, [], ◌∷◌, ◌++◌, length, take, ◌==◌, nat_lt, Result, Ok, Err}
 use Rattle.wire.specs.Bytes.{Bytes, be, be_at, part, ◌then◌}
 use Rattle.wire.specs.Sum.{total, ones}
 use Rattle.wire.specs.Checks.{Check, ◌⇒◌, first}
 use Rattle.wire.specs.declared.refusal.Refusal.{Refusal}
 use Rattle.wire.specs.declared.refusal.Refusal.TheVariants as R
 use Rattle.wire.specs.declared.ipv4.Ipv4.{Ipv4}
-use Rattle.wire.specs.declared.ipv4.Ipv4Read.{Ipv4Read}
-use Rattle.wire.specs.declared.ipv4.Ipv4Read.TheVariants as I
 
 -- The header's fields.
 pub record Header : Type 0 where
@@ -99,16 +97,16 @@ ipv4_checks s =
 unfoldable pub ipv4_at : List ℕ → Ipv4
 ipv4_at s = record { start = 4 * ihl_at s; end = size_at s; source = be_at s 12 4; destination = be_at s 16 4; protocol = be_at s 9 1 }
 
-unfoldable pub ipv4_of : List ℕ → Ipv4Read
-ipv4_of s = first I.Refused (ipv4_checks s) (I.Packet (ipv4_at s))
+unfoldable pub ipv4_of : List ℕ → Result Ipv4 Refusal
+ipv4_of s = first Err (ipv4_checks s) (Ok (ipv4_at s))
 
 -- THE STATEMENT: every packet is read, as what it says and where its payload lies; what is read is a packet; bytes behind it do not count.
 pub record ReadsIpv4 : Type 0 where
   pub complete : (source destination protocol : ℕ) (payload s : List ℕ) (w : IsIpv4 source destination protocol payload s)
       → let n = length (header w.f) in
-      (ipv4_of s ≡ I.Packet (record { start = n; end = n + length payload; source = source; destination = destination; protocol = protocol }))
+      (ipv4_of s ≡ Ok (record { start = n; end = n + length payload; source = source; destination = destination; protocol = protocol }))
       × (part s n (n + length payload) ≡ payload)
-  pub sound : (s : List ℕ) → Bytes s → (h : Ipv4) → ipv4_of s ≡ I.Packet h
+  pub sound : (s : List ℕ) → Bytes s → (h : Ipv4) → ipv4_of s ≡ Ok h
       → IsIpv4 h.source h.destination h.protocol (part s h.start h.end) s × (h.start ≤ h.end) × (h.end ≤ length s)
   -- two lists that agree in their first n bytes, where the total length is at most n
   pub ignores_trailing : (n : ℕ) (s t : List ℕ) → take n s ≡ take n t → 20 ≤ n → n ≤ length s → n ≤ length t → be_at s 2 2 ≤ n → ipv4_of s ≡ ipv4_of t

@@ -1,12 +1,10 @@
 -- NVGRE (RFC 7637, 3.2; GRE with a key, RFC 2890): what carries a frame, and what the reader answers.
-use Rattle.std.specs.Prelude.{◌≡◌, ℕ, ◌+◌, ◌*◌, ◌%◌, ◌^◌, ◌<◌, not, List, [], ◌∷◌, length, ◌==◌, nat_lt}
+use Rattle.std.specs.Prelude.{◌≡◌, ℕ, ◌+◌, ◌*◌, ◌%◌, ◌^◌, ◌<◌, not, List, [], ◌∷◌, length, ◌==◌, nat_lt, Result, Ok, Err}
 use Rattle.wire.specs.Bytes.{be, be_at, ◌then◌}
 use Rattle.wire.specs.Checks.{Check, ◌⇒◌, first}
 use Rattle.wire.specs.declared.refusal.Refusal.{Refusal}
 use Rattle.wire.specs.declared.refusal.Refusal.TheVariants as R
 use Rattle.wire.specs.declared.carriage.Tunnel.{Tunnel}
-use Rattle.wire.specs.declared.carriage.Carried.{Carried}
-use Rattle.wire.specs.declared.carriage.Carried.TheVariants as C
 
 -- Checksum and sequence bits 0, key bit 1, version 0, protocol type 0x6558. Of the reserved bits those that a receiver ignores (6 to 12, RFC 2784, 2.3) stand
 -- on both sides of a byte's end: `high` and `low`. The key is the VSID and the FlowID (RFC 7637, 3.2).
@@ -40,5 +38,5 @@ nvgre_checks s =
 unfoldable pub nvgre_at : List ℕ → Tunnel
 nvgre_at s = record { start = 8; network = be_at s 4 3; kind = 2 }
 
-unfoldable pub nvgre_of : List ℕ → Carried
-nvgre_of s = first C.Refused (nvgre_checks s) (C.Tunnel (nvgre_at s))
+unfoldable pub nvgre_of : List ℕ → Result Tunnel Refusal
+nvgre_of s = first Err (nvgre_checks s) (Ok (nvgre_at s))

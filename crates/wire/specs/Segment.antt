@@ -1,13 +1,11 @@
 -- A segment of STT (draft-davie-stt-06, 3.2): what it is, and what the reader answers.
-use Rattle.std.specs.Prelude.{◌≡◌, ℕ, ◌+◌, ◌*◌, ◌/◌, ◌^◌, ◌<◌, not, List, [], ◌∷◌, ◌++◌, length, ◌==◌, nat_lt}
+use Rattle.std.specs.Prelude.{◌≡◌, ℕ, ◌+◌, ◌*◌, ◌/◌, ◌^◌, ◌<◌, not, List, [], ◌∷◌, ◌++◌, length, ◌==◌, nat_lt, Result, Ok, Err}
 use Rattle.wire.specs.Bytes.{be, be_at, ◌then◌}
 use Rattle.wire.specs.Sum.{total, ones, pseudo}
 use Rattle.wire.specs.Checks.{Check, ◌⇒◌, first}
 use Rattle.wire.specs.declared.refusal.Refusal.{Refusal}
 use Rattle.wire.specs.declared.refusal.Refusal.TheVariants as R
 use Rattle.wire.specs.declared.segment.Segment.{Segment}
-use Rattle.wire.specs.declared.carriage.Carried.{Carried}
-use Rattle.wire.specs.declared.carriage.Carried.TheVariants as C
 
 -- The header's fields.
 pub record Header : Type 0 where
@@ -79,5 +77,5 @@ segment_checks source destination port s =
 unfoldable pub segment_at : List ℕ → Segment
 segment_at s = record { start = 4 * data_offset_at s; identifier = be_at s 8 4; frame_length = be_at s 4 2; offset = be_at s 6 2 }
 
-unfoldable pub segment_of : (source destination port : ℕ) → List ℕ → Carried
-segment_of source destination port s = first C.Refused (segment_checks source destination port s) (C.Segment (segment_at s))
+unfoldable pub segment_of : (source destination port : ℕ) → List ℕ → Result Segment Refusal
+segment_of source destination port s = first Err (segment_checks source destination port s) (Ok (segment_at s))

@@ -1,12 +1,10 @@
 -- An STT frame (draft-davie-stt-06, 3.1): what it is, and what the reader of a complete one answers.
-use Rattle.std.specs.Prelude.{◌≡◌, ℕ, ◌%◌, ◌^◌, ◌<◌, ◌≤◌, Bool, false, not, ◌&&◌, ◌≢◌, List, [], ◌∷◌, length, drop, ◌==◌, nat_lt}
+use Rattle.std.specs.Prelude.{◌≡◌, ℕ, ◌%◌, ◌^◌, ◌<◌, ◌≤◌, Bool, false, not, ◌&&◌, ◌≢◌, List, [], ◌∷◌, length, drop, ◌==◌, nat_lt, Result, Ok, Err}
 use Rattle.wire.specs.Bytes.{Bytes, be, be_at, ◌then◌}
 use Rattle.wire.specs.Checks.{Check, ◌⇒◌, first}
 use Rattle.wire.specs.Inner.{CarriesTransport, carries_transport}
 use Rattle.wire.specs.declared.refusal.Refusal.{Refusal}
 use Rattle.wire.specs.declared.refusal.Refusal.TheVariants as R
-use Rattle.wire.specs.declared.stt.SttRead.{SttRead}
-use Rattle.wire.specs.declared.stt.SttRead.TheVariants as T
 
 unfoldable pub stt : (version flags l4 reserved mss tag context padding : ℕ) → List ℕ → List ℕ
 stt version flags l4 reserved mss tag context padding frame =
@@ -48,13 +46,13 @@ stt_checks s =
     ∷ (contradicts s ⇒ R.SttFlags)
     ∷ []
 
-unfoldable pub stt_of : List ℕ → SttRead
-stt_of s = first T.Refused (stt_checks s) (T.Header (be_at s 8 8))
+unfoldable pub stt_of : List ℕ → Result ℕ Refusal
+stt_of s = first Err (stt_checks s) (Ok (be_at s 8 8))
 
 -- THE STATEMENT: every STT frame is read, as its Context ID; what is read is one; the other flags, the hints, the tag and the padding do not count, and flags
 -- 0x01 and 0x02 not either where the inner frame carries no TCP or UDP over IP.
 pub record ReadsStt : Type 0 where
-  pub complete : (context : ℕ) (frame s : List ℕ) → IsStt context frame s → (stt_of s ≡ T.Header context) × (drop 18 s ≡ frame)
-  pub sound : (s : List ℕ) → Bytes s → (context : ℕ) → stt_of s ≡ T.Header context → IsStt context (drop 18 s) s × (18 ≤ length s)
+  pub complete : (context : ℕ) (frame s : List ℕ) → IsStt context frame s → (stt_of s ≡ Ok context) × (drop 18 s ≡ frame)
+  pub sound : (s : List ℕ) → Bytes s → (context : ℕ) → stt_of s ≡ Ok context → IsStt context (drop 18 s) s × (18 ≤ length s)
   pub ignores : (s t : List ℕ) → length s ≡ length t → be_at s 0 1 ≡ be_at t 0 1 → be_at s 8 8 ≡ be_at t 8 8 → contradicts s ≡ contradicts t → stt_of s ≡ stt_of t
   pub agrees : (s : List ℕ) → (CarriesTransport (drop 18 s) → be_at s 1 1 % 4 ≢ 3) → contradicts s ≡ false

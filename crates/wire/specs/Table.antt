@@ -3,7 +3,7 @@
 -- The endpoint's page (crate endpoint, specs/Table.antt) joins them with its own; compare them with the paper line by line.
 -- No reader stands here but in `Table`, THE STATEMENT: what a reader answers is told by the first row that applies, number and offset, and where none does,
 -- the fields that it read are those named there. Laws/Table.antt proves it (`wire_table`).
-use Rattle.std.specs.Prelude.{◌≡◌, ℕ, ◌+◌, ◌*◌, ◌/◌, ◌%◌, ◌^◌, ◌≤◌, Bool, cond, not, ◌&&◌, ◌||◌, List, [], ◌∷◌, ◌++◌, length, take, drop}
+use Rattle.std.specs.Prelude.{◌≡◌, ℕ, ◌+◌, ◌*◌, ◌/◌, ◌%◌, ◌^◌, ◌≤◌, Bool, cond, not, ◌&&◌, ◌||◌, List, [], ◌∷◌, ◌++◌, length, take, drop, Result, Ok, Err}
 use Rattle.wire.specs.Bytes.{be_at, part}
 use Rattle.wire.specs.Sum.{total, ones, pseudo}
 use Rattle.wire.specs.Checks.{Check, first}
@@ -16,16 +16,11 @@ use Rattle.wire.specs.Inner.{carries_transport}
 use Rattle.wire.specs.Stt.{stt_of}
 use Rattle.wire.specs.Frame.{frame_of}
 use Rattle.wire.specs.declared.ipv4.Ipv4.{Ipv4}
-use Rattle.wire.specs.declared.ipv4.Ipv4Read.{Ipv4Read}
-use Rattle.wire.specs.declared.ipv4.Ipv4Read.TheVariants as I
 use Rattle.wire.specs.declared.segment.Segment.{Segment}
 use Rattle.wire.specs.declared.carriage.Tunnel.{Tunnel}
-use Rattle.wire.specs.declared.carriage.Carried.{Carried}
 use Rattle.wire.specs.declared.carriage.Carried.TheVariants as C
-use Rattle.wire.specs.declared.stt.SttRead.{SttRead}
-use Rattle.wire.specs.declared.stt.SttRead.TheVariants as S
-use Rattle.wire.specs.declared.frame.FrameRead.{FrameRead}
-use Rattle.wire.specs.declared.frame.FrameRead.TheVariants as F
+use Rattle.wire.specs.declared.carriage.Carried.{Carried}
+use Rattle.wire.specs.declared.refusal.Refusal.{Refusal}
 
 -- ---- words
 
@@ -163,31 +158,21 @@ bad_frame frame = length frame below 14 || length frame above 1514 || be_at fram
 -- ---- need not be believed: THE STATEMENT of the readers, and its words
 
 -- what a reader's answer tells: a refusal's finding, and what is made of what was read
--- Open: a match on `Ipv4Read`, with what the reader of the page makes of each case
-abbrev pub ipv4_tells : (start : ℕ) → (Ipv4 → Finding) → Ipv4Read → Finding
-ipv4_tells start f (I.Packet h) = f h
-ipv4_tells start f (I.Refused r) = finding_of start r
+-- Open: a match on a reader's answer
+abbrev pub tells : {A : Type 0} → (start : ℕ) → (A → Finding) → Result A Refusal → Finding
+tells start f (Ok x) = f x
+tells start f (Err r) = finding_of start r
 
--- Open: a match on `Carried`, with what the reader of the page makes of each case
-abbrev pub carried_tells : (start : ℕ) → (Tunnel → Finding) → (Segment → Finding) → Carried → Finding
-carried_tells start f g (C.Tunnel t) = f t
-carried_tells start f g (C.Segment s) = g s
-carried_tells start f g (C.Refused r) = finding_of start r
-
--- Open: a match on `SttRead`, with what the reader of the page makes of each case
-abbrev pub stt_tells : (start : ℕ) → (ℕ → Finding) → SttRead → Finding
-stt_tells start f (S.Header context) = f context
-stt_tells start f (S.Refused r) = finding_of start r
-
--- Open: a match on `FrameRead`, with what the reader of the page makes of each case
-abbrev pub frame_tells : (start : ℕ) → Finding → FrameRead → Finding
-frame_tells start x F.Good = x
-frame_tells start x (F.Refused r) = finding_of start r
+-- what is made of what an IP payload carries
+-- Open: a match on `Carried`
+abbrev pub carried_tells : (Tunnel → Finding) → (Segment → Finding) → Carried → Finding
+carried_tells f g (C.Tunnel t) = f t
+carried_tells f g (C.Segment s) = g s
 
 -- wherever the IP payload begins in the packet
 pub record Table : Type 0 where
   pub ipv4 : (start : ℕ) (f : Ipv4 → Finding) (packet : List ℕ)
-      → ipv4_tells start f (ipv4_of packet)
+      → tells start f (ipv4_of packet)
       ≡ (ipv4_rows packet otherwise f (record {
         start = header_length_of packet;
         end = total_length_of packet;
@@ -197,11 +182,11 @@ pub record Table : Type 0 where
       }))
   -- a payload has at most 65,535 bytes
   pub payload : (f : Tunnel → Finding) (g : Segment → Finding) (start protocol source destination stt_port : ℕ) (payload : List ℕ) → length payload ≤ 65535
-      → carried_tells start f g (carriage_of protocol source destination stt_port payload)
+      → tells start (carried_tells f g) (carriage_of protocol source destination stt_port payload)
       ≡ (payload_rows protocol source destination stt_port payload otherwise
       cond (protocol is 17) (vxlan_rows start payload otherwise f (record { kind = 1; network = vni_of payload; start = 16 }))
       (cond (protocol is 47) (nvgre_rows start payload otherwise f (record { kind = 2; network = vsid_of payload; start = 8 }))
       (g (record { frame_length = frame_length_of payload; offset = offset_of payload; identifier = identifier_of payload; start = 4 * data_words_of payload }))))
   pub stt_frame_lem : (start : ℕ) (f : ℕ → Finding) (frame : List ℕ) → 18 ≤ length frame
-      → stt_tells start f (stt_of frame) ≡ (stt_rows frame otherwise f (context_of frame))
-  pub inner_frame : (start : ℕ) (x : Finding) (frame : List ℕ) → frame_tells start x (frame_of frame) ≡ ((bad_frame frame ⇒ 13) ∷ [] otherwise x)
+      → tells start f (stt_of frame) ≡ (stt_rows frame otherwise f (context_of frame))
+  pub inner_frame : (start : ℕ) (x : Finding) (frame : List ℕ) → tells start (λ u. x) (frame_of frame) ≡ ((bad_frame frame ⇒ 13) ∷ [] otherwise x)

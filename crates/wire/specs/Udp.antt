@@ -1,12 +1,11 @@
 -- UDP (RFC 768): what a datagram is, and what the reader answers.
-use Rattle.std.specs.Prelude.{◌≡◌, ℕ, ◌+◌, ◌^◌, ◌<◌, not, ◌⊎◌, List, [], ◌∷◌, ◌++◌, length, drop, ◌==◌, nat_lt}
+use Rattle.std.specs.Prelude.{◌≡◌, ℕ, ◌+◌, ◌^◌, ◌<◌, not, ◌⊎◌, List, [], ◌∷◌, ◌++◌, length, drop, ◌==◌, nat_lt, Result, Err}
 use Rattle.wire.specs.Bytes.{be, be_at, ◌then◌}
 use Rattle.wire.specs.Sum.{total, ones, pseudo}
 use Rattle.wire.specs.Checks.{pick, Check, ◌⇒◌, first}
 use Rattle.wire.specs.declared.refusal.Refusal.{Refusal}
 use Rattle.wire.specs.declared.refusal.Refusal.TheVariants as R
-use Rattle.wire.specs.declared.carriage.Carried.{Carried}
-use Rattle.wire.specs.declared.carriage.Carried.TheVariants as C
+use Rattle.wire.specs.declared.carriage.Tunnel.{Tunnel}
 use Rattle.wire.specs.Vxlan.{vxlan_of}
 
 unfoldable pub udp : (from to size checksum : ℕ) → List ℕ → List ℕ
@@ -41,5 +40,5 @@ udp_checks source destination s =
     ∷ []
 
 -- What is accepted is what VXLAN's reader answers to the payload.
-unfoldable pub udp_of : (source destination : ℕ) → List ℕ → Carried
-udp_of source destination s = first C.Refused (udp_checks source destination s) (vxlan_of (drop 8 s))
+unfoldable pub udp_of : (source destination : ℕ) → List ℕ → Result Tunnel Refusal
+udp_of source destination s = first Err (udp_checks source destination s) (vxlan_of (drop 8 s))

@@ -1,12 +1,10 @@
 -- VXLAN (RFC 7348, 5): what the header in front of a frame is, and what the reader answers.
-use Rattle.std.specs.Prelude.{◌≡◌, ℕ, ◌/◌, ◌%◌, ◌^◌, ◌<◌, not, List, [], ◌∷◌, length, ◌==◌, nat_lt}
+use Rattle.std.specs.Prelude.{◌≡◌, ℕ, ◌/◌, ◌%◌, ◌^◌, ◌<◌, not, List, [], ◌∷◌, length, ◌==◌, nat_lt, Result, Ok, Err}
 use Rattle.wire.specs.Bytes.{be, be_at, ◌then◌}
 use Rattle.wire.specs.Checks.{Check, ◌⇒◌, first}
 use Rattle.wire.specs.declared.refusal.Refusal.{Refusal}
 use Rattle.wire.specs.declared.refusal.Refusal.TheVariants as R
 use Rattle.wire.specs.declared.carriage.Tunnel.{Tunnel}
-use Rattle.wire.specs.declared.carriage.Carried.{Carried}
-use Rattle.wire.specs.declared.carriage.Carried.TheVariants as C
 
 -- Flags, 24 reserved bits, the VNI, 8 reserved bits, and the inner frame.
 unfoldable pub vxlan : (flags reserved vni last : ℕ) → List ℕ → List ℕ
@@ -38,5 +36,5 @@ vxlan_checks s =
 unfoldable pub vxlan_at : List ℕ → Tunnel
 vxlan_at s = record { start = 16; network = vni_at s; kind = 1 }
 
-unfoldable pub vxlan_of : List ℕ → Carried
-vxlan_of s = first C.Refused (vxlan_checks s) (C.Tunnel (vxlan_at s))
+unfoldable pub vxlan_of : List ℕ → Result Tunnel Refusal
+vxlan_of s = first Err (vxlan_checks s) (Ok (vxlan_at s))

@@ -1,5 +1,5 @@
 -- What we write (document 01, "Wrapping"), by the same functions of fields to bytes that the readers are proved against.
-use Rattle.std.specs.Prelude.{◌≡◌, ℕ, ◌+◌, ◌%◌, Bool, true, false, List, [], ◌∷◌, ◌++◌, length, take, nat_lt}
+use Rattle.std.specs.Prelude.{◌≡◌, ℕ, ◌+◌, ◌%◌, Bool, true, false, List, [], ◌∷◌, ◌++◌, length, take, nat_lt, Option, Some, None}
 use Rattle.wire.specs.Bytes.{part, wrote}
 use Rattle.wire.specs.Sum.{total, pseudo, complement}
 use Rattle.wire.specs.Checks.{Check, ◌⇒◌, first, pick}
@@ -143,7 +143,7 @@ segment_fit_checks n offset count room =
 unfoldable pub segment_fits : (n offset count room : ℕ) → Bool
 segment_fits n offset count room = first (λ _. false) (segment_fit_checks n offset count room) true
 
--- What a writer leaves: the packet at the front of the output, and its length; or else the output as it came, and 0.
-pub record Written (may : Bool) (packet old new : List ℕ) (r : ℕ) : Type 0 where
-  pub length_is : r ≡ pick may (length packet) 0
+-- What a writer leaves: the packet at the front of the output, and its length; or else the output as it came, and none.
+pub record Written (may : Bool) (packet old new : List ℕ) (r : Option ℕ) : Type 0 where
+  pub length_is : r ≡ pick may (Some (length packet)) None
   pub output_is : new ≡ pick may (wrote old packet) old

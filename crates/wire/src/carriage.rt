@@ -1,5 +1,4 @@
-// What an IP payload carries: a VXLAN or NVGRE tunnel's frame, or a segment of an STT frame. Each reader of a carriage header answers `Carried`,
-// so that a refusal goes up as it is.
+// What an IP payload carries: a VXLAN or NVGRE tunnel's frame, or a segment of an STT frame.
 ghost use Rattle.std.specs.Prelude.{◌≡◌};
 ghost use Rattle.wire.specs.Carriage.{carriage_of};
 
@@ -19,21 +18,27 @@ pub struct Tunnel {
 pub enum Carried {
     Tunnel(Tunnel),
     Segment(Segment),
-    Refused(Refusal),
 }
 
 // The reader of an IP payload, by its protocol; `port` is the one on which STT is expected.
-pub fn read(protocol: u8, source: u32, destination: u32, port: u16, s: &[u8]) -> Carried
+#[tactic(auto, using(crate::proofs::Laws::Checks::deciding), unfolding(crate::specs::Carriage::carriage_of))]
+pub fn read(
+    protocol: u8,
+    source: u32,
+    destination: u32,
+    port: u16,
+    s: &[u8],
+) -> Result<Carried, Refusal>
     ensures { result ≡ carriage_of protocol source destination port s.now }
 {
     if protocol == PROTOCOL_UDP {
-        return crate::udp::read(source, destination, s);
+        return Ok(Carried::Tunnel(crate::udp::read(source, destination, s)?));
     }
     if protocol == PROTOCOL_GRE {
-        return crate::nvgre::read(s);
+        return Ok(Carried::Tunnel(crate::nvgre::read(s)?));
     }
     if protocol == PROTOCOL_TCP {
-        return crate::segment::read(source, destination, port, s);
+        return Ok(Carried::Segment(crate::segment::read(source, destination, port, s)?));
     }
-    Carried::Refused(Refusal::Protocol)
+    Err(Refusal::Protocol)
 }

@@ -2,31 +2,20 @@
 ghost use Rattle.std.specs.Prelude.{◌≡◌};
 ghost use Rattle.wire.specs.Frame.{frame_of};
 
-use crate::be::be16;
+use crate::be::be;
 use crate::number::{FRAME_MAX, FRAME_MIN, TYPE_SERVICE_VLAN, TYPE_VLAN};
 use crate::refusal::Refusal;
 
-#[derive(Clone, Copy)]
-pub enum FrameRead {
-    Good,
-    Refused(Refusal),
-}
-
-pub fn read(s: &[u8]) -> FrameRead
+#[tactic(auto, using(crate::proofs::Laws::Checks::deciding), unfolding(crate::specs::Frame::frame_of, crate::specs::Frame::frame_checks, crate::specs::Checks::first,))]
+pub fn read(s: &[u8]) -> Result<(), Refusal>
     ensures { result ≡ frame_of s.now }
 {
-    if s.len() < FRAME_MIN {
-        return FrameRead::Refused(Refusal::FrameLength);
+    if s.len() < FRAME_MIN || FRAME_MAX < s.len() {
+        return Err(Refusal::FrameLength);
     }
-    if FRAME_MAX < s.len() {
-        return FrameRead::Refused(Refusal::FrameLength);
+    let kind = be::<2>(s, 12) as u16;
+    if kind == TYPE_VLAN || kind == TYPE_SERVICE_VLAN {
+        return Err(Refusal::FrameTag);
     }
-    let kind = be16(s, 12);
-    if kind == TYPE_VLAN {
-        return FrameRead::Refused(Refusal::FrameTag);
-    }
-    if kind == TYPE_SERVICE_VLAN {
-        return FrameRead::Refused(Refusal::FrameTag);
-    }
-    FrameRead::Good
+    Ok(())
 }

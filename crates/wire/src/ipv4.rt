@@ -2,9 +2,8 @@
 ghost use Rattle.std.specs.Prelude.{◌≡◌};
 ghost use Rattle.wire.specs.Ipv4.{ipv4_of};
 
-use crate::be::{be8, be16, be32};
-use crate::bits::{high4, low4, low14};
-use crate::number::{ALL_ONES, IPV4_HEADER};
+use crate::be::be;
+use crate::number::{ALL_ONES, IPV4_HEADER, IPV4_VERSION, IPV4_VERSION_IHL, IPV4_VERSION_IHL_MAX};
 use crate::refusal::Refusal;
 use crate::sum::sum;
 
@@ -18,45 +17,37 @@ pub struct Ipv4 {
     pub protocol: u8,
 }
 
-#[derive(Clone, Copy)]
-pub enum Ipv4Read {
-    Packet(Ipv4),
-    Refused(Refusal),
-}
-
-pub fn read(s: &[u8]) -> Ipv4Read
+#[tactic(auto, using(crate::proofs::Laws::Checks::deciding, crate::proofs::Laws::Bytes::be_one), unfolding(crate::specs::Ipv4::ipv4_of, crate::specs::Ipv4::ipv4_checks, crate::specs::Ipv4::ipv4_at, crate::specs::Checks::first,))]
+pub fn read(s: &[u8]) -> Result<Ipv4, Refusal>
     ensures { result ≡ ipv4_of s.now }
 {
     if s.len() < IPV4_HEADER {
-        return Ipv4Read::Refused(Refusal::Truncated);
+        return Err(Refusal::Truncated);
     }
-    let first = be8(s, 0);
-    if high4(first) != 4 {
-        return Ipv4Read::Refused(Refusal::Version);
+    // Version and header length by ranges of the first byte: where both are dropped alike, the compiler makes one test of them.
+    let first = s[0];
+    if first < IPV4_VERSION || IPV4_VERSION_IHL_MAX < first {
+        return Err(Refusal::Version);
     }
-    let words = low4(first) as usize;
-    if words < 5 {
-        return Ipv4Read::Refused(Refusal::HeaderLength);
+    if first < IPV4_VERSION_IHL {
+        return Err(Refusal::HeaderLength);
     }
-    let start = 4 * words;
-    let end = be16(s, 2) as usize;
-    if end < start {
-        return Ipv4Read::Refused(Refusal::TotalLength);
-    }
-    if s.len() < end {
-        return Ipv4Read::Refused(Refusal::TotalLength);
+    let start = 4 * (first % 16) as usize;
+    let end = be::<2>(s, 2) as usize;
+    if end < start || s.len() < end {
+        return Err(Refusal::TotalLength);
     }
     if sum(0, &s[..start]) != ALL_ONES {
-        return Ipv4Read::Refused(Refusal::HeaderChecksum);
+        return Err(Refusal::HeaderChecksum);
     }
-    if low14(be16(s, 6)) != 0 {
-        return Ipv4Read::Refused(Refusal::Fragment);
+    if be::<2>(s, 6) % 0x4000 != 0 {
+        return Err(Refusal::Fragment);
     }
-    Ipv4Read::Packet(Ipv4 {
+    Ok(Ipv4 {
         start: start,
         end: end,
-        source: be32(s, 12),
-        destination: be32(s, 16),
-        protocol: be8(s, 9),
+        source: be::<4>(s, 12) as u32,
+        destination: be::<4>(s, 16) as u32,
+        protocol: s[9],
     })
 }

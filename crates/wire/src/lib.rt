@@ -1,8 +1,7 @@
-// The wire formats: for each protocol what its bytes mean, a reader that answers an enum, and a writer into a lent output.
+// The wire formats: for each protocol what its bytes mean, a reader that answers a Result, and a writer into a lent output.
 #![tactic(auto)]
 
 mod be;
-mod bits;
 pub mod carriage;
 pub mod copy;
 pub mod field;

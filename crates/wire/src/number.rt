@@ -10,10 +10,8 @@ pub const PROTOCOL_GRE: u8 = 47;
 // The UDP port of VXLAN (RFC 7348, 5).
 pub const VXLAN_PORT: u16 = 4789;
 
-// VXLAN's flag I (RFC 7348, 5), and its number from the lowest bit.
+// VXLAN's flag I (RFC 7348, 5).
 pub const VXLAN_FLAG: u8 = 0x08;
-
-pub const VXLAN_FLAG_BIT: u8 = 3;
 
 // The TCP flags that we write (RFC 793, 3.1; draft-davie-stt-06, 3.2).
 pub const TCP_ACK: u8 = 0x10;
@@ -22,7 +20,9 @@ pub const TCP_PSH_ACK: u8 = 0x18;
 
 pub const TIME_TO_LIVE: u8 = 64;
 
-// The first byte of an IPv4 header (RFC 791, 3.1): version 4 and five words, as we write it; version 4 and fifteen words, the most.
+// The first byte of an IPv4 header (RFC 791, 3.1): version 4; version 4 and five words, as we write it; version 4 and fifteen words, the most.
+pub const IPV4_VERSION: u8 = 0x40;
+
 pub const IPV4_VERSION_IHL: u8 = 0x45;
 
 pub const IPV4_VERSION_IHL_MAX: u8 = 0x4F;
@@ -34,6 +34,7 @@ pub const TCP_DATA_OFFSET: u8 = 0x50;
 pub const GRE_KEY: u8 = 0x20;
 
 // The kinds of a network (document 01, "Listing and numbers").
+// As it is: numbers and no enum: the endpoint's column of them is C's, and its definitions speak of any number there (`binds`).
 pub const KIND_VXLAN: u8 = 1;
 
 pub const KIND_NVGRE: u8 = 2;

@@ -2,34 +2,34 @@
 ghost use Rattle.std.specs.Prelude.{◌≡◌};
 ghost use Rattle.wire.specs.Nvgre.{nvgre_of};
 
-use crate::be::{be8, be24};
-use crate::bits::{high6, low3};
-use crate::carriage::{Carried, Tunnel};
+use crate::be::be;
+use crate::carriage::Tunnel;
 use crate::number::{GRE_HEADER, GRE_KEY, GRE_TYPE_HIGH, GRE_TYPE_LOW, KIND_NVGRE};
 use crate::refusal::Refusal;
 
 // Of the first byte, the two lowest bits are reserved and ignored (RFC 2784, 2.3); of the others, the key's alone is set.
-pub fn read(s: &[u8]) -> Carried
+#[tactic(auto, using(crate::proofs::Laws::Checks::deciding, crate::proofs::Laws::Bytes::be_one), unfolding(crate::specs::Nvgre::nvgre_of, crate::specs::Nvgre::nvgre_checks, crate::specs::Nvgre::nvgre_at, crate::specs::Checks::first,))]
+pub fn read(s: &[u8]) -> Result<Tunnel, Refusal>
     ensures { result ≡ nvgre_of s.now }
 {
     if s.len() < GRE_HEADER {
-        return Carried::Refused(Refusal::Short);
+        return Err(Refusal::Short);
     }
-    if high6(be8(s, 0)) != GRE_KEY {
-        return Carried::Refused(Refusal::GreFlags);
+    if s[0] / 4 != GRE_KEY / 4 {
+        return Err(Refusal::GreFlags);
     }
-    if low3(be8(s, 1)) != 0 {
-        return Carried::Refused(Refusal::GreVersion);
+    if s[1] % 8 != 0 {
+        return Err(Refusal::GreVersion);
     }
-    if be8(s, 2) != GRE_TYPE_HIGH {
-        return Carried::Refused(Refusal::GreTypeHigh);
+    if s[2] != GRE_TYPE_HIGH {
+        return Err(Refusal::GreTypeHigh);
     }
-    if be8(s, 3) != GRE_TYPE_LOW {
-        return Carried::Refused(Refusal::GreTypeLow);
+    if s[3] != GRE_TYPE_LOW {
+        return Err(Refusal::GreTypeLow);
     }
-    Carried::Tunnel(Tunnel {
+    Ok(Tunnel {
         start: GRE_HEADER,
-        network: be24(s, 4),
+        network: be::<3>(s, 4) as u32,
         kind: KIND_NVGRE,
     })
 }

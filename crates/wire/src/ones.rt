@@ -1,76 +1,55 @@
 // Ones' complement addition in machine words (RFC 1071, 2): what overflows a word comes around and is added to it again.
-ghost use Rattle.std.specs.Prelude.{◌≡◌, ◌+◌, ◌^◌, ◌<◌};
-ghost use Rattle.wire.specs.Sum.{ones, end_around, swapped};
+ghost use Rattle.std.specs.Prelude.{◌≡◌, ℕ, ◌+◌, ◌^◌, ◌<◌};
+ghost use Rattle.wire.specs.Sum.{ones, end_around};
 
-use std::num::{wrapping_add_u16, wrapping_add_u32, wrapping_add_u64};
+use std::marker::Model;
 
-// A sum in 64 bits, and the carry that is still to be added to it.
-#[derive(Clone, Copy)]
+// A sum in 64 bits, and the carry that is still to be added to it: contracts see the number that both make.
+#[derive(Drop)]
 pub(crate) struct Accumulator {
     low: u64,
     carry: u64,
 }
 
-pub(crate) fn open(n: u64) -> Accumulator
-    ensures carry_bound { result.low + result.carry < 2 ^ 64 }
-    ensures carry_value { result.low + result.carry ≡ n }
-{
-    Accumulator { low: n, carry: 0 }
+impl Model for Accumulator {
+    ghost Value = { ℕ };
+
+    ghost view = { λ acc. acc.low + acc.carry };
+
+    ghost invariant = { λ acc. acc.low + acc.carry < 2 ^ 64 };
 }
 
-pub(crate) fn close(acc: Accumulator) -> u64
-    requires { acc.low + acc.carry < 2 ^ 64 }
-    ensures { result ≡ acc.low + acc.carry }
-{
-    acc.low + acc.carry
-}
+impl Accumulator {
+    pub(crate) fn open(n: u64) -> Accumulator
+        ensures { result ≡ n }
+    {
+        Accumulator { low: n, carry: 0 }
+    }
 
-// At most one of the two additions overflows. The compiler makes one add-with-carry of both if `|` joins their carries, and of no other form tried.
-pub(crate) fn add(acc: Accumulator, word: u64) -> Accumulator
-    requires { acc.low + acc.carry < 2 ^ 64 }
-    ensures carry_bound { result.low + result.carry < 2 ^ 64 }
-    ensures carry_value { result.low + result.carry ≡ end_around (2 ^ 64) (acc.low + acc.carry + word) }
-{
-    let first = wrapping_add_u64(acc.low, word);
-    let low = wrapping_add_u64(first, acc.carry);
-    Accumulator {
-        low: low,
-        carry: ((first < word) as u64) | ((low < first) as u64),
+    // At most one of the two additions overflows. The compiler makes one add-with-carry of both if `|` joins their carries, and of no other form tried.
+    pub(crate) fn add(self, word: u64) -> Accumulator
+        ensures { result ≡ end_around (2 ^ 64) (self + word) }
+    {
+        let first = self.low.wrapping_add(word);
+        let low = first.wrapping_add(self.carry);
+        Accumulator {
+            low,
+            carry: ((first < word) as u64) | ((low < first) as u64),
+        }
+    }
+
+    pub(crate) fn close(self) -> u64
+        ensures { result ≡ self }
+    {
+        self.low + self.carry
     }
 }
 
-pub(crate) fn around64(a: u64, b: u64) -> u64
-    ensures { result ≡ end_around (2 ^ 64) (a + b) }
-{
-    let low = wrapping_add_u64(a, b);
-    low + (low < a) as u64
-}
-
-fn around32(a: u32, b: u32) -> u32
-    ensures { result ≡ end_around (2 ^ 32) (a + b) }
-{
-    let low = wrapping_add_u32(a, b);
-    low + (low < a) as u32
-}
-
-fn around16(a: u16, b: u16) -> u16
-    ensures { result ≡ end_around (2 ^ 16) (a + b) }
-{
-    let low = wrapping_add_u16(a, b);
-    low + (low < a) as u16
-}
-
-// n folded to 16 bits by end-around carries: its halves are added, and the halves of that.
+// n folded to 16 bits by end-around carries: its halves are added, and the halves of that. A number and itself with its halves exchanged add up to the sum of
+// the halves in the upper half, with the carry of the lower one.
 pub(crate) fn fold(n: u64) -> u16
     ensures { result ≡ ones n }
 {
-    let x = around32((n % 0x100000000) as u32, (n / 0x100000000) as u32);
-    around16((x % 0x10000) as u16, (x / 0x10000) as u16)
-}
-
-// A word with its two bytes exchanged.
-pub(crate) fn swap(x: u16) -> u16
-    ensures { result ≡ swapped x }
-{
-    x % 256 * 256 + x / 256
+    let x = (n.wrapping_add(n.rotate_left(32)) >> 32) as u32;
+    (x.wrapping_add(x.rotate_left(16)) >> 16) as u16
 }

@@ -1,6 +1,6 @@
 // Bytes laid into a lent output; nothing else of it changes.
 ghost use Rattle.std.specs.Prelude.{◌≡◌, ◌+◌, ◌≤◌, length};
-ghost use Rattle.wire.specs.Bytes.{laid, part};
+ghost use Rattle.wire.specs.Bytes.{laid};
 
 use crate::copy::copy;
 
@@ -10,12 +10,4 @@ pub(crate) fn put(out: &mut [u8], at: usize, src: &[u8])
     ensures { out.new ≡ laid out.old at src.now }
 {
     copy(src, &mut out[at..]);
-}
-
-// Those of its bytes from a up to e.
-pub(crate) fn put_part(out: &mut [u8], at: usize, src: &[u8], a: usize, e: usize)
-    requires { (a ≤ e) × (e ≤ length src.now) × (at + e ≤ length out.old + a) }
-    ensures { out.new ≡ laid out.old at (part src.now a e) }
-{
-    put(out, at, &src[a..e]);
 }

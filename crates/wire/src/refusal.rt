@@ -34,65 +34,43 @@ pub enum Refusal {
     FrameTag,
 }
 
-// The number of the documents' table.
-pub fn code(r: Refusal) -> u8
-    ensures { result ≡ code_of r }
-{
-    match r {
-        Refusal::Truncated => 3,
-        Refusal::Version => 3,
-        Refusal::HeaderLength => 3,
-        Refusal::TotalLength => 3,
-        Refusal::HeaderChecksum => 4,
-        Refusal::Fragment => 5,
-        Refusal::Protocol => 8,
-        Refusal::Port => 8,
-        Refusal::Short => 9,
-        Refusal::UdpLength => 9,
-        Refusal::TcpLength => 9,
-        Refusal::DataOffset => 9,
-        Refusal::UdpChecksum => 10,
-        Refusal::TcpChecksum => 10,
-        Refusal::VxlanFlag => 25,
-        Refusal::GreFlags => 26,
-        Refusal::GreVersion => 26,
-        Refusal::GreTypeHigh => 27,
-        Refusal::GreTypeLow => 27,
-        Refusal::SttVersion => 28,
-        Refusal::SttFlags => 29,
-        Refusal::FrameLength => 13,
-        Refusal::FrameTag => 13,
+impl Refusal {
+    // The number of the documents' table.
+    #[tactic(auto, unfolding(crate::specs::Refusal::finding_of))]
+    pub fn code(self) -> u8
+        ensures { result ≡ code_of self }
+    {
+        match self {
+            Refusal::Truncated | Refusal::Version | Refusal::HeaderLength | Refusal::TotalLength =>
+                3,
+            Refusal::HeaderChecksum => 4,
+            Refusal::Fragment => 5,
+            Refusal::Protocol | Refusal::Port => 8,
+            Refusal::Short | Refusal::UdpLength | Refusal::TcpLength | Refusal::DataOffset => 9,
+            Refusal::UdpChecksum | Refusal::TcpChecksum => 10,
+            Refusal::VxlanFlag => 25,
+            Refusal::GreFlags | Refusal::GreVersion => 26,
+            Refusal::GreTypeHigh | Refusal::GreTypeLow => 27,
+            Refusal::SttVersion => 28,
+            Refusal::SttFlags => 29,
+            Refusal::FrameLength | Refusal::FrameTag => 13,
+        }
     }
-}
 
-// The offset of the first offending byte: in the packet, whose IP payload begins at `start`, or in the STT frame. 0 where the answer names no byte.
-pub fn offset(start: u8, r: Refusal) -> u16
-    ensures { result ≡ (finding_of start r).offset }
-{
-    let at = start as u16;
-    match r {
-        Refusal::Truncated => 0,
-        Refusal::Version => 0,
-        Refusal::HeaderLength => 0,
-        Refusal::TotalLength => 0,
-        Refusal::HeaderChecksum => 0,
-        Refusal::Fragment => 0,
-        Refusal::Protocol => 0,
-        Refusal::Port => 0,
-        Refusal::Short => 0,
-        Refusal::UdpLength => 0,
-        Refusal::TcpLength => 0,
-        Refusal::DataOffset => 0,
-        Refusal::UdpChecksum => 0,
-        Refusal::TcpChecksum => 0,
-        Refusal::VxlanFlag => at + 8,
-        Refusal::GreFlags => at,
-        Refusal::GreVersion => at + 1,
-        Refusal::GreTypeHigh => at + 2,
-        Refusal::GreTypeLow => at + 3,
-        Refusal::SttVersion => 0,
-        Refusal::SttFlags => 1,
-        Refusal::FrameLength => 0,
-        Refusal::FrameTag => 0,
+    // The offset of the first offending byte: in the packet, whose IP payload begins at `start`, or in the STT frame. 0 where the answer names no byte.
+    #[tactic(auto, unfolding(crate::specs::Refusal::finding_of))]
+    pub fn offset(self, start: u8) -> u16
+        ensures { result ≡ (finding_of start self).offset }
+    {
+        let at = start as u16;
+        match self {
+            Refusal::VxlanFlag => at + 8,
+            Refusal::GreFlags => at,
+            Refusal::GreVersion => at + 1,
+            Refusal::GreTypeHigh => at + 2,
+            Refusal::GreTypeLow => at + 3,
+            Refusal::SttFlags => 1,
+            _ => 0,
+        }
     }
 }

@@ -2,9 +2,7 @@
 ghost use Rattle.std.specs.Prelude.{◌≡◌};
 ghost use Rattle.wire.specs.Segment.{segment_of};
 
-use crate::be::{be8, be16, be32};
-use crate::bits::high4;
-use crate::carriage::Carried;
+use crate::be::be;
 use crate::number::{ALL_ONES, PAYLOAD_MAX, PROTOCOL_TCP, TCP_HEADER};
 use crate::refusal::Refusal;
 use crate::sum::sum_behind;
@@ -20,33 +18,31 @@ pub struct Segment {
 
 // The port is asked between the causes of refusal 9, and the checksum comes last. A payload that the pseudo header's 16-bit length cannot
 // tell is no segment; no IPv4 packet carries one.
-pub fn read(source: u32, destination: u32, port: u16, s: &[u8]) -> Carried
+#[tactic(auto, using(crate::proofs::Laws::Checks::deciding, crate::proofs::Laws::Bytes::be_one), unfolding(crate::specs::Segment::segment_of, crate::specs::Segment::segment_checks, crate::specs::Segment::segment_at, crate::specs::Checks::first,))]
+pub fn read(source: u32, destination: u32, port: u16, s: &[u8]) -> Result<Segment, Refusal>
     ensures { result ≡ segment_of source destination port s.now }
 {
     if s.len() < TCP_HEADER {
-        return Carried::Refused(Refusal::Short);
+        return Err(Refusal::Short);
     }
-    if be16(s, 2) != port {
-        return Carried::Refused(Refusal::Port);
+    if be::<2>(s, 2) as u16 != port {
+        return Err(Refusal::Port);
     }
     if PAYLOAD_MAX < s.len() {
-        return Carried::Refused(Refusal::TcpLength);
+        return Err(Refusal::TcpLength);
     }
-    let words = high4(be8(s, 12)) as usize;
-    if words < 5 {
-        return Carried::Refused(Refusal::DataOffset);
-    }
+    let words = (s[12] / 16) as usize;
     let start = 4 * words;
-    if s.len() < start {
-        return Carried::Refused(Refusal::DataOffset);
+    if words < 5 || s.len() < start {
+        return Err(Refusal::DataOffset);
     }
     if sum_behind(source, destination, PROTOCOL_TCP, s) != ALL_ONES {
-        return Carried::Refused(Refusal::TcpChecksum);
+        return Err(Refusal::TcpChecksum);
     }
-    Carried::Segment(Segment {
+    Ok(Segment {
         start: start,
-        identifier: be32(s, 8),
-        frame_length: be16(s, 4),
-        offset: be16(s, 6),
+        identifier: be::<4>(s, 8) as u32,
+        frame_length: be::<2>(s, 4) as u16,
+        offset: be::<2>(s, 6) as u16,
     })
 }

@@ -1,10 +1,24 @@
 // The ones' complement sum (RFC 1071).
-ghost use Rattle.std.specs.Prelude.{◌≡◌, ◌+◌, ◌≤◌, ◌++◌, length};
+ghost use Rattle.std.specs.Prelude.{◌≡◌, ◌+◌, ◌<◌, ◌≤◌, ◌++◌, length};
 ghost use Rattle.wire.specs.Sum.{total, ones, pseudo};
 
-use crate::be::{be8, be16, be32};
-use crate::ones::{fold, swap};
+use crate::be::be;
+use crate::ones::fold;
 use crate::wide::wide;
+
+// The words of the last bytes, fewer than four: behind an odd one stands a byte 0.
+fn tail(s: &[u8]) -> u64
+    requires { length s.now < 4 }
+    ensures value { result ≡ total s.now }
+    ensures bound { result < 131072 }
+{
+    match s {
+        [] => 0,
+        [a] => 256 * *a as u64,
+        [a, b] => 256 * *a as u64 + *b as u64,
+        [a, b, c, ..] => 256 * (*a as u64 + *c as u64) + *b as u64,
+    }
+}
 
 // The sum of a number and the 16-bit words of s, for headers: two words at a step, in the wire's own byte order, so that the sum of a header that has just been
 // put together needs no byte exchanged. The contract is the folded sum, so that callers do not know the loop.
@@ -12,21 +26,12 @@ pub(crate) fn sum(first: u64, s: &[u8]) -> u16
     requires { (first ≤ 1048575) × (length s.now ≤ 65535) }
     ensures { result ≡ ones (first + total s.now) }
 {
-    let end = s.len() - s.len() % 4;
+    let words = s.len() / 4;
     let mut acc = first;
-    let mut i: usize = 0;
-    while i < end {
-        acc += be32(s, i) as u64;
-        i += 4;
+    for i in 0..words {
+        acc += be::<4>(s, 4 * i);
     }
-    while i + 1 < s.len() {
-        acc += be16(s, i) as u64;
-        i += 2;
-    }
-    if i < s.len() {
-        return fold(acc + 256 * (be8(s, i) as u64));
-    }
-    fold(acc)
+    fold(acc + tail(&s[4 * words..]))
 }
 
 // The sum of s with the pseudo header in front of it (RFC 768; RFC 793, 3.1). The bytes of s are added in the other byte order; the pseudo header joins them
@@ -36,5 +41,5 @@ pub(crate) fn sum_behind(source: u32, destination: u32, protocol: u8, s: &[u8]) 
     ensures { result ≡ ones (total (pseudo source destination protocol (length s.now) ++ s.now)) }
 {
     let first = source as u64 + destination as u64 + protocol as u64 + s.len() as u64;
-    swap(fold(wide(256 * first, s)))
+    fold(wide(256 * first, s)).swap_bytes()
 }

@@ -1,137 +1,70 @@
 // The bytes of a range added up as little-endian words of 64 bits, the processor's own: a sum of words whose bytes are exchanged is the sum with its bytes
 // exchanged (RFC 1071, 2B), and words of any even number of bytes may be added (2C). Each contract says that what is added, with the rest that is still to
 // be added, folds to the same before and after.
-ghost use Rattle.std.specs.Prelude.{◌≡◌, ◌+◌, ◌^◌, ◌<◌, ◌≤◌, length};
+ghost use Rattle.std.specs.Prelude.{◌≡◌, ◌+◌, ◌*◌, ◌%◌, ◌<◌, ◌≤◌, length};
 ghost use Rattle.wire.specs.Sum.{with_rest, blocks};
 
-use crate::le::{le8, le16, le32, le64};
-use crate::ones::{Accumulator, add, around64, close, open};
+use crate::le::le;
+use crate::ones::Accumulator;
 
-// One word, then two, four and eight of them: a chain in which each addition takes the carry of the one before.
-fn word(acc: Accumulator, s: &[u8], at: usize) -> Accumulator
-    requires { (acc.low + acc.carry < 2 ^ 64) × (at + 8 ≤ length s.now) }
-    ensures carry_bound { result.low + result.carry < 2 ^ 64 }
-    ensures at_value { with_rest (result.low + result.carry) s.now (at + 8) ≡ with_rest (acc.low + acc.carry) s.now at }
+// SIZE bytes by words of 8: a chain in which each addition takes the carry of the one before. As a call, 64 bytes would take nine instructions more.
+#[inline(always)]
+fn words<const SIZE: usize>(acc: Accumulator, s: &[u8], at: usize) -> Accumulator
+    requires { (SIZE % 8 ≡ 0) × (at + SIZE ≤ length s.now) }
+    ensures { with_rest result s.now (at + SIZE) ≡ with_rest acc s.now at }
 {
-    add(acc, le64(s, at))
-}
-
-fn two(acc: Accumulator, s: &[u8], at: usize) -> Accumulator
-    requires { (acc.low + acc.carry < 2 ^ 64) × (at + 16 ≤ length s.now) }
-    ensures carry_bound { result.low + result.carry < 2 ^ 64 }
-    ensures at_value { with_rest (result.low + result.carry) s.now (at + 16) ≡ with_rest (acc.low + acc.carry) s.now at }
-{
-    word(word(acc, s, at), s, at + 8)
-}
-
-fn four(acc: Accumulator, s: &[u8], at: usize) -> Accumulator
-    requires { (acc.low + acc.carry < 2 ^ 64) × (at + 32 ≤ length s.now) }
-    ensures carry_bound { result.low + result.carry < 2 ^ 64 }
-    ensures at_value { with_rest (result.low + result.carry) s.now (at + 32) ≡ with_rest (acc.low + acc.carry) s.now at }
-{
-    two(two(acc, s, at), s, at + 16)
-}
-
-fn eight(acc: Accumulator, s: &[u8], at: usize) -> Accumulator
-    requires { (acc.low + acc.carry < 2 ^ 64) × (at + 64 ≤ length s.now) }
-    ensures carry_bound { result.low + result.carry < 2 ^ 64 }
-    ensures at_value { with_rest (result.low + result.carry) s.now (at + 64) ≡ with_rest (acc.low + acc.carry) s.now at }
-{
-    four(four(acc, s, at), s, at + 32)
+    let mut sum = acc;
+    for k in 0..SIZE / 8 {
+        sum = sum.add(le::<8>(s, at + 8 * k));
+    }
+    sum
 }
 
 // Blocks of 128 bytes, in two sums, so that neither chain waits for the other.
-fn by128(first: u64, s: &[u8]) -> u64
+fn rows(first: u64, s: &[u8]) -> u64
     ensures { with_rest result s.now (blocks 128 s.now) ≡ with_rest first s.now 0 }
 {
-    let end = s.len() - s.len() % 128;
     let mut a = first;
     let mut b: u64 = 0;
-    let mut i: usize = 0;
-    while i < end {
-        a = close(eight(open(a), s, i));
-        b = close(eight(open(b), s, i + 64));
-        i += 128;
+    for i in 0..s.len() / 128 {
+        a = words::<64>(Accumulator::open(a), s, 128 * i).close();
+        b = words::<64>(Accumulator::open(b), s, 128 * i + 64).close();
     }
-    around64(a, b)
+    Accumulator::open(a).add(b).close()
 }
 
-// What is left then, by the binary digits of its length: 64 bytes if there are as many, then 32, and so on down to an odd last byte.
-fn by64(acc: u64, s: &[u8]) -> u64
-    ensures { with_rest result s.now (blocks 64 s.now) ≡ with_rest acc s.now (blocks 128 s.now) }
+// What is left then, by the binary digits of its length: 64 bytes if there are as many, then 32, and so on down to two.
+fn digit<const SIZE: usize>(acc: u64, s: &[u8]) -> u64
+    requires { (0 < SIZE) × (SIZE ≤ 64) × (SIZE % 2 ≡ 0) × (8 ≤ SIZE → SIZE % 8 ≡ 0) }
+    ensures { with_rest result s.now (blocks SIZE s.now) ≡ with_rest acc s.now (blocks (2 * SIZE) s.now) }
 {
-    let n = s.len();
-    if n % 128 < 64 {
+    let left = s.len() % (2 * SIZE);
+    if left < SIZE {
         return acc;
     }
-    close(eight(open(acc), s, n - n % 128))
-}
-
-fn by32(acc: u64, s: &[u8]) -> u64
-    ensures { with_rest result s.now (blocks 32 s.now) ≡ with_rest acc s.now (blocks 64 s.now) }
-{
-    let n = s.len();
-    if n % 64 < 32 {
-        return acc;
+    let at = s.len() - left;
+    if SIZE < 8 {
+        return Accumulator::open(le::<SIZE>(s, at)).add(acc).close();
     }
-    close(four(open(acc), s, n - n % 64))
+    words::<SIZE>(Accumulator::open(acc), s, at).close()
 }
 
-fn by16(acc: u64, s: &[u8]) -> u64
-    ensures { with_rest result s.now (blocks 16 s.now) ≡ with_rest acc s.now (blocks 32 s.now) }
-{
-    let n = s.len();
-    if n % 32 < 16 {
-        return acc;
-    }
-    close(two(open(acc), s, n - n % 32))
-}
-
-fn by8(acc: u64, s: &[u8]) -> u64
-    ensures { with_rest result s.now (blocks 8 s.now) ≡ with_rest acc s.now (blocks 16 s.now) }
-{
-    let n = s.len();
-    if n % 16 < 8 {
-        return acc;
-    }
-    around64(acc, le64(s, n - n % 16))
-}
-
-fn by4(acc: u64, s: &[u8]) -> u64
-    ensures { with_rest result s.now (blocks 4 s.now) ≡ with_rest acc s.now (blocks 8 s.now) }
-{
-    let n = s.len();
-    if n % 8 < 4 {
-        return acc;
-    }
-    around64(acc, le32(s, n - n % 8) as u64)
-}
-
-fn by2(acc: u64, s: &[u8]) -> u64
-    ensures { with_rest result s.now (blocks 2 s.now) ≡ with_rest acc s.now (blocks 4 s.now) }
-{
-    let n = s.len();
-    if n % 4 < 2 {
-        return acc;
-    }
-    around64(acc, le16(s, n - n % 4) as u64)
-}
-
-fn by1(acc: u64, s: &[u8]) -> u64
+// An odd last byte.
+fn odd(acc: u64, s: &[u8]) -> u64
     ensures { with_rest result s.now (blocks 1 s.now) ≡ with_rest acc s.now (blocks 2 s.now) }
 {
-    let n = s.len();
-    if n % 2 < 1 {
+    if s.len() % 2 == 0 {
         return acc;
     }
-    around64(acc, le8(s, n - n % 2) as u64)
+    let last = s[s.len() - 1];
+    Accumulator::open(acc).add(last as u64).close()
 }
 
 // A number that folds to what the first and all the bytes do.
 pub(crate) fn wide(first: u64, s: &[u8]) -> u64
     ensures { with_rest result s.now (blocks 1 s.now) ≡ with_rest first s.now 0 }
 {
-    let rows = by64(by128(first, s), s);
-    let words = by8(by16(by32(rows, s), s), s);
-    by1(by2(by4(words, s), s), s)
+    let blocks = digit::<32>(digit::<64>(rows(first, s), s), s);
+    let words = digit::<8>(digit::<16>(blocks, s), s);
+    odd(digit::<2>(digit::<4>(words, s), s), s)
 }

@@ -112,7 +112,8 @@ pub fn names(code: &str, name: &str) -> bool {
     code.match_indices(name).any(|(at, _)| {
         let (before, behind) = (&code[..at], code[at + name.len()..].trim_start());
         let whole = !before.ends_with(is_letter) && !code[at + name.len()..].starts_with(is_letter);
-        let own = !before.ends_with("::") && !before.ends_with('.');
+        let is_field = before.ends_with('.') && !before.ends_with("..");
+        let own = !before.ends_with("::") && !is_field;
         let is_type = name.starts_with(char::is_uppercase);
         whole && own && (is_type || behind.starts_with("::") || behind.starts_with('('))
     })
@@ -160,10 +161,14 @@ fn clause_ranges(text: &str) -> Vec<Range<usize>> {
     ranges
 }
 
-/// Where the brace opens, behind a star and a clause's name if it has them.
+/// Where the brace opens, behind a star and a clause's name if it has them, or a ghost member's and its `=`.
 fn opening(text: &str) -> Option<usize> {
     let before = &text[..text.find('{')?];
-    let name = before.trim_start_matches('*').trim().trim_end_matches(':');
+    let name = before
+        .trim_start_matches('*')
+        .trim()
+        .trim_end_matches([':', '='])
+        .trim_end();
     let is_name = name.chars().all(|c| c.is_alphanumeric() || c == '_');
     is_name.then_some(before.len())
 }
@@ -225,10 +230,17 @@ mod tests {
     }
 
     #[test]
+    fn ghost_members() {
+        let kept = clauses("impl From<A> for B {\n    ghost from_gives = { λ a b. b ≡ some a };\n\n    fn from(a: A) -> B {\n        none\n    }\n}\n");
+        assert!(kept.contains("some") && !kept.contains("none"));
+    }
+
+    #[test]
     fn names_of_the_code() {
         let code = code(FILE);
         assert!(names(&code, "Ipv4") && names(&code, "R"));
         assert!(!names(&code, "slot") && !names(&code, "least") && !names(&code, "min"));
+        assert!(names("0..MOST", "MOST") && !names("x.MOST", "MOST"));
         assert!(
             names("slot::of(x)", "slot")
                 && names("least (1)", "least")

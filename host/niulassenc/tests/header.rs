@@ -209,22 +209,28 @@ fn the_same_functions_and_structs() {
 }
 
 /// The programs in Rattle print the same text for each code, and for a number
-/// that is no code.
+/// that is no code: their table has the texts in the order of the numbers.
 #[test]
 fn programs_and_crate_say_the_same() {
     let folder = Path::new(env!("CARGO_MANIFEST_DIR"));
-    let path = folder.join("../../crates/program/src/print.rt");
+    let path = folder.join("../../crates/program/src/answer.rt");
     let source = std::fs::read_to_string(path).expect("there");
+    let between = |begin: &str, end: &str| {
+        let (_, rest) = source.split_once(begin).expect("begins");
+        rest.split_once(end).expect("ends").0
+    };
+    let unknown = between("const UNKNOWN: &str = \"", "\"");
+    let table = between("const TEXTS: [&str; ", "];");
+    assert_eq!(unknown, text(u8::MAX));
     let mut codes = Vec::new();
-    for line in source.lines() {
-        let Some((code, rest)) = line.trim().split_once(" => text(b\"") else {
+    for (code, line) in (0..).zip(table.lines().skip(1)) {
+        let entry = line.trim().trim_end_matches(',');
+        if entry == "UNKNOWN" {
             continue;
-        };
-        let said = rest.strip_suffix("\"),").expect("a text in one line");
-        codes.extend(code.parse::<u8>());
-        assert_eq!(said, text(code.parse().unwrap_or(u8::MAX)), "{code}");
+        }
+        assert_eq!(entry, format!("{:?}", text(code)), "{code}");
+        codes.push(code);
     }
-    codes.sort_unstable(); // the programs have them by what they are about
     let refusals = Refusal::ALL.iter().map(|refusal| refusal.number());
     let all: Vec<u8> = [0, 1].into_iter().chain(refusals).collect();
     assert_eq!(codes, all);

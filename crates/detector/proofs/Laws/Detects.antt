@@ -9,15 +9,13 @@ use Rattle.std.proofs.lemmas.List.{length-map, get_or_at, set_at}
 use Rattle.std.proofs.Math.Seq.{append_snoc}
 use borrow.Author.Tests.{ltb-true, ltb-false, lt-ltb, le-ltb, eqb-true, eqb-false, eq-eqb}
 use borrow.Table.Steps.{cases}
-use Rattle.lookup.specs.Search.{lowest}
 use Rattle.lookup.proofs.Laws.Cases.{case_o, either, clash, and_l, and_r, or_cases, or_true-l, or_true_r}
 use Rattle.lookup.proofs.Laws.Search.{lowest-some, lowest-none}
-use Rattle.detector.specs.Detector.{empty, kept_of, is_entry, judged, with_entry, observe_of}
+use Rattle.detector.specs.Detector.{empty, kept_of, is_entry, entry_for, judged, with_entry, ObserveResult, observe_of}
 use Rattle.detector.specs.Detects.{Call, left, answered, same, shown, entries, entry, Lists, new, known, duplicate, full, Told, column, Holds, Detects}
 use Rattle.detector.proofs.Laws.Observe.{kept-all, is_entry_lem, entry_is, listed_is, full_is, new_is, judged-known, judged-duplicate}
 use Rattle.detector.specs.declared.detector.Detector.{Detector}
 use Rattle.detector.specs.declared.observe.Observation.{Observation}
-use Rattle.detector.specs.declared.observe.ObserveResult.{ObserveResult}
 
 -- ---- a column: one of its numbers, and one more
 
@@ -187,14 +185,16 @@ module _ (l : List Call) (d : Detector) (w : Holds l d) (c : Call) where
       record { below = h; tenant = sym (tenant_at i h) ∙ q.1; address = sym (address-at i h) ∙ q.0 }
 
   module _ (small : length l ≤ 128) where
-    found_lists : (i : ℕ) → lowest test (kept_of d.count) ≡ some i → Lists l c i
+    found_lists : (i : ℕ) → entry_for d c.tenant c.address ≡ some i → Lists l c i
+    unfolding entry_for
     found_lists i e =
         let v = lowest-some test (kept_of d.count) i e in
         let h : i < kept_of d.count = v.below in
         let n : d.count ≡ length l = w.count in
         passes_lists i (omega (arith, kept-all d.count (omega arith))) v.passes
 
-    nothing_lists : lowest test (kept_of d.count) ≡ none → (i : ℕ) → Lists l c i → ⊥
+    nothing_lists : entry_for d c.tenant c.address ≡ none → (i : ℕ) → Lists l c i → ⊥
+    unfolding entry_for
     nothing_lists e i v =
         let h : i < length l = v.below in
         let n : d.count ≡ length l = w.count in
@@ -300,7 +300,7 @@ module _ (before : List Call) (k : Kept before (entries before) (left before)) (
 
   goes_on_lem : Stepped before c
   goes_on_lem =
-      case_o (lowest (test l d k.holds c) (kept_of d.count))
+      case_o (entry_for d c.tenant c.address)
       (λ nothing.
       let none_has = nothing_lists l d k.holds c k.small nothing in
       let small : length l ≤ 128 = k.small in
@@ -346,7 +346,7 @@ keeps (c ∷ before) = (goes_on_lem before (keeps before) c).kept
 -- a call that is not answered new changes nothing
 unchanged_by : (d : Detector) (tenant peer address : ℕ) → (observe_of d tenant peer address).answer ≢ new → (observe_of d tenant peer address).detector ≡ d
 unchanged_by d tenant peer address ne =
-    case_o (lowest (is_entry d.addresses d.tenants tenant address) (kept_of d.count))
+    case_o (entry_for d tenant address)
     (λ nothing.
     cases (ltb d.count 128)
     (λ q. absurd (ne (ap (λ (x : ObserveResult). x.answer) (new_is d tenant peer address nothing (ltb-true d.count 128 q)))))
@@ -356,7 +356,7 @@ unchanged_by d tenant peer address ne =
 -- and one that keeps 128 is not answered new
 full_not_new : (d : Detector) (tenant peer address : ℕ) → 128 ≤ d.count → (observe_of d tenant peer address).answer ≢ new
 full_not_new d tenant peer address l a =
-    case_o (lowest (is_entry d.addresses d.tenants tenant address) (kept_of d.count))
+    case_o (entry_for d tenant address)
     (λ nothing. apart _ new (λ z. omega arith) (sym (ap (λ (x : ObserveResult). x.answer) (full_is d tenant peer address nothing l)) ∙ a))
     (λ i found.
     judged_not_new (get_or d.peers i 0) peer (sym (ap (λ (x : ObserveResult). x.answer) (listed_is d tenant peer address i found)) ∙ a))

@@ -1,34 +1,20 @@
 -- Observing, as the proofs of the code cite it.
-use Rattle.std.specs.Prelude.{◌≡◌, refl, true, false, List, ℕ, ◌+◌, ◌<◌, ◌≤◌, get_or, set, ltb}
-use Rattle.std.proofs.Common.{sym, ap, arith}
-use Rattle.std.proofs.Math.Bool.{Bool}
-use Rattle.std.proofs.Math.Option.{Option, none, some}
-use Rattle.std.proofs.Math.Dec.{eqb}
-use borrow.Table.Steps.{cases}
-use borrow.Author.Tests.{ltb-true, ltb-false, eqb-true, eq-eqb, ne_eqb, le-leb, lt-leb}
-use Rattle.lookup.proofs.Laws.Cases.{clash, and_l, and_r}
-use Rattle.lookup.specs.Search.{lowest}
-use Rattle.lookup.proofs.Laws.Search.{lowest_is, lowest_not, lowest-some}
-use Rattle.detector.specs.Detector.{most_entries, plain_of, naming, detector_of, kept_of, is_entry, found_of, judged, with_entry, entry_for, given}
-use Rattle.detector.specs.Detector.{observe_of}
+use Rattle.std.specs.Prelude.{◌≡◌, Bool, true, List, ℕ, ◌<◌, ◌≤◌, length, get_or, take, eqb, position}
+use Rattle.std.proofs.Common.{ap, ◌∙◌, arith}
+use Rattle.std.proofs.Math.Option as maybe
+use Rattle.std.proofs.lemmas.List.{get_or-take, length-take}
+use Rattle.std.proofs.lemmas.Slice.Zip.{length-zip, get_or-zip}
+use borrow.Author.Tests.{eqb-true, eq-eqb, ne_eqb, le-leb, lt-leb}
+use Rattle.lookup.proofs.Laws.Cases.{and_l, and_r}
+use Rattle.lookup.specs.Search.{lowest, found_of}
+use Rattle.lookup.proofs.Laws.Search.{lowest-some, position_is}
+use Rattle.detector.specs.Detector.{most_entries, observation_of, kept_of, is_entry, pairs_of, has, entry_for, judged, with_entry, given, observe_of}
 use Rattle.detector.specs.declared.detector.Detector.{Detector}
-use Rattle.detector.specs.declared.observe.Lookup.{Lookup}
-use Rattle.detector.specs.declared.observe.Lookup.TheVariants as F
-use Rattle.detector.specs.declared.observe.Observation.{Observation}
-use Rattle.detector.specs.declared.observe.ObserveResult.{ObserveResult}
+use Rattle.detector.specs.declared.observe.Observed.TheVariants as O
 
--- ---- the test, as the code makes it
+-- ---- the test
 
 module _ (addresses tenants : List ℕ) (tenant address i : ℕ) where
-  pub other-address : (get_or addresses i 0 ≡ address → ⊥) → is_entry addresses tenants tenant address i ≡ false
-  unfolding is_entry
-  other-address d = rw (ne_eqb (get_or addresses i 0) address d)
-
-  -- with this address, its tenant decides
-  pub by_tenant : get_or addresses i 0 ≡ address → eqb (get_or tenants i 0) tenant ≡ is_entry addresses tenants tenant address i
-  unfolding is_entry
-  by_tenant e = rw (eq-eqb (get_or addresses i 0) address e)
-
   pub is_entry_lem : get_or addresses i 0 ≡ address → get_or tenants i 0 ≡ tenant → is_entry addresses tenants tenant address i ≡ true
   unfolding is_entry
   is_entry_lem a t = rw (eq-eqb (get_or addresses i 0) address a) (eq-eqb (get_or tenants i 0) tenant t)
@@ -42,98 +28,65 @@ module _ (addresses tenants : List ℕ) (tenant address i : ℕ) where
 
 -- ---- how many are looked at
 
-pub kept_few : (count : ℕ) → kept_of count ≤ most_entries
-unfolding kept_of
-kept_few count = cases (ltb count most_entries) (λ q. rw q (omega (arith, ltb-true count most_entries q))) (λ q. rw q (omega arith))
-
 pub kept-all : (count : ℕ) → count ≤ most_entries → kept_of count ≡ count
-unfolding kept_of
-kept-all count l = cases (ltb count most_entries) (λ q. rw q) (λ q. rw q (omega (arith, ltb-false count most_entries q)))
+kept-all count l = omega arith
 
--- ---- the search: nothing below i passes
+-- ---- the search
 
-module _ (test : ℕ → Bool) where
-  pub found_at : (n i : ℕ) → i < n → ((j : ℕ) → j < i → test j ≡ false) → test i ≡ true → F.At i ≡ found_of (lowest test n)
-  found_at n i l h e = sym (ap found_of (lowest_is test n i (record { below = l; passes = e; least = h })))
+module _ (d : Detector) (tenant address : ℕ) where
+  has_is : (i : ℕ) → kept_of d.count ≤ length d.addresses → kept_of d.count ≤ length d.tenants → i < length (pairs_of d)
+      → has tenant address (get_or (pairs_of d) i (0, 0)) ≡ is_entry d.addresses d.tenants tenant address i
+  unfolding is_entry
+  has_is i a t h =
+      let n : ℕ = kept_of d.count in
+      let l : i < n = omega (arith, length-zip (take n d.addresses) (take n d.tenants), length-take n d.addresses) in
+      rw (
+        get_or-zip (take n d.addresses) (take n d.tenants) i (0, 0) (omega (arith, length-take n d.addresses)) (omega (arith, length-take n d.tenants)),
+        get_or-take n d.addresses i 0 l,
+        get_or-take n d.tenants i 0 l,
+      )
 
-  pub found_nowhere : (n i : ℕ) → n ≤ i → ((j : ℕ) → j < i → test j ≡ false) → F.Nowhere ≡ found_of (lowest test n)
-  found_nowhere n i l h = sym (ap found_of (lowest_not test n (λ j b. h j (omega arith))))
+  -- std's position is the entry
+  pub position_entry : kept_of d.count ≤ length d.addresses → kept_of d.count ≤ length d.tenants
+      → position (has tenant address) (pairs_of d) ≡ found_of (entry_for d tenant address)
+  unfolding entry_for
+  position_entry a t =
+      let n : ℕ = kept_of d.count in
+      let size : length (pairs_of d) ≡ n = length-zip (take n d.addresses) (take n d.tenants) ∙ omega (arith, length-take n d.addresses, length-take n d.tenants) in
+      position_is (has tenant address) (is_entry d.addresses d.tenants tenant address) (pairs_of d) (0, 0) (λ i h. has_is i a t h)
+      ∙ ap (λ (k : ℕ). found_of (lowest (is_entry d.addresses d.tenants tenant address) k)) size
 
-  -- among the n that are kept
-  pub found_among : (count n : ℕ) (r : Lookup) → n ≡ kept_of count → r ≡ found_of (lowest test n) → r ≡ found_of (lowest test (kept_of count))
-  found_among count n r e q = rw (← e) q
+  -- what it found is below the limit
+  pub entry_below : (i : ℕ) → entry_for d tenant address ≡ maybe.some i → i < most_entries
+  unfolding entry_for
+  entry_below i e =
+      let b : i < kept_of d.count = (lowest-some (is_entry d.addresses d.tenants tenant address) (kept_of d.count) i e).below in
+      omega arith
 
-  pub entry_below : (count i : ℕ) → lowest test (kept_of count) ≡ some i → i < most_entries
-  entry_below count i e = let b : i < kept_of count = (lowest-some test (kept_of count) i e).below in omega (arith, kept_few count)
+-- ---- what a listed one is answered
 
--- what was found, taken back
-pub found_some : (o : Option ℕ) (i : ℕ) → found_of o ≡ F.At i → o ≡ some i
-found_some none i e = clash (cc)
-found_some (some j) i e = cc
-
-pub found_none : (o : Option ℕ) → found_of o ≡ F.Nowhere → o ≡ none
-found_none none e = refl
-found_none (some j) e = clash (cc)
-
-pub judged-known : (first peer : ℕ) → first ≡ peer → plain_of 1 ≡ judged first peer
+pub judged-known : (first peer : ℕ) → first ≡ peer → observation_of O.Known ≡ judged first peer
 unfolding judged
 judged-known first peer e = rw (eq-eqb first peer e)
 
-pub judged-duplicate : (first peer : ℕ) → (first ≡ peer → ⊥) → naming 2 first ≡ judged first peer
+pub judged-duplicate : (first peer : ℕ) → (first ≡ peer → ⊥) → observation_of (O.Duplicate first) ≡ judged first peer
 unfolding judged
 judged-duplicate first peer d = rw (ne_eqb first peer d)
 
 -- ---- the three ways of a call
 
 module _ (d : Detector) (tenant peer address : ℕ) where
-  abbrev test : ℕ → Bool
-  test = is_entry d.addresses d.tenants tenant address
-
-  pub listed_is : (i : ℕ) → lowest test (kept_of d.count) ≡ some i
+  pub listed_is : (i : ℕ) → entry_for d tenant address ≡ maybe.some i
       → observe_of d tenant peer address ≡ record { detector = d; answer = judged (get_or d.peers i 0) peer }
-  unfolding observe_of entry_for given
+  unfolding observe_of given
   listed_is i e = rw e
 
-  pub full_is : lowest test (kept_of d.count) ≡ none → most_entries ≤ d.count
-      → observe_of d tenant peer address ≡ record { detector = d; answer = plain_of 3 }
-  unfolding observe_of entry_for given
+  pub full_is : entry_for d tenant address ≡ maybe.none → most_entries ≤ d.count
+      → observe_of d tenant peer address ≡ record { detector = d; answer = observation_of O.Full }
+  unfolding observe_of given
   full_is e l = rw (e, le-leb most_entries d.count l)
 
-  pub new_is : lowest test (kept_of d.count) ≡ none → d.count < most_entries
-      → observe_of d tenant peer address ≡ record { detector = with_entry d d.count tenant peer address; answer = plain_of 0 }
-  unfolding observe_of entry_for given
+  pub new_is : entry_for d tenant address ≡ maybe.none → d.count < most_entries
+      → observe_of d tenant peer address ≡ record { detector = with_entry d d.count tenant peer address; answer = observation_of O.New }
+  unfolding observe_of given
   new_is e l = rw (e, lt-leb most_entries d.count l)
-
--- ---- the code's exits, over the columns that it is lent
-
-module _ (addresses tenants peers : List ℕ) (count tenant peer address : ℕ) where
-  abbrev lent : Detector
-  lent = detector_of addresses tenants peers count
-
-  abbrev Gives : Observation → Detector → Type 0
-  Gives r d = (r ≡ (observe_of lent tenant peer address).answer) × (d ≡ (observe_of lent tenant peer address).detector)
-
-  gives : (o : ObserveResult) → observe_of lent tenant peer address ≡ o → Gives o.answer o.detector
-  gives o e = (sym (ap (λ (x : ObserveResult). x.answer) e), sym (ap (λ (x : ObserveResult). x.detector) e))
-
-  pub listed_exit : (i : ℕ) (r : Observation) → F.At i ≡ found_of (lowest (is_entry addresses tenants tenant address) (kept_of count))
-      → r ≡ judged (get_or peers i 0) peer → Gives r lent
-  listed_exit i r f e =
-      rw e (gives (record { detector = lent; answer = judged (get_or peers i 0) peer }) (listed_is lent tenant peer address i (found_some _ i (sym f))))
-
-  pub full_exit : (r : Observation) → F.Nowhere ≡ found_of (lowest (is_entry addresses tenants tenant address) (kept_of count)) → most_entries ≤ count
-      → r ≡ plain_of 3 → Gives r lent
-  full_exit r f l e = rw e (gives (record { detector = lent; answer = plain_of 3 }) (full_is lent tenant peer address (found_none _ (sym f)) l))
-
-  pub new_exit : (r : Observation) → F.Nowhere ≡ found_of (lowest (is_entry addresses tenants tenant address) (kept_of count)) → count < most_entries
-      → r ≡ plain_of 0 → Gives r (detector_of (set addresses count address) (set tenants count tenant) (set peers count peer) (count + 1))
-  unfolding with_entry
-  new_exit r f l e =
-      rw e
-      (gives (record { detector = with_entry lent count tenant peer address; answer = plain_of 0 }) (new_is lent tenant peer address (found_none _ (sym f)) l))
-
--- what a call over the columns says makes up the whole call
-pub together : (d : Detector) (tenant peer address : ℕ) (r : Observation) (d' : Detector)
-    → (r ≡ (observe_of d tenant peer address).answer) × (d' ≡ (observe_of d tenant peer address).detector)
-    → record { detector = d'; answer = r } ≡ observe_of d tenant peer address
-together d tenant peer address r d' w = rw (w.0, w.1)

@@ -1,7 +1,7 @@
 -- A run of calls, computed: what the definitions answer beside what document 02, §1 says.
 use Rattle.std.specs.Prelude.{ℕ, zero, suc, ◌≡◌, refl, List, [], ◌∷◌, map, take}
 use Rattle.lookup.specs.Search.{from, lowest}
-use Rattle.detector.specs.Detector.{empty, kept_of, is_entry, judged, with_entry, entry_for, given, observe_of}
+use Rattle.detector.specs.Detector.{empty, is_entry, judged, with_entry, entry_for, given, observe_of}
 use Rattle.detector.specs.Source.{source_of}
 use Rattle.detector.specs.Detects.{Call, left, answered, new, known, duplicate, full}
 use Rattle.detector.specs.declared.observe.Observation.{Observation}
@@ -36,7 +36,7 @@ pub worked-detects :
     ∷ new  -- the entries that are not kept are 0, and are none
     ∷ known
     ∷ []
-unfolding from lowest empty kept_of is_entry judged with_entry entry_for given observe_of left answered
+unfolding from lowest empty is_entry judged with_entry entry_for given observe_of left answered
 worked-detects = refl
 
 -- ---- a full detector
@@ -52,7 +52,7 @@ pub worked-full : (
     ∷ map (answered (many 128)) (call 7 0 128 ∷ call 8 0 0 ∷ call 7 0 0 ∷ call 7 0 127 ∷ call 7 1 127 ∷ [])
     )
     ≡ new ∷ full ∷ full ∷ known ∷ known ∷ duplicate 0 ∷ []
-unfolding from lowest empty kept_of is_entry judged with_entry entry_for given observe_of left answered
+unfolding from lowest empty is_entry judged with_entry entry_for given observe_of left answered
 worked-full = refl
 
 -- ---- a frame's source address

@@ -1,5 +1,5 @@
 -- The accounting of every run of the calls from a set-up: the calls are the steps of the theory of runs, and their numbers tell what became of a segment.
-use Rattle.std.specs.Prelude.{ℕ, ◌+◌, ◌≤◌, ◌<◌, ◌≡◌, refl, ◌≢◌, Bool, true, false, cond, not, ◌&&◌, List, [], ◌∷◌, ◌++◌, length, eqb}
+use Rattle.std.specs.Prelude.{ℕ, ◌+◌, ◌≤◌, ◌<◌, ◌≡◌, refl, ◌≢◌, Bool, true, false, cond, not, ◌&&◌, List, [], ◌∷◌, ◌++◌, length, eqb, Result}
 use Rattle.std.proofs.Common.{sym, ap, subst, ◌∙◌, inl, inr, arith, eqb-true}
 use Rattle.reassembly.proofs.Laws.Base.{either, clash, or_cases}
 use Rattle.reassembly.specs.Take.{Seg}
@@ -21,8 +21,9 @@ use Rattle.endpoint.specs.declared.answer.Received.{Received}
 use Rattle.endpoint.specs.declared.config.Endpoint.{Endpoint}
 use Rattle.endpoint.specs.Account.{number_of, is_pending, taken_by, completed_by, aged_out_by, taken, completed, aged_out, pending_now, Accounts}
 use Rattle.endpoint.specs.Account.{Adds, SegmentAdds, CallByCall, SlotBySlot}
+use Rattle.endpoint.specs.declared.answer.Drop.{Drop}
 
-abbrev number : Received → ℕ
+abbrev number : Result Received Drop → ℕ
 number a = (values_of a).number
 
 abbrev world : Left → World Config

@@ -1,7 +1,7 @@
 -- The calls, as their contracts give them, are the steps of the theory of runs: a receive is `receives`, a tick is `next .. tick`, a set-up has every slot
 -- free.
 -- So what is proved of `runs` is proved of every list of these calls, each given the endpoint and the memory that the last one left.
-use Rattle.std.specs.Prelude.{ℕ, ◌≡◌, refl, List, [], ◌∷◌, length, get_or, set, ltb}
+use Rattle.std.specs.Prelude.{ℕ, ◌≡◌, refl, List, [], ◌∷◌, length, get_or, set, ltb, Err}
 use Rattle.std.proofs.Common.{sym, ap, ◌∙◌, ltb-true, ltb-false}
 use Rattle.std.proofs.lemmas.List.{set-get_or}
 use Rattle.reassembly.proofs.Laws.Base.{case_b}
@@ -16,7 +16,6 @@ use Rattle.endpoint.proofs.Laws.Config.{rows-tick, config_tick}
 use Rattle.endpoint.specs.Receive.{answers, layers, header_of, Step, row_at, stepped, step_of, with_row, world_of, receipt_of}
 use Rattle.endpoint.proofs.Laws.Receive.{header-kept, header_whose, config_few}
 use Rattle.endpoint.specs.declared.answer.Drop.TheVariants as D
-use Rattle.endpoint.specs.declared.answer.Received.TheVariants as R
 use Rattle.endpoint.specs.declared.config.Endpoint.{Endpoint}
 use Rattle.endpoint.specs.Run.{Left, called, calls}
 
@@ -61,7 +60,7 @@ pub receive_is : (e : Endpoint) (m k : List ℕ) → after_step e (step_of e m k
 unfolding step_of
 receive_is e m k =
     case_b (ltb (length m) 55296)
-    (λ b. rw b (ap (λ (w : World Config). record { reply = R.Dropped D.MemoryTooSmall; world = w }) (same-world e 0 m)
+    (λ b. rw b (ap (λ (w : World Config). record { reply = Err D.MemoryTooSmall; world = w }) (same-world e 0 m)
     ∙ sym (receives_small answers Config layers (world_of e m) k (ltb-true (length m) 55296 b))))
     (λ b. rw b (stepped_is e m (header_of (config_of e) k) ∙ sym (receives_by answers Config layers (world_of e m) k (ltb-false (length m) 55296 b))))
 

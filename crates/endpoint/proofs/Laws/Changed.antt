@@ -1,9 +1,9 @@
 -- A loop that changes each entry of a list in turn.
 use Rattle.std.specs.Prelude.{◌≡◌, length, get_or, set, take}
-use Rattle.std.proofs.Common.{◌∙◌, not-suc-le-zero, le_of_suc-le-suc}
+use Rattle.std.proofs.Common.{◌∙◌, sym, add-one, not-suc-le-zero, le_of_suc-le-suc}
 use Rattle.std.proofs.Math.Path.{refl, ap}
 use mathlib.Core.List.{List, [], ◌∷◌, ◌++◌, map, append-nil}
-use Prim.Native.Nat.{ℕ, zero, suc, ◌<◌}
+use Prim.Native.Nat.{ℕ, zero, suc, ◌+◌, ◌<◌}
 use Rattle.std.proofs.Math.ListN.{drop}
 use Rattle.std.proofs.Math.Seq.{take-length, drop-length}
 
@@ -24,6 +24,15 @@ module _ {A : Type 0} (f : A → A) where
   before_more [] p d h = absurd (not-suc-le-zero h)
   before_more (x ∷ l) zero d h = refl
   before_more (x ∷ l) (suc p) d h = ap (λ (t : List A). f x ∷ t) (before_more l p d (le_of_suc-le-suc h))
+
+  -- a turn
+  pub before_turn : (l now : List A) (p : ℕ) (x d : A) → p < length l → now ≡ changed_before l p → x ≡ f (get_or now p d)
+      → set now p x ≡ changed_before l (p + 1)
+  before_turn l now p x d h is e =
+      ap (λ (t : List A). set t p x) is
+      ∙ ap (set (changed_before l p) p) (e ∙ ap f (ap (λ (t : List A). get_or t p d) is ∙ before_at l p d h))
+      ∙ before_more l p d h
+      ∙ ap (changed_before l) (sym (add-one p))
 
   pub before-none : (l : List A) → changed_before l 0 ≡ l
   unfolding changed_before

@@ -1,5 +1,5 @@
 -- Laws of the configuration: what the calls and a tick leave of the rows, what the lookups find, and what holds of every set-up.
-use Rattle.std.specs.Prelude.{◌≡◌, true, false, List, [], ◌∷◌, map, ◌⊎◌, ◌≢◌, set, replicate}
+use Rattle.std.specs.Prelude.{◌≡◌, true, false, List, [], ◌∷◌, map, ◌⊎◌, ◌≢◌, set, replicate, Ok}
 use Rattle.std.proofs.Math.Path.{refl, sym, ap, subst}
 use Rattle.std.proofs.Common.{◌∙◌, inr, not-suc-le-zero, arith}
 use Rattle.std.proofs.Math.Logic.{inl}
@@ -14,16 +14,15 @@ use Rattle.wire.proofs.Laws.Checks.{cases}
 use Rattle.reassembly.proofs.Laws.Base.{case_b, either, clash}
 use Rattle.reassembly.specs.Slots.{older_row, most_peers}
 use Rattle.endpoint.specs.declared.answer.ConfigRefusal.TheVariants as C
-use Rattle.endpoint.specs.declared.answer.Start.TheVariants as S
 use Rattle.endpoint.specs.declared.config.Endpoint.{Endpoint}
 use Rattle.endpoint.specs.declared.config.StartResult.{StartResult}
-use Rattle.endpoint.specs.declared.config.AddResult.{AddResult}
 use Rattle.endpoint.proofs.Laws.Search.{lowest-none, lowest_is, binds_hit, binds-all}
-use Rattle.endpoint.specs.Config.{lent, address_at, free_row, tick_of, config_of, has_address, find_peer, binds, find_binding, is_some, fresh, start_checks}
+use Rattle.endpoint.specs.Config.{address_at, free_row, tick_of, config_of, has_address, find_peer, binds, find_binding, is_some, fresh, start_checks}
+use Rattle.endpoint.specs.Config.{AddResult}
 use Rattle.endpoint.specs.Config.{refused_start, start_of}
 use Rattle.endpoint.specs.Config.{address_checks, refused_add, add_peer_checks, with_address, add_peer_of, is_network, add_binding_checks, with_binding}
 use Rattle.endpoint.specs.Config.{add_binding_of, Adding, add_peer, add_binding, added, added_all, set_up, most_bindings}
-use Rattle.endpoint.proofs.Laws.ConfigExits.{peer_added, binding_added, add-peer_exit, add_binding_exit}
+use Rattle.endpoint.proofs.Laws.ConfigExits.{peer_added, binding_added, peer_out_of_range, binding_out_of_range}
 
 -- ---- what a call leaves: the endpoint as it came, or the one with the addition
 
@@ -31,7 +30,7 @@ pub start-cases : (P : Endpoint → Type 0) (own port mtu : ℕ) → P (fresh 0 
     → P (start_of own port mtu).endpoint
 unfolding start_of
 start-cases P own port mtu f g =
-    cases (λ (x : StartResult). P x.endpoint) refused_start (start_checks own port mtu) (record { endpoint = fresh own port mtu; answer = S.Done }) (λ r. f) g
+    cases (λ (x : StartResult). P x.endpoint) refused_start (start_checks own port mtu) (record { endpoint = fresh own port mtu; answer = Ok tt }) (λ r. f) g
 
 pub add-peer-cases : (P : Endpoint → Type 0) (e : Endpoint) (address : ℕ) → P e
     → (Passed (add_peer_checks e address) → P (with_address e e.peer_count address)) → P (add_peer_of e address).endpoint
@@ -45,24 +44,7 @@ unfolding add_binding_of
 add_binding-cases P e peer kind network tenant f g =
     cases (λ (x : AddResult). P x.endpoint) (refused_add e) (add_binding_checks e peer kind network tenant) (binding_added e peer kind network tenant) (λ r. f) g
 
--- ---- the configuration, from the endpoint's fields, and from columns and numbers that are lent
-
-pub config_lent : (networks kinds owners tenants addresses : List ℕ) (own port mtu peers bindings : ℕ)
-    → config_of (lent networks kinds owners tenants addresses own port mtu peers bindings)
-    ≡ record {
-      own = own;
-      port = port;
-      mtu = mtu;
-      addresses = addresses;
-      peers = min peers most_peers;
-      owners = owners;
-      kinds = kinds;
-      networks = networks;
-      tenants = tenants;
-      bindings = min bindings most_bindings;
-    }
-unfolding config_of lent
-config_lent networks kinds owners tenants addresses own port mtu peers bindings = refl
+-- ---- the configuration, from the endpoint's fields
 
 pub config_is : (e : Endpoint)
     → config_of e
@@ -81,21 +63,16 @@ pub config_is : (e : Endpoint)
 unfolding config_of
 config_is e = refl
 
-pub config_of-lent : (e : Endpoint)
-    → config_of (lent e.networks e.kinds e.owners e.tenants e.addresses e.own e.port e.mtu e.peer_count e.binding_count)
-    ≡ config_of e
-unfolding config_of lent
-config_of-lent e = refl
-
 -- ---- a refused start (document 01, "Listing and numbers"): adding to it is 18, and leaves it as it is
 
 pub refused_start-peer : (address : ℕ) → add_peer_of (fresh 0 0 0) address ≡ refused_add (fresh 0 0 0) C.OutOfRange
-unfolding add_peer_of add_peer_checks fresh
-refused_start-peer address = add-peer_exit (fresh 0 0 0) address 0 refl
+unfolding add_peer_checks fresh
+refused_start-peer address = sym (peer_out_of_range (fresh 0 0 0) address refl)
 
 pub refused_start_binding : (peer kind network tenant : ℕ) → add_binding_of (fresh 0 0 0) peer kind network tenant ≡ refused_add (fresh 0 0 0) C.OutOfRange
 unfolding add_binding_checks config_of fresh
-refused_start_binding peer kind network tenant = add_binding_exit (fresh 0 0 0) peer kind network tenant 0 (le-leb 0 peer (omega arith))
+refused_start_binding peer kind network tenant =
+    sym (binding_out_of_range (fresh 0 0 0) peer kind network tenant (rw (le-leb 0 peer (omega arith)) refl))
 
 -- ---- the rows of slots
 

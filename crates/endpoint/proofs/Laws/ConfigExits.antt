@@ -1,234 +1,38 @@
 -- The calls that make the configuration, as the proofs of the code cite them: exit by exit, lookup and range.
-use Rattle.std.specs.Prelude.{◌≡◌, refl, Bool, true, false, not, ◌||◌, List, [], ◌∷◌, ℕ, zero, suc, ◌+◌, ◌<◌, ◌≤◌, min, take, drop, ltb, eqb}
-use Rattle.std.proofs.Common.{sym, ap, ◌∙◌, zero-add, suc-add, arith}
-use Rattle.std.proofs.Math.Path.{subst⁻¹}
+use Rattle.std.specs.Prelude.{◌≡◌, refl, Bool, true, false, not, List, [], ◌∷◌, ℕ, zero, suc, ◌<◌, ◌≤◌, take, drop, leb, eqb, Ok}
+use Rattle.std.proofs.Common.{sym, ap, ◌∙◌, arith}
 use Rattle.std.proofs.Math.Option.{Option, none, some}
-use borrow.Author.Tests.{le-leb, lt-leb, ne_eqb, eqb-true}
+use Rattle.std.specs.Prelude as std
+use borrow.Author.Tests.{le-leb, lt-leb, eqb-true}
 use Rattle.reassembly.proofs.Laws.Base.{case_b, clash}
-use Rattle.wire.specs.Checks.{Check, ◌⇒◌, Passed}
-use Rattle.wire.proofs.Laws.Checks.{At, given, decided}
-use Rattle.wire.proofs.Laws.Table.{pull}
-use Rattle.endpoint.specs.declared.answer.Added.{Added}
-use Rattle.endpoint.specs.declared.answer.Added.TheVariants as A
-use Rattle.endpoint.specs.declared.answer.Start.TheVariants as S
-use Rattle.endpoint.specs.declared.answer.Drop.{Drop}
-use Rattle.endpoint.specs.declared.answer.Drop.TheVariants as D
-use Rattle.endpoint.specs.declared.search.Lookup.{Lookup}
-use Rattle.endpoint.specs.declared.search.Lookup.TheVariants as F
+use Rattle.wire.specs.Checks.{Check, ◌⇒◌, first, pick, Passed}
+use Rattle.wire.proofs.Laws.Checks.{tests, choices, first_more}
 use Rattle.endpoint.specs.declared.config.Endpoint.{Endpoint}
-use Rattle.endpoint.specs.declared.config.AddResult.{AddResult}
-use Rattle.endpoint.specs.Search.{lowest, found_of}
-use Rattle.endpoint.specs.Config.{config_of, has_address, find_peer, binds, find_binding, is_some, fresh, start_checks, refused_start, start_of, refused_add}
-use Rattle.endpoint.specs.Config.{add_peer_checks, with_address, add_peer_of, is_network, add_binding_checks, with_binding, add_binding_of, peers_of, bindings_of}
-use Rattle.endpoint.specs.Config.{most_bindings, lent}
+use Rattle.endpoint.specs.Search.{found_of}
+use Rattle.endpoint.specs.Config.{config_of, find_peer, find_binding, is_some, fresh, start_checks, refused_start, start_of, refused_add, AddResult, any_met}
+use Rattle.endpoint.specs.Config.{add_peer_checks, bad_peer, with_address, add_peer_of, is_network, add_binding_checks, bad_binding, with_binding}
+use Rattle.endpoint.specs.Config.{add_binding_of}
+use Rattle.endpoint.specs.Config.{most_bindings}
 use Rattle.reassembly.specs.Slots.{most_peers}
-use Rattle.wire.proofs.Laws.Table.{pull}
+use Rattle.endpoint.specs.declared.answer.ConfigRefusal.TheVariants as C
 
--- ---- ordered checks: behind k that are passed
+-- ---- ordered checks: the first k give the same refusal, so that one test of them all decides
 
-pub behind : {R : Type 0} (checks : List (Check R)) (k n : ℕ) → Passed (take k checks) → At (drop k checks) n → At checks (k + n)
-behind checks zero n p q = subst⁻¹ (λ (m : ℕ). At checks m) (zero-add n) q
-behind [] (suc k) n p q = tt
-behind ((test ⇒ r) ∷ checks) (suc k) n p q = subst⁻¹ (λ (m : ℕ). At ((test ⇒ r) ∷ checks) m) (suc-add k n) (p.0, behind checks k n p.1 q)
+abbrev pub All : {R : Type 0} → R → List (Check R) → Type 0
+All r [] = Unit {0}
+All r ((test ⇒ x) ∷ checks) = (x ≡ r) × All r checks
 
--- ---- the code's exit number n gives what check number n gives
+pub merged : {R A : Type 0} (refused : R → A) (r : R) (k : ℕ) (checks : List (Check R)) (accepted : A) → All r (take k checks)
+    → first refused checks accepted ≡ pick (any_met (take k checks)) (refused r) (first refused (drop k checks) accepted)
+merged refused r zero checks accepted h = refl
+merged refused r (suc k) [] accepted h = refl
+merged refused r (suc k) ((true ⇒ x) ∷ checks) accepted h = first_more refused true x checks accepted ∙ ap refused h.0
+merged refused r (suc k) ((false ⇒ x) ∷ checks) accepted h = first_more refused false x checks accepted ∙ merged refused r k checks accepted h.1
 
-pub start_exit : (own port mtu n : ℕ) → At (start_checks own port mtu) n
-    → start_of own port mtu ≡ given refused_start (start_checks own port mtu) (record { endpoint = fresh own port mtu; answer = S.Done }) n
-unfolding start_of
-start_exit own port mtu n p = decided refused_start (start_checks own port mtu) (record { endpoint = fresh own port mtu; answer = S.Done }) n p
-
-module _ (e : Endpoint) (address : ℕ) where
-  -- what is given where no check is met
-  abbrev pub peer_added : AddResult
-  peer_added = record { endpoint = with_address e e.peer_count address; answer = A.Number e.peer_count }
-
-  pub add-peer_exit : (n : ℕ) → At (add_peer_checks e address) n → add_peer_of e address ≡ given (refused_add e) (add_peer_checks e address) peer_added n
-  unfolding add_peer_of
-  add-peer_exit n p = decided (refused_add e) (add_peer_checks e address) peer_added n p
-
-module _ (e : Endpoint) (peer kind network tenant : ℕ) where
-  abbrev pub binding_added : AddResult
-  binding_added = record { endpoint = with_binding e e.binding_count peer kind network tenant; answer = A.Number e.binding_count }
-
-  pub add_binding_exit : (n : ℕ) → At (add_binding_checks e peer kind network tenant) n
-      → add_binding_of e peer kind network tenant ≡ given (refused_add e) (add_binding_checks e peer kind network tenant) binding_added n
-  unfolding add_binding_of
-  add_binding_exit n p = decided (refused_add e) (add_binding_checks e peer kind network tenant) binding_added n p
-
--- ---- an adding call reads and changes its own columns and count: what it makes of an endpoint of which only these are told makes up the whole call
-
--- the endpoint e with these peers, and with these bindings
--- Open: a record with some entries changed
-abbrev pub with_peers : Endpoint → (addresses : List ℕ) (count : ℕ) → Endpoint
-with_peers e addresses count = record {
-  networks = e.networks;
-  peers = e.peers;
-  addresses = addresses;
-  own = e.own;
-  tenants = e.tenants;
-  port = e.port;
-  mtu = e.mtu;
-  peer_count = count;
-  binding_count = e.binding_count;
-  kinds = e.kinds;
-  owners = e.owners;
-}
-
--- Open: a record with some entries changed
-abbrev pub with_bindings : Endpoint → (networks kinds owners tenants : List ℕ) (count : ℕ) → Endpoint
-with_bindings e networks kinds owners tenants count = record {
-  networks = networks;
-  peers = e.peers;
-  addresses = e.addresses;
-  own = e.own;
-  tenants = tenants;
-  port = e.port;
-  mtu = e.mtu;
-  peer_count = e.peer_count;
-  binding_count = count;
-  kinds = kinds;
-  owners = owners;
-}
-
--- what `list_peer` says of its answer and of what it leaves, and how that makes up the whole call
-module _ (addresses : List ℕ) (own port count address : ℕ) where
-  abbrev PeersAfter : AddResult
-  PeersAfter = add_peer_of (peers_of addresses own port count) address
-
-  abbrev pub ListedPeer : Added → List ℕ → ℕ → Type 0
-  ListedPeer a xs n = (a ≡ PeersAfter.answer) × ((xs ≡ PeersAfter.endpoint.addresses) × (n ≡ PeersAfter.endpoint.peer_count))
-
-  -- its exit number n
-  pub list_peer_exit : (n : ℕ) → At (add_peer_checks (peers_of addresses own port count) address) n
-      → let c = given (refused_add (peers_of addresses own port count)) (add_peer_checks (peers_of addresses own port count) address) (peer_added
-      (peers_of addresses own port count) address) n in
-      ListedPeer c.answer c.endpoint.addresses c.endpoint.peer_count
-  list_peer_exit n p =
-      let q = sym (add-peer_exit (peers_of addresses own port count) address n p) in
-      (ap (λ (c : AddResult). c.answer) q, (ap (λ (c : AddResult). c.endpoint.addresses) q, ap (λ (c : AddResult). c.endpoint.peer_count) q))
-
-pub add-peer_out : (e : Endpoint) (address : ℕ) (a : Added) (xs : List ℕ) (n : ℕ)
-    → ListedPeer e.addresses e.own e.port e.peer_count address a xs n
-    → record { endpoint = with_peers e xs n; answer = a } ≡ add_peer_of e address
-unfolding add_peer_of add_peer_checks with_address find_peer config_of peers_of lent
-add-peer_out e address a xs n w =
-    let s : Endpoint = peers_of e.addresses e.own e.port e.peer_count in
-    rw (w.0, w.1.0, w.1.1)
-    (pull (λ (c : AddResult). record { endpoint = with_peers e c.endpoint.addresses c.endpoint.peer_count; answer = c.answer }) (refused_add s)
-    (add_peer_checks s address) (peer_added s address))
-
--- and what it makes of the lent ones alone
-pub list_peer_out : (addresses : List ℕ) (own port count address : ℕ) (a : Added) (xs : List ℕ) (n : ℕ) → ListedPeer addresses own port count address a xs n
-    → add_peer_of (peers_of addresses own port count) address ≡ record { endpoint = peers_of xs own port n; answer = a }
-unfolding peers_of lent
-list_peer_out addresses own port count address a xs n w = sym (add-peer_out (peers_of addresses own port count) address a xs n w)
-
-module _ (networks kinds owners tenants : List ℕ) (peers count peer kind network tenant : ℕ) where
-  abbrev Rebuilt : Endpoint
-  Rebuilt = bindings_of networks kinds owners tenants peers count
-
-  abbrev BindingsAfter : AddResult
-  BindingsAfter = add_binding_of Rebuilt peer kind network tenant
-
-  abbrev pub ListedBinding : Added → (ns ks os ts : List ℕ) → ℕ → Type 0
-  ListedBinding a ns ks os ts n =
-      (a ≡ BindingsAfter.answer)
-      × ((ns ≡ BindingsAfter.endpoint.networks)
-      × ((ks ≡ BindingsAfter.endpoint.kinds)
-      × ((os ≡ BindingsAfter.endpoint.owners) × ((ts ≡ BindingsAfter.endpoint.tenants) × (n ≡ BindingsAfter.endpoint.binding_count)))))
-
-  pub list_binding_exit : (n : ℕ) → At (add_binding_checks Rebuilt peer kind network tenant) n
-      → let c = given (refused_add Rebuilt) (add_binding_checks Rebuilt peer kind network tenant) (binding_added Rebuilt peer kind network tenant) n in
-      ListedBinding c.answer c.endpoint.networks c.endpoint.kinds c.endpoint.owners c.endpoint.tenants c.endpoint.binding_count
-  list_binding_exit n p =
-      let q = sym (add_binding_exit Rebuilt peer kind network tenant n p) in (
-        ap (λ (c : AddResult). c.answer) q,
-        (
-          ap (λ (c : AddResult). c.endpoint.networks) q,
-          (
-            ap (λ (c : AddResult). c.endpoint.kinds) q,
-            (
-              ap (λ (c : AddResult). c.endpoint.owners) q,
-              (
-                ap (λ (c : AddResult). c.endpoint.tenants) q,
-                ap (λ
-                    (c : AddResult). c.endpoint.binding_count) q,
-              ),
-            ),
-          ),
-        ),
-      )
-
-pub add_binding_out : (e : Endpoint) (peer kind network tenant : ℕ) (a : Added) (ns ks os ts : List ℕ) (n : ℕ)
-    → ListedBinding e.networks e.kinds e.owners e.tenants e.peer_count e.binding_count peer kind network tenant a ns ks os ts n
-    → record { endpoint = with_bindings e ns ks os ts n; answer = a } ≡ add_binding_of e peer kind network tenant
-unfolding add_binding_of add_binding_checks with_binding find_binding config_of bindings_of lent
-add_binding_out e peer kind network tenant a ns ks os ts n w =
-    let s : Endpoint = bindings_of e.networks e.kinds e.owners e.tenants e.peer_count e.binding_count in
-    rw (w.0, w.1.0, w.1.1.0, w.1.1.1.0, w.1.1.1.1.0, w.1.1.1.1.1)
-    (pull (λ (c : AddResult). record {
-      endpoint = with_bindings e c.endpoint.networks c.endpoint.kinds c.endpoint.owners c.endpoint.tenants c.endpoint.binding_count;
-      answer = c.answer;
-    }) (refused_add s) (add_binding_checks s peer kind network tenant) (binding_added s peer kind network tenant))
-
-pub list_binding_out : (networks kinds owners tenants : List ℕ) (peers count peer kind network tenant : ℕ) (a : Added) (ns ks os ts : List ℕ) (n : ℕ)
-    → ListedBinding networks kinds owners tenants peers count peer kind network tenant a ns ks os ts n
-    → add_binding_of (bindings_of networks kinds owners tenants peers count) peer kind network tenant
-    ≡ record { endpoint = bindings_of ns ks os ts peers n; answer = a }
-unfolding bindings_of lent
-list_binding_out networks kinds owners tenants peers count peer kind network tenant a ns ks os ts n w =
-    sym (add_binding_out (bindings_of networks kinds owners tenants peers count) peer kind network tenant a ns ks os ts n w)
-
--- ---- what a lookup answers, as the test of check 19
-
-abbrev pub is_found_in : Lookup → Bool
-is_found_in (F.Refused d) = false
-is_found_in (F.At i) = true
-
-is_found : (d : Drop) (o : Option ℕ) → is_found_in (found_of d o) ≡ is_some o
-is_found d none = refl
-is_found d (some i) = refl
-
-pub peer-found : (e : Endpoint) (address n : ℕ) (f : Lookup) → n ≡ min e.peer_count most_peers
-    → f ≡ found_of D.UnknownPeer (lowest (has_address e.addresses address) n) → is_some (find_peer (config_of e) address) ≡ is_found_in f
-unfolding find_peer config_of
-peer-found e address n f k r =
-    sym (is_found D.UnknownPeer (lowest (has_address e.addresses address) (min e.peer_count most_peers)))
-    ∙ ap (λ (k : ℕ). is_found_in (found_of D.UnknownPeer (lowest (has_address e.addresses address) k))) (sym k)
-    ∙ ap is_found_in (sym r)
-
-pub binding_found : (e : Endpoint) (peer kind network n : ℕ) (f : Lookup) → n ≡ min e.binding_count most_bindings
-    → f ≡ found_of D.NoBinding (lowest (binds e.networks e.kinds e.owners peer kind network) n)
-    → is_some (find_binding (config_of e) peer kind network) ≡ is_found_in f
-unfolding find_binding config_of
-binding_found e peer kind network n f k r =
-    sym (is_found D.NoBinding (lowest (binds e.networks e.kinds e.owners peer kind network) (min e.binding_count most_bindings)))
-    ∙ ap (λ (k : ℕ). is_found_in (found_of D.NoBinding (lowest (binds e.networks e.kinds e.owners peer kind network) k))) (sym k)
-    ∙ ap is_found_in (sym r)
-
--- ---- the ids of a kind
-
-or_false : (b : Bool) → (b || false) ≡ b
-or_false true = refl
-or_false false = refl
-
-module _ (kind network : ℕ) where
-  pub vxlan_ids : kind ≡ 1 → ltb network 16777216 ≡ is_network kind network
-  unfolding is_network
-  vxlan_ids k = rw k (sym (or_false (ltb network 16777216)))
-
-  pub nvgre_low : kind ≡ 2 → network < 4096 → false ≡ is_network kind network
-  unfolding is_network
-  nvgre_low k l = rw (k, lt-leb 4096 network l)
-
-  pub nvgre_ids : kind ≡ 2 → 4096 ≤ network → ltb network 16777215 ≡ is_network kind network
-  unfolding is_network
-  nvgre_ids k l = rw (k, le-leb 4096 network l) (sym (or_false (ltb network 16777215)))
-
-  pub stt_ids : (kind ≡ 1 → ⊥) → (kind ≡ 2 → ⊥) → eqb kind 3 ≡ is_network kind network
-  unfolding is_network
-  stt_ids a b = rw (ne_eqb kind 1 a, ne_eqb kind 2 b)
+none_met : {R : Type 0} (checks : List (Check R)) → any_met checks ≡ false → Passed checks
+none_met [] h = tt
+none_met ((true ⇒ x) ∷ checks) h = cc
+none_met ((false ⇒ x) ∷ checks) h = (refl, none_met checks h)
 
 -- a kind is 1, 2 or 3
 pub network_kind : (kind network : ℕ) → not (is_network kind network) ≡ false → kind < 256
@@ -238,3 +42,98 @@ network_kind kind network h =
     case_b (eqb kind 2) (λ q. let e : kind ≡ 2 = eqb-true kind 2 q in omega arith) (λ b.
     case_b (eqb kind 3) (λ q. let e : kind ≡ 3 = eqb-true kind 3 q in omega arith) (λ c.
     let z : true ≡ false = rw (a, b, c) at h in clash (cc))))
+
+-- ---- each exit of the code gives what the definition gives
+
+module _ (own port mtu : ℕ) where
+  start_is : start_of own port mtu
+      ≡ pick (any_met (start_checks own port mtu)) (refused_start C.OutOfRange) (record { endpoint = fresh own port mtu; answer = Ok tt })
+  unfolding start_of start_checks
+  start_is = merged refused_start C.OutOfRange 6 (start_checks own port mtu) (record { endpoint = fresh own port mtu; answer = Ok tt })
+      (refl, (refl, (refl, (refl, (refl, (refl, tt))))))
+      ∙ simp choices
+
+  pub start_refused : any_met (start_checks own port mtu) ≡ true → refused_start C.OutOfRange ≡ start_of own port mtu
+  start_refused q = sym (start_is ∙ rw q)
+
+  pub start_done : any_met (start_checks own port mtu) ≡ false → record { endpoint = fresh own port mtu; answer = Ok tt } ≡ start_of own port mtu
+  start_done q = sym (start_is ∙ rw q)
+
+  -- port and MTU have 16 bits
+  pub settings_fit_lem : any_met (start_checks own port mtu) ≡ false → (port < 65536) × (mtu < 65536)
+  unfolding start_checks
+  settings_fit_lem h =
+      let p : Passed (start_checks own port mtu) = none_met (start_checks own port mtu) h in
+      (omega (arith, tests, p), omega (arith, tests, p))
+
+module _ (e : Endpoint) (address : ℕ) where
+  -- what is given where no check is met
+  abbrev pub peer_added : AddResult
+  peer_added = record { endpoint = with_address e e.peer_count address; answer = Ok e.peer_count }
+
+  add-peer_is : add_peer_of e address
+      ≡ pick (bad_peer e address) (refused_add e C.OutOfRange)
+      (pick (is_some (find_peer (config_of e) address)) (refused_add e C.AlreadyListed)
+      (pick (leb most_peers e.peer_count) (refused_add e C.Full) peer_added))
+  unfolding add_peer_of add_peer_checks
+  add-peer_is = merged (refused_add e) C.OutOfRange 4 (add_peer_checks e address) peer_added (refl, (refl, (refl, (refl, tt)))) ∙ simp choices
+
+  pub peer_out_of_range : bad_peer e address ≡ true → refused_add e C.OutOfRange ≡ add_peer_of e address
+  peer_out_of_range q = sym (add-peer_is ∙ rw q)
+
+  module _ (good : bad_peer e address ≡ false) where
+    pub peer_listed : is_some (find_peer (config_of e) address) ≡ true → refused_add e C.AlreadyListed ≡ add_peer_of e address
+    peer_listed q = sym (add-peer_is ∙ rw (good, q))
+
+    module _ (new : is_some (find_peer (config_of e) address) ≡ false) where
+      pub peers_full : most_peers ≤ e.peer_count → refused_add e C.Full ≡ add_peer_of e address
+      peers_full h = sym (add-peer_is ∙ rw (good, new, le-leb most_peers e.peer_count h))
+
+      pub peer_taken : e.peer_count < most_peers → peer_added ≡ add_peer_of e address
+      peer_taken h = sym (add-peer_is ∙ rw (good, new, lt-leb most_peers e.peer_count h))
+
+module _ (e : Endpoint) (peer kind network tenant : ℕ) where
+  abbrev pub binding_added : AddResult
+  binding_added = record { endpoint = with_binding e e.binding_count peer kind network tenant; answer = Ok e.binding_count }
+
+  add_binding_is : add_binding_of e peer kind network tenant
+      ≡ pick (bad_binding e peer kind network tenant) (refused_add e C.OutOfRange)
+      (pick (is_some (find_binding (config_of e) peer kind network)) (refused_add e C.AlreadyListed)
+      (pick (leb most_bindings e.binding_count) (refused_add e C.Full) binding_added))
+  unfolding add_binding_of add_binding_checks
+  add_binding_is = merged (refused_add e) C.OutOfRange 3 (add_binding_checks e peer kind network tenant) binding_added (refl, (refl, (refl, tt))) ∙ simp choices
+
+  pub binding_out_of_range : bad_binding e peer kind network tenant ≡ true → refused_add e C.OutOfRange ≡ add_binding_of e peer kind network tenant
+  binding_out_of_range q = sym (add_binding_is ∙ rw q)
+
+  module _ (good : bad_binding e peer kind network tenant ≡ false) where
+    pub binding_listed : is_some (find_binding (config_of e) peer kind network) ≡ true → refused_add e C.AlreadyListed ≡ add_binding_of e peer kind network tenant
+    binding_listed q = sym (add_binding_is ∙ rw (good, q))
+
+    module _ (new : is_some (find_binding (config_of e) peer kind network) ≡ false) where
+      pub bindings_full : most_bindings ≤ e.binding_count → refused_add e C.Full ≡ add_binding_of e peer kind network tenant
+      bindings_full h = sym (add_binding_is ∙ rw (good, new, le-leb most_bindings e.binding_count h))
+
+      pub binding_taken : e.binding_count < most_bindings → binding_added ≡ add_binding_of e peer kind network tenant
+      binding_taken h = sym (add_binding_is ∙ rw (good, new, lt-leb most_bindings e.binding_count h))
+
+  -- each of what is bound fits its column
+  pub binding_fits : bad_binding e peer kind network tenant ≡ false → (peer < 256) × (kind < 256) × (tenant < 65536)
+  unfolding add_binding_checks config_of
+  binding_fits h =
+      let p : Passed (take 3 (add_binding_checks e peer kind network tenant)) = none_met (take 3 (add_binding_checks e peer kind network tenant)) h in
+      (omega (arith, tests, p), network_kind kind network p.1.0, omega (arith, tests, p))
+
+-- ---- what a lookup answers, as the test of check 19
+
+is_found : (o : Option ℕ) → std.is_some (found_of o) ≡ is_some o
+is_found none = refl
+is_found (some i) = refl
+
+pub peer-found : (e : Endpoint) (address : ℕ) (f : std.Option ℕ) (b : Bool)
+    → f ≡ found_of (find_peer (config_of e) address) → b ≡ std.is_some f → is_some (find_peer (config_of e) address) ≡ b
+peer-found e address f b r q = sym (q ∙ ap std.is_some r ∙ is_found (find_peer (config_of e) address))
+
+pub binding_found : (e : Endpoint) (peer kind network : ℕ) (f : std.Option ℕ) (b : Bool)
+    → f ≡ found_of (find_binding (config_of e) peer kind network) → b ≡ std.is_some f → is_some (find_binding (config_of e) peer kind network) ≡ b
+binding_found e peer kind network f b r q = sym (q ∙ ap std.is_some r ∙ is_found (find_binding (config_of e) peer kind network))

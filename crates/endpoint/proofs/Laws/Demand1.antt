@@ -1,5 +1,5 @@
 -- Demand 1 holds (Demand1.antt), of every call but a receive (Demand1Receive).
-use Rattle.std.specs.Prelude.{ℕ, ◌+◌, ◌-◌, ◌≤◌, ◌≡◌, ◌≢◌, true, List, [], ◌∷◌, ◌++◌, length, get_or, set, drop}
+use Rattle.std.specs.Prelude.{ℕ, ◌+◌, ◌-◌, ◌≤◌, ◌≡◌, ◌≢◌, true, List, [], ◌∷◌, ◌++◌, length, get_or, set, drop, Ok}
 use Rattle.std.proofs.Math.Path.{refl}
 use Rattle.std.proofs.Common.{sym, ap, ◌∙◌, arith, ltb-false, length-set, get_or-set_same, get_or-set_other, get_or-append-add, get_or-drop}
 use Rattle.wire.proofs.Laws.Checks.{cases, by_each}
@@ -19,7 +19,6 @@ use Rattle.endpoint.proofs.Laws.ConfigExits.{peer_added, binding_added}
 use Rattle.endpoint.specs.Wrap.{Wrote, wrap_checks, refused_wrap, wrap_of, packet_at}
 use Rattle.endpoint.specs.declared.answer.ConfigRefusal.{ConfigRefusal}
 use Rattle.endpoint.specs.declared.answer.ConfigRefusal.TheVariants as C
-use Rattle.endpoint.specs.declared.answer.Start.TheVariants as S
 use Rattle.endpoint.specs.declared.answer.WrapRefusal.{WrapRefusal}
 use Rattle.endpoint.specs.declared.answer.WrapRefusal.TheVariants as X
 use Rattle.endpoint.specs.declared.config.Endpoint.{Endpoint}
@@ -49,7 +48,7 @@ pub start_rule : (own port mtu : ℕ) → StartRule own port mtu (start_of own p
 unfolding start_of start_checks start_code
 start_rule own port mtu =
     let out : StartRule own port mtu (refused_start C.OutOfRange) = record { number = refl; done = λ e. absurd (omega arith); refused = λ e. blank 0 0 0 } in
-    by_each (StartRule own port mtu) refused_start (start_checks own port mtu) (record { endpoint = fresh own port mtu; answer = S.Done })
+    by_each (StartRule own port mtu) refused_start (start_checks own port mtu) (record { endpoint = fresh own port mtu; answer = Ok tt })
     (out, (out, (out, (out, (out, (out, tt))))))
     (record { number = refl; done = λ e. blank own port mtu; refused = λ d. absurd (d refl) })
 

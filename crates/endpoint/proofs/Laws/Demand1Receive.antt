@@ -1,5 +1,5 @@
 -- Demand 1 holds of a receive (Demand1.antt, `ReceiveRule`): its numbers, what a refusal leaves, and what 0 and 1 do.
-use Rattle.std.specs.Prelude.{ℕ, zero, suc, ◌+◌, ◌-◌, ◌<◌, ◌≤◌, ◌⊎◌, ◌≢◌, cond, List, [], ◌∷◌, length, get_or, set, take, drop, eqb}
+use Rattle.std.specs.Prelude.{ℕ, zero, suc, ◌+◌, ◌-◌, ◌<◌, ◌≤◌, ◌⊎◌, ◌≢◌, cond, List, [], ◌∷◌, length, get_or, set, take, drop, eqb, Result, Ok, Err}
 use Rattle.std.proofs.Math.Path.{◌≡◌, refl}
 use Rattle.std.proofs.Common.{sym, ap, subst, ◌∙◌, inl, inr, arith, eqb-true, ne_eqb, get_or-set_same, get_or-set_other}
 use Rattle.std.proofs.Math.Bool.{Bool, true, false}
@@ -12,10 +12,6 @@ use Rattle.wire.specs.Refusal.{Finding, code_of, finding_of}
 use Rattle.wire.proofs.Laws.Refusal.{Told, refusal-told, stt_code, frame-plain}
 use Rattle.wire.specs.Stt.{stt_of}
 use Rattle.wire.specs.Frame.{frame_of}
-use Rattle.wire.specs.declared.stt.SttRead.{SttRead}
-use Rattle.wire.specs.declared.stt.SttRead.TheVariants as H
-use Rattle.wire.specs.declared.frame.FrameRead.{FrameRead}
-use Rattle.wire.specs.declared.frame.FrameRead.TheVariants as I
 use Rattle.reassembly.proofs.Laws.Base.{case_b, either, clash}
 use Rattle.reassembly.specs.Slots.{Note, free, no_row, bears}
 use Rattle.reassembly.specs.Take.{Seg, Old, Fresh, Effect, rejection_code, slot_no, frame_in}
@@ -54,6 +50,7 @@ use Rattle.endpoint.specs.declared.answer.Received.TheVariants as R
 use Rattle.endpoint.specs.declared.config.Endpoint.{Endpoint}
 use Rattle.endpoint.specs.Demand1.{◌among◌, slot_at, SameConfiguration, Empties, Unchanged, OpensIn, FurtherIn, Stored, NotYet, Completed, FoundBad}
 use Rattle.endpoint.specs.Demand1.{FromPacket, FromMemory, Delivered, ReceiveRule}
+use Rattle.wire.specs.declared.refusal.Refusal.{Refusal}
 
 -- ---- its numbers
 
@@ -74,23 +71,23 @@ drop-codes D.UnknownPeer = (omega arith, inl (omega arith, λ z. omega arith))
 drop-codes D.NoBinding = (omega arith, inl (omega arith, λ z. omega arith))
 drop-codes (D.Segment r) = let c = rejection_codes r in (omega (arith, c.0), inl (c.1, λ z. omega (arith, c.0)))
 
-number_one : (a : Received) → Number (values_of a).number
-number_one (R.Delivered t p) = inl (omega arith, λ z. omega arith)
-number_one R.Pending = inl (omega arith, λ z. omega arith)
-number_one (R.Dropped d) = (drop-codes d).1
+number_one : (a : Result Received Drop) → Number (values_of a).number
+number_one (Ok (R.Delivered t p)) = inl (omega arith, λ z. omega arith)
+number_one (Ok R.Pending) = inl (omega arith, λ z. omega arith)
+number_one (Err d) = (drop-codes d).1
 
-empties : (a : Received) → (values_of a).number ≢ 0 → Empties (values_of a)
-empties (R.Delivered t p) d = absurd (d refl)
-empties R.Pending d = record { no_tenant = refl; no_binding = refl; start = refl; size = refl; in_packet = refl }
-empties (R.Dropped x) d = record { no_tenant = refl; no_binding = refl; start = refl; size = refl; in_packet = refl }
+empties : (a : Result Received Drop) → (values_of a).number ≢ 0 → Empties (values_of a)
+empties (Ok (R.Delivered t p)) d = absurd (d refl)
+empties (Ok R.Pending) d = record { no_tenant = refl; no_binding = refl; start = refl; size = refl; in_packet = refl }
+empties (Err x) d = record { no_tenant = refl; no_binding = refl; start = refl; size = refl; in_packet = refl }
 
 -- ---- a frame is found bad by 28, 29, 12 or 13
 
-bound-bad : (tenants : List ℕ) (o : Option ℕ) (frame : List ℕ) (r : FrameRead) → frame_of frame ≡ r → (d : Drop) → by_binding tenants o r ≡ bad d
+bound-bad : (tenants : List ℕ) (o : Option ℕ) (frame : List ℕ) (r : Result (Unit {0}) Refusal) → frame_of frame ≡ r → (d : Drop) → by_binding tenants o r ≡ bad d
     → drop_code d among (28 ∷ 29 ∷ 12 ∷ 13 ∷ []) ≡ true
 bound-bad tenants none frame r q d e = let z : D.NoBinding ≡ d = cc (e) in rw (← z)
-bound-bad tenants (some b) frame I.Good q d e = clash (cc (e))
-bound-bad tenants (some b) frame (I.Refused r) q d e =
+bound-bad tenants (some b) frame (Ok tt) q d e = clash (cc (e))
+bound-bad tenants (some b) frame (Err r) q d e =
     let z : D.Format r 0 ≡ d = cc (e) in
     let is : code_of r ≡ 13 = ap (λ (x : Finding). x.number) (frame-plain frame r 0 q) in
     rw (← z, is)
@@ -107,18 +104,18 @@ pub judge-bad : (c : Config) (p : ℕ) (note : Note) (frame : List ℕ) (d : Dro
 unfolding judge_of stt_from
 judge-bad c p note frame d l e = by (stt_of frame) refl e
   where
-    by : (r : SttRead) → stt_of frame ≡ r
+    by : (r : Result ℕ Refusal) → stt_of frame ≡ r
         → by_stt r (λ context. inner_from c.networks c.kinds c.owners c.tenants c.bindings p 3 context (drop 18 frame)) ≡ bad d
         → drop_code d among (28 ∷ 29 ∷ 12 ∷ 13 ∷ []) ≡ true
-    by (H.Refused r) q e =
+    by (Err r) q e =
         let z : broken_at 0 r ≡ d = cc (e) in
         either (stt_code frame r l q) (λ v. rw (← z, v)) (λ v. rw (← z, v))
-    by (H.Header context) q e = inner_bad c.networks c.kinds c.owners c.tenants c.bindings p 3 context (drop 18 frame) d e
+    by (Ok context) q e = inner_bad c.networks c.kinds c.owners c.tenants c.bindings p 3 context (drop 18 frame) d e
 
-verdict-bad : (x : Verdict answers) (i n : ℕ) (frame : List ℕ) (d : Drop) → (frame_answer answers x i n frame).reply ≡ R.Dropped d → x ≡ bad d
-verdict-bad (bad b) i n frame d e = let z : R.Dropped b ≡ R.Dropped d = sym (bad_reply answers b i n frame) ∙ e in cc
+verdict-bad : (x : Verdict answers) (i n : ℕ) (frame : List ℕ) (d : Drop) → (frame_answer answers x i n frame).reply ≡ Err d → x ≡ bad d
+verdict-bad (bad b) i n frame d e = let z : Err b ≡ Err d = sym (bad_reply answers b i n frame) ∙ e in cc
 verdict-bad (good t) i n frame d e =
-    let z : R.Delivered t (record { start = slot_start i + 18; length = n - 18; in_memory = true }) ≡ R.Dropped d = sym (good_reply answers t i n frame) ∙ e in
+    let z : Ok (R.Delivered t (record { start = slot_start i + 18; length = n - 18; in_memory = true })) ≡ Err d = sym (good_reply answers t i n frame) ∙ e in
     clash (cc (z))
 
 -- ---- what it leaves
@@ -263,8 +260,8 @@ module _ (e : Endpoint) (m k : List ℕ) (p : ℕ) (g : Seg) (h : header_of (con
 -- ---- a refusal
 
 -- too little memory, or what the layers make of the packet
-step-cases : (e : Endpoint) (m k : List ℕ) {a : Received} (P : Step → Type 0) →
-    (R.Dropped D.MemoryTooSmall ≡ a → P (unchanged e 0 m (R.Dropped D.MemoryTooSmall)))
+step-cases : (e : Endpoint) (m k : List ℕ) {a : Result Received Drop} (P : Step → Type 0) →
+    (Err D.MemoryTooSmall ≡ a → P (unchanged e 0 m (Err D.MemoryTooSmall)))
     → ((x : Reading answers) → header_of (config_of e) k ≡ x → (stepped e m x).answer ≡ a → P (stepped e m x)) → (step_of e m k).answer ≡ a → P (step_of e m k)
 unfolding step_of
 step-cases e m k P f g q = case_b (ltb (length m) 55296) (λ b. rw b (f (rw b at q))) (λ b. rw b (g (header_of (config_of e) k) refl (rw b at q)))
@@ -273,25 +270,25 @@ module _ (e : Endpoint) (m k : List ℕ) (d : Drop) where
   abbrev Refused : Step → Type 0
   Refused s = Unchanged e m (with_row e s.peer s.row) s.mem ⊎ FoundBad e m k (drop_code d) (with_row e s.peer s.row) s.mem
 
-  same : (p : ℕ) (row : Peer) (n : List ℕ) (a : Received) → row ≡ row_at e p → n ≡ m → Refused (record { peer = p; row = row; answer = a; mem = n })
+  same : (p : ℕ) (row : Peer) (n : List ℕ) (a : Result Received Drop) → row ≡ row_at e p → n ≡ m → Refused (record { peer = p; row = row; answer = a; mem = n })
   same p row n a q r = inl (record { endpoint = rw q (same_row e p); memory = r })
 
   taken : (p : ℕ) (g : Seg) → header_of (config_of e) k ≡ segment p g → (o : Outcome) → (take_in p (row_at e p) m g).outcome ≡ o
-      → (take_answer answers (judge_of (config_of e)) bytes_of p g (take_in p (row_at e p) m g) o).reply ≡ R.Dropped d → Refused (stepped e m (segment p g))
-  taken p g h (O.Rejected r) q t = let x = take_refused p (row_at e p) m g r q in same p _ _ (R.Dropped d) x.0 x.1
-  taken p g h O.NoMemory q t = let x = take_no_memory p (row_at e p) m g q in same p _ _ (R.Dropped d) x.0 x.1
-  taken p g h O.Pending q t = let z : R.Pending ≡ R.Dropped d = sym (pending_reply answers (judge_of (config_of e)) bytes_of p g (take_in p (row_at e p) m g))
+      → (take_answer answers (judge_of (config_of e)) bytes_of p g (take_in p (row_at e p) m g) o).reply ≡ Err d → Refused (stepped e m (segment p g))
+  taken p g h (O.Rejected r) q t = let x = take_refused p (row_at e p) m g r q in same p _ _ (Err d) x.0 x.1
+  taken p g h O.NoMemory q t = let x = take_no_memory p (row_at e p) m g q in same p _ _ (Err d) x.0 x.1
+  taken p g h O.Pending q t = let z : (Ok R.Pending) ≡ Err d = sym (pending_reply answers (judge_of (config_of e)) bytes_of p g (take_in p (row_at e p) m g))
       ∙ t in clash (cc (z))
   taken p g h (O.Complete s) q t = inr (found_bad e m k p g h s q d (verdict-bad _ _ _ _ d
       (sym (ap (λ (a : Answer answers). a.reply) (complete_reply answers (judge_of (config_of e)) bytes_of p g (take_in p (row_at e p) m g) s)) ∙ t)))
 
-  seen : (x : Reading answers) → header_of (config_of e) k ≡ x → (stepped e m x).answer ≡ R.Dropped d → Refused (stepped e m x)
+  seen : (x : Reading answers) → header_of (config_of e) k ≡ x → (stepped e m x).answer ≡ Err d → Refused (stepped e m x)
   seen (other_sender a) h t = same 0 (row_at e 0) m a refl refl
   seen (direct p a) h t = same p (row_at e p) m a refl refl
   seen (segment p g) h t = taken p g h (take_in p (row_at e p) m g).outcome refl t
 
-  refused : (step_of e m k).answer ≡ R.Dropped d → Refused (step_of e m k)
-  refused t = step-cases e m k Refused (λ z. same 0 (row_at e 0) m (R.Dropped D.MemoryTooSmall) refl refl) seen t
+  refused : (step_of e m k).answer ≡ Err d → Refused (step_of e m k)
+  refused t = step-cases e m k Refused (λ z. same 0 (row_at e 0) m (Err D.MemoryTooSmall) refl refl) seen t
 
 rejection_not : (r : Rejection) → rejection_code r among (25 ∷ 26 ∷ 27 ∷ 28 ∷ 29 ∷ 12 ∷ 13 ∷ []) ≡ false
 rejection_not r =
@@ -310,7 +307,7 @@ rejection_not r =
 
 -- 25 to 29, 12 or 13 on a segment is given only where a complete frame is found bad
 module _ (e : Endpoint) (m k : List ℕ) (p : ℕ) (g : Seg) (h : header_of (config_of e) k ≡ segment p g) where
-  abbrev Bad : Received → Type 0
+  abbrev Bad : Result Received Drop → Type 0
   Bad a = (values_of a).number among (25 ∷ 26 ∷ 27 ∷ 28 ∷ 29 ∷ 12 ∷ 13 ∷ []) ≡ true
       → FoundBad e m k (values_of a).number (with_row e p (take_in p (row_at e p) m g).row) (take_in p (row_at e p) m g).mem
 
@@ -347,7 +344,7 @@ module _ (e : Endpoint) (m k : List ℕ) where
       ⊎ FromMemory e m k t (place_of place) (with_row e s.peer s.row) s.mem
 
   module _ (t : Target) (place : Place) where
-    from-packet : (p : ℕ) → header_of (config_of e) k ≡ direct p (R.Delivered t place)
+    from-packet : (p : ℕ) → header_of (config_of e) k ≡ direct p (Ok (R.Delivered t place))
         → FromPacket e m k t (place_of place) (with_row e p (row_at e p)) m
     from-packet p h = record {
       in_packet = (subst (Kept answers) h (header-kept (config_of e) (config_few e) k)).1;
@@ -358,14 +355,14 @@ module _ (e : Endpoint) (m k : List ℕ) where
     }
 
     taken-whole : (p : ℕ) (g : Seg) → header_of (config_of e) k ≡ segment p g → (o : Outcome) → (take_in p (row_at e p) m g).outcome ≡ o
-        → (take_answer answers (judge_of (config_of e)) bytes_of p g (take_in p (row_at e p) m g) o).reply ≡ R.Delivered t place
+        → (take_answer answers (judge_of (config_of e)) bytes_of p g (take_in p (row_at e p) m g) o).reply ≡ Ok (R.Delivered t place)
         → Deliveries t place (stepped e m (segment p g))
     taken-whole p g h (O.Rejected r) q a =
-        let z : R.Dropped (D.Segment r) ≡ R.Delivered t place = sym (rejected_reply answers (judge_of (config_of e)) bytes_of p g (take_in p (row_at e p) m g) r)
+        let z : Err (D.Segment r) ≡ Ok (R.Delivered t place) = sym (rejected_reply answers (judge_of (config_of e)) bytes_of p g (take_in p (row_at e p) m g) r)
         ∙ a in clash (cc (z))
-    taken-whole p g h O.NoMemory q a = let z : R.Dropped D.MemoryTooSmall ≡ R.Delivered t place = sym
+    taken-whole p g h O.NoMemory q a = let z : Err D.MemoryTooSmall ≡ Ok (R.Delivered t place) = sym
         (no_memory_reply answers (judge_of (config_of e)) bytes_of p g (take_in p (row_at e p) m g)) ∙ a in clash (cc (z))
-    taken-whole p g h O.Pending q a = let z : R.Pending ≡ R.Delivered t place = sym
+    taken-whole p g h O.Pending q a = let z : (Ok R.Pending) ≡ Ok (R.Delivered t place) = sym
         (pending_reply answers (judge_of (config_of e)) bytes_of p g (take_in p (row_at e p) m g)) ∙ a in clash (cc (z))
     taken-whole p g h (O.Complete s) q a =
         let frame : List ℕ = frame_in bytes_of (take_in p (row_at e p) m g).mem (slot_no p s) g.frame_length in
@@ -374,28 +371,28 @@ module _ (e : Endpoint) (m k : List ℕ) where
         inr (subst (λ (y : Place). FromMemory e m k t (place_of y) (with_row e p (take_in p (row_at e p) m g).row) (take_in p (row_at e p) m g).mem) x.1
         (from_memory e m k p g h s q t x.0))
 
-    seen_whole : (x : Reading answers) → header_of (config_of e) k ≡ x → (stepped e m x).answer ≡ R.Delivered t place → Deliveries t place (stepped e m x)
+    seen_whole : (x : Reading answers) → header_of (config_of e) k ≡ x → (stepped e m x).answer ≡ Ok (R.Delivered t place) → Deliveries t place (stepped e m x)
     seen_whole (other_sender a) h q = clash (cc ((subst Conclusive h (header_conclusive (config_of e) k)).0, q))
     seen_whole (direct p a) h q = inl (from-packet p (h ∙ ap (direct p) q))
     seen_whole (segment p g) h q = taken-whole p g h (take_in p (row_at e p) m g).outcome refl q
 
-    delivered : (step_of e m k).answer ≡ R.Delivered t place → Deliveries t place (step_of e m k)
+    delivered : (step_of e m k).answer ≡ Ok (R.Delivered t place) → Deliveries t place (step_of e m k)
     delivered q = step-cases e m k (Deliveries t place) (λ z. clash (cc (z))) seen_whole q
 
   abbrev Waiting : Step → Type 0
   Waiting s = NotYet e m k (with_row e s.peer s.row) s.mem
 
-  judged-some : {C : Type 0} (x : Verdict answers) (i n : ℕ) (frame : List ℕ) → (frame_answer answers x i n frame).reply ≡ R.Pending → C
-  judged-some (bad d) i n frame q = let z : R.Dropped d ≡ R.Pending = sym (bad_reply answers d i n frame) ∙ q in clash (cc (z))
+  judged-some : {C : Type 0} (x : Verdict answers) (i n : ℕ) (frame : List ℕ) → (frame_answer answers x i n frame).reply ≡ Ok R.Pending → C
+  judged-some (bad d) i n frame q = let z : Err d ≡ (Ok R.Pending) = sym (bad_reply answers d i n frame) ∙ q in clash (cc (z))
   judged-some (good t) i n frame q =
-      let z : R.Delivered t (record { start = slot_start i + 18; length = n - 18; in_memory = true }) ≡ R.Pending = sym (good_reply answers t i n frame) ∙ q in
+      let z : Ok (R.Delivered t (record { start = slot_start i + 18; length = n - 18; in_memory = true })) ≡ (Ok R.Pending) = sym (good_reply answers t i n frame) ∙ q in
       clash (cc (z))
 
   taken-part : (p : ℕ) (g : Seg) → header_of (config_of e) k ≡ segment p g → (o : Outcome) → (take_in p (row_at e p) m g).outcome ≡ o
-      → (take_answer answers (judge_of (config_of e)) bytes_of p g (take_in p (row_at e p) m g) o).reply ≡ R.Pending → Waiting (stepped e m (segment p g))
-  taken-part p g h (O.Rejected r) q a = let z : R.Dropped (D.Segment r) ≡ R.Pending = sym
+      → (take_answer answers (judge_of (config_of e)) bytes_of p g (take_in p (row_at e p) m g) o).reply ≡ Ok R.Pending → Waiting (stepped e m (segment p g))
+  taken-part p g h (O.Rejected r) q a = let z : Err (D.Segment r) ≡ (Ok R.Pending) = sym
       (rejected_reply answers (judge_of (config_of e)) bytes_of p g (take_in p (row_at e p) m g) r) ∙ a in clash (cc (z))
-  taken-part p g h O.NoMemory q a = let z : R.Dropped D.MemoryTooSmall ≡ R.Pending = sym
+  taken-part p g h O.NoMemory q a = let z : Err D.MemoryTooSmall ≡ (Ok R.Pending) = sym
       (no_memory_reply answers (judge_of (config_of e)) bytes_of p g (take_in p (row_at e p) m g)) ∙ a in clash (cc (z))
   taken-part p g h O.Pending q a = not_yet e m k p g h q
   taken-part p g h (O.Complete s) q a =
@@ -403,12 +400,12 @@ module _ (e : Endpoint) (m k : List ℕ) where
       judged-some (judge_of (config_of e) p (take_in p (row_at e p) m g).note frame) (slot_no p s) g.frame_length frame
       (sym (ap (λ (y : Answer answers). y.reply) (complete_reply answers (judge_of (config_of e)) bytes_of p g (take_in p (row_at e p) m g) s)) ∙ a)
 
-  seen_part : (x : Reading answers) → header_of (config_of e) k ≡ x → (stepped e m x).answer ≡ R.Pending → Waiting (stepped e m x)
+  seen_part : (x : Reading answers) → header_of (config_of e) k ≡ x → (stepped e m x).answer ≡ Ok R.Pending → Waiting (stepped e m x)
   seen_part (other_sender a) h q = clash (cc ((subst Conclusive h (header_conclusive (config_of e) k)).1, q))
   seen_part (direct p a) h q = clash (cc (subst Conclusive h (header_conclusive (config_of e) k), q))
   seen_part (segment p g) h q = taken-part p g h (take_in p (row_at e p) m g).outcome refl q
 
-  waiting : (step_of e m k).answer ≡ R.Pending → Waiting (step_of e m k)
+  waiting : (step_of e m k).answer ≡ Ok R.Pending → Waiting (step_of e m k)
   waiting q = step-cases e m k Waiting (λ z. clash (cc (z))) seen_part q
 
 -- ---- THE RULE
@@ -417,21 +414,21 @@ module _ (e : Endpoint) (m k : List ℕ) where
   abbrev left : Endpoint
   left = with_row e (step_of e m k).peer (step_of e m k).row
 
-  by_zero : (a : Received) → (step_of e m k).answer ≡ a → (values_of a).number ≡ 0 → Delivered e m k (values_of a) left (step_of e m k).mem
-  by_zero (R.Delivered t p) q z = record { t = t; tenant = refl; binding = refl; from = delivered e m k t p q }
-  by_zero R.Pending q z = absurd (omega arith)
-  by_zero (R.Dropped d) q z = absurd (omega (arith, (drop-codes d).0))
+  by_zero : (a : Result Received Drop) → (step_of e m k).answer ≡ a → (values_of a).number ≡ 0 → Delivered e m k (values_of a) left (step_of e m k).mem
+  by_zero (Ok (R.Delivered t p)) q z = record { t = t; tenant = refl; binding = refl; from = delivered e m k t p q }
+  by_zero (Ok R.Pending) q z = absurd (omega arith)
+  by_zero (Err d) q z = absurd (omega (arith, (drop-codes d).0))
 
-  by_one : (a : Received) → (step_of e m k).answer ≡ a → (values_of a).number ≡ 1 → NotYet e m k left (step_of e m k).mem
-  by_one (R.Delivered t p) q z = absurd (omega arith)
-  by_one R.Pending q z = waiting e m k q
-  by_one (R.Dropped d) q z = absurd (omega (arith, (drop-codes d).0))
+  by_one : (a : Result Received Drop) → (step_of e m k).answer ≡ a → (values_of a).number ≡ 1 → NotYet e m k left (step_of e m k).mem
+  by_one (Ok (R.Delivered t p)) q z = absurd (omega arith)
+  by_one (Ok R.Pending) q z = waiting e m k q
+  by_one (Err d) q z = absurd (omega (arith, (drop-codes d).0))
 
-  by_other : (a : Received) → (step_of e m k).answer ≡ a → (values_of a).number ≢ 0 → (values_of a).number ≢ 1
+  by_other : (a : Result Received Drop) → (step_of e m k).answer ≡ a → (values_of a).number ≢ 0 → (values_of a).number ≢ 1
       → Unchanged e m left (step_of e m k).mem ⊎ FoundBad e m k (values_of a).number left (step_of e m k).mem
-  by_other (R.Delivered t p) q x y = absurd (x refl)
-  by_other R.Pending q x y = absurd (y refl)
-  by_other (R.Dropped d) q x y = refused e m k d q
+  by_other (Ok (R.Delivered t p)) q x y = absurd (x refl)
+  by_other (Ok R.Pending) q x y = absurd (y refl)
+  by_other (Err d) q x y = refused e m k d q
 
   pub receive_rule : ReceiveRule e m k (values_of (step_of e m k).answer) left (step_of e m k).mem
   receive_rule = record {

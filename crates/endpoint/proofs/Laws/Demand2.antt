@@ -1,6 +1,6 @@
 -- Demand 2, receiving, proved of every set-up: first of one receive (`sound`, `complete-packet`, `complete_memory`), then over runs, joined with EveryRun.
 use Prim.Native.Nat.{ℕ, ◌+◌, ◌-◌, ◌<◌, ◌≤◌}
-use Rattle.std.specs.Prelude.{◌≡◌, ◌⊎◌, Bool, false, take, drop, ltb}
+use Rattle.std.specs.Prelude.{◌≡◌, ◌⊎◌, Bool, false, take, drop, ltb, Ok, Err}
 use Rattle.std.proofs.Math.Path.{refl, ap}
 use Rattle.std.proofs.Common.{sym, subst, ◌∙◌, inl, inr, arith, le-ltb}
 use Rattle.std.proofs.Math.Bool.{true}
@@ -14,7 +14,8 @@ use Rattle.reassembly.specs.Store.{bytes_of, take_in, slot_start}
 use Rattle.reassembly.proofs.Laws.Store.{slot-inside}
 use Rattle.reassembly.proofs.Laws.Answers.{part-fits, view_packet, bad_reply, good_reply, rejected_reply, pending_reply, no_memory_reply, complete_reply}
 use Rattle.reassembly.proofs.Laws.TakeIn.{take_whole, take-length, frame-part}
-use Rattle.reassembly.specs.Receive.{view_of, Answer, Reading, other_sender, direct, segment, Verdict, bad, good, frame_answer, take_answer, Event, receive, tick}
+use Rattle.reassembly.specs.Receive.{view_of, Answer, Reading, other_sender, direct, segment, Verdict, bad, good, frame_answer, take_answer, Event, receive}
+use Rattle.reassembly.specs.Receive.{tick}
 use Rattle.reassembly.specs.declared.take.Outcome.{Outcome}
 use Rattle.reassembly.specs.declared.take.Outcome.TheVariants as O
 use Rattle.reassembly.specs.EveryRun.{IfAndOnlyIf}
@@ -117,13 +118,13 @@ lies_view k m place frame l =
 
 -- ---- one receive, sound
 
-pub verdict-good : (x : Verdict answers) (i n : ℕ) (frame : List ℕ) (t : Target) (place : Place) → (frame_answer answers x i n frame).reply ≡ R.Delivered t place
+pub verdict-good : (x : Verdict answers) (i n : ℕ) (frame : List ℕ) (t : Target) (place : Place) → (frame_answer answers x i n frame).reply ≡ Ok (R.Delivered t place)
     → (x ≡ good t) × (record { start = slot_start i + 18; length = n - 18; in_memory = true } ≡ place)
 verdict-good (bad b) i n frame t place e =
-    let y : R.Dropped b ≡ R.Delivered t place = sym (bad_reply answers b i n frame) ∙ e in
+    let y : Err b ≡ Ok (R.Delivered t place) = sym (bad_reply answers b i n frame) ∙ e in
     let z : ◌≡◌ {A = ℕ} 0 1 = cc in absurd (omega arith)
 verdict-good (good u) i n frame t place e =
-    let y : R.Delivered u (record { start = slot_start i + 18; length = n - 18; in_memory = true }) ≡ R.Delivered t place =
+    let y : Ok (R.Delivered u (record { start = slot_start i + 18; length = n - 18; in_memory = true })) ≡ Ok (R.Delivered t place) =
     sym (good_reply answers u i n frame) ∙ e in
     (cc, cc)
 
@@ -160,17 +161,17 @@ module _ (e : Endpoint) (m k : List ℕ) (enough : 55296 ≤ length m) (packet :
   module _ (memory : Bytes m) (t : Target) (frame : List ℕ) where
     taken_sound : (p : ℕ) (g : Seg) → header_of (config_of e) k ≡ segment p g → Bytes (take_in p (row_at e p) m g).mem → (o : Outcome)
         → (take_in p (row_at e p) m g).outcome ≡ o
-        → (place : Place) → (take_answer answers (judge_of (config_of e)) bytes_of p g (take_in p (row_at e p) m g) o).reply ≡ R.Delivered t place
+        → (place : Place) → (take_answer answers (judge_of (config_of e)) bytes_of p g (take_in p (row_at e p) m g) o).reply ≡ Ok (R.Delivered t place)
         → view_of k (take_in p (row_at e p) m g).mem (place_of place) ≡ frame → Completes e m k t frame
     taken_sound p g h b (O.Rejected r) q place a w =
-        let y : R.Dropped (D.Segment r) ≡ R.Delivered t place =
+        let y : Err (D.Segment r) ≡ Ok (R.Delivered t place) =
         sym (rejected_reply answers (judge_of (config_of e)) bytes_of p g (take_in p (row_at e p) m g) r) ∙ a in
         let z : ◌≡◌ {A = ℕ} 0 1 = cc in absurd (omega arith)
     taken_sound p g h b O.Pending q place a w =
-        let y : R.Pending ≡ R.Delivered t place = sym (pending_reply answers (judge_of (config_of e)) bytes_of p g (take_in p (row_at e p) m g)) ∙ a in
+        let y : (Ok R.Pending) ≡ Ok (R.Delivered t place) = sym (pending_reply answers (judge_of (config_of e)) bytes_of p g (take_in p (row_at e p) m g)) ∙ a in
         let z : ◌≡◌ {A = ℕ} 0 1 = cc in absurd (omega arith)
     taken_sound p g h b O.NoMemory q place a w =
-        let y : R.Dropped D.MemoryTooSmall ≡ R.Delivered t place = sym
+        let y : Err D.MemoryTooSmall ≡ Ok (R.Delivered t place) = sym
         (no_memory_reply answers (judge_of (config_of e)) bytes_of p g (take_in p (row_at e p) m g)) ∙ a in
         let z : ◌≡◌ {A = ℕ} 0 1 = cc in absurd (omega arith)
     taken_sound p g h b (O.Complete s) q place a w =
@@ -190,7 +191,7 @@ module _ (e : Endpoint) (m k : List ℕ) (enough : 55296 ≤ length m) (packet :
         }
 
     seen_sound : (x : Reading answers) → header_of (config_of e) k ≡ x → Bytes (stepped e m x).mem → (place : Place) → (stepped e m x).answer
-        ≡ R.Delivered t place
+        ≡ Ok (R.Delivered t place)
         → view_of k (stepped e m x).mem (place_of place) ≡ frame → CarriesFrame (config_of e) k t frame ⊎ Completes e m k t frame
     seen_sound (other_sender a) h b place q w =
         let z : ◌≡◌ {A = Bool} true false = sym (ap is_delivered q) ∙ (subst Conclusive h (header_conclusive (config_of e) k)).0 in

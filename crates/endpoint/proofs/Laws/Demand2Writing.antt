@@ -1,5 +1,5 @@
 -- DEMAND 2, writing: the theorem (statement: Demand2Writing).
-use Rattle.std.specs.Prelude.{ℕ, zero, suc, ◌+◌, ◌-◌, ◌*◌, ◌/◌, ◌^◌, ◌<◌, ◌≤◌, min, ◌≡◌, refl, ◌⊎◌, Bool, false, List, [], ◌++◌, length, get_or, eqb}
+use Rattle.std.specs.Prelude.{ℕ, zero, suc, ◌+◌, ◌-◌, ◌*◌, ◌/◌, ◌^◌, ◌<◌, ◌≤◌, min, ◌≡◌, refl, ◌⊎◌, Bool, false, List, [], ◌++◌, length, get_or, eqb, Ok}
 use Rattle.std.proofs.Common.{sym, ap, ap₂, subst, ◌∙◌, inl, inr, append-nil, arith, suc-mul, zero-mul, le-ltb, ltb-false}
 use Rattle.wire.specs.Bytes.{part}
 use Rattle.wire.proofs.Laws.Bytes.{part-empty}
@@ -19,7 +19,6 @@ use Rattle.endpoint.proofs.Laws.Wrap.{packet-nvgre, packet-stt, one_vxlan, one_n
 use Rattle.endpoint.specs.Reached.{Reached}
 use Rattle.endpoint.proofs.Laws.Reached.{reached_ready}
 use Rattle.endpoint.specs.Demand2Writing.{CarriesWhole, portion, joined_to, CarriesPart, LaidOutBy, IsPacketLength, Demand2Writing}
-use Rattle.endpoint.specs.declared.answer.Wrapped.TheVariants as Y
 use Rattle.endpoint.specs.declared.config.Endpoint.{Endpoint}
 
 -- ---- parts
@@ -250,7 +249,7 @@ demand_two_writing e b frame reached listed =
           (length_kind (kind_at e b) e.own (peer_at e b) e.port (network_at e b) e.mtu frame k identifier by l.mtu_least good within) formula in
           written_when e b frame k identifier output listed l.owner_below good (not_exceeds (kind_at e b) (length frame) e.mtu k n formula short) within
           (omega arith)
-          ∙ ap (λ (x : ℕ). Y.Written (record { length = x; segments = segments_of (kind_at e b) (length frame) e.mtu })) same;
+          ∙ ap (λ (x : ℕ). Ok (record { length = x; segments = segments_of (kind_at e b) (length frame) e.mtu })) same;
     }
   where
     all : (whole : List ℕ) → length whole ≡ 18 + length frame → 576 ≤ e.mtu

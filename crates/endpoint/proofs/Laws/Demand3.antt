@@ -1,12 +1,10 @@
 -- Demand 3: the claim and the rules of every run, proved of every set-up, and what their words mean.
-use Rattle.std.specs.Prelude.{ℕ, ◌<◌, ◌≡◌, refl, Bool, true, false, cond, List, [], eqb}
+use Rattle.std.specs.Prelude.{ℕ, ◌<◌, ◌≡◌, refl, Bool, true, false, cond, List, [], eqb, Result, Ok, Err}
 use Rattle.std.proofs.Common.{sym, subst, arith, eqb-true, eq-eqb}
 use Rattle.std.proofs.Math.Option.{none, some}
 use Rattle.wire.specs.Bytes.{Bytes, part}
 use Rattle.wire.specs.Ipv4.{ipv4_of}
 use Rattle.wire.proofs.Laws.Ipv4 as P
-use Rattle.wire.specs.declared.ipv4.Ipv4Read.{Ipv4Read}
-use Rattle.wire.specs.declared.ipv4.Ipv4Read.TheVariants as I
 use Rattle.reassembly.specs.Claim.{Claim}
 use Rattle.reassembly.specs.SetUp as U
 use Rattle.reassembly.proofs.Laws.Claim.{claim}
@@ -22,10 +20,12 @@ use Rattle.endpoint.specs.declared.config.Endpoint.{Endpoint}
 use Rattle.endpoint.specs.Run.{ends_of}
 use Rattle.endpoint.specs.Demand3.{From, WordsMean}
 use Rattle.reassembly.specs.Slots.{most_peers}
+use Rattle.wire.specs.declared.ipv4.Ipv4.{Ipv4}
+use Rattle.wire.specs.declared.refusal.Refusal.{Refusal}
 
-from_by : (c : Config) (k : List ℕ) (p : ℕ) → Bytes k → (x : Ipv4Read) → ipv4_of k ≡ x → by_sender c x ≡ some p → From c k p
-from_by c k p b (I.Refused r) ip e = let z : ◌≡◌ {A = ℕ} 0 1 = cc in absurd (omega arith)
-from_by c k p b (I.Packet h) ip e = ours (eqb h.destination c.own) refl e
+from_by : (c : Config) (k : List ℕ) (p : ℕ) → Bytes k → (x : Result Ipv4 Refusal) → ipv4_of k ≡ x → by_sender c x ≡ some p → From c k p
+from_by c k p b (Err r) ip e = let z : ◌≡◌ {A = ℕ} 0 1 = cc in absurd (omega arith)
+from_by c k p b (Ok h) ip e = ours (eqb h.destination c.own) refl e
   where
     ours : (t : Bool) → eqb h.destination c.own ≡ t → cond t (find_peer c h.source) none ≡ some p → From c k p
     ours true q e =

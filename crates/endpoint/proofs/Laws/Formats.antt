@@ -1,5 +1,5 @@
 -- The receiver's layers are the formats: sound and complete.
-use Rattle.std.specs.Prelude.{ℕ, ◌+◌, ◌-◌, ◌≤◌, ◌≡◌, refl, Bool, true, false, List, length, get_or, drop, eqb}
+use Rattle.std.specs.Prelude.{ℕ, ◌+◌, ◌-◌, ◌≤◌, ◌≡◌, refl, Bool, true, false, List, length, get_or, drop, eqb, Result, Ok, Err}
 use Rattle.std.proofs.Common.{sym, ap, subst, ◌∙◌, arith, eqb-true, eq-eqb}
 use Rattle.std.proofs.Math.Option.{Option, none, some}
 use Rattle.std.proofs.lemmas.Bool.{eqb-false}
@@ -15,16 +15,8 @@ use Rattle.wire.proofs.Laws.Stt as Q
 use Rattle.wire.specs.Frame.{IsFrame, frame_of}
 use Rattle.wire.proofs.Laws.Frame as E
 use Rattle.wire.specs.declared.ipv4.Ipv4.{Ipv4}
-use Rattle.wire.specs.declared.ipv4.Ipv4Read.{Ipv4Read}
-use Rattle.wire.specs.declared.ipv4.Ipv4Read.TheVariants as I
 use Rattle.wire.specs.declared.segment.Segment.{Segment}
 use Rattle.wire.specs.declared.carriage.Tunnel.{Tunnel}
-use Rattle.wire.specs.declared.carriage.Carried.{Carried}
-use Rattle.wire.specs.declared.carriage.Carried.TheVariants as C
-use Rattle.wire.specs.declared.stt.SttRead.{SttRead}
-use Rattle.wire.specs.declared.stt.SttRead.TheVariants as T
-use Rattle.wire.specs.declared.frame.FrameRead.{FrameRead}
-use Rattle.wire.specs.declared.frame.FrameRead.TheVariants as F
 use Rattle.reassembly.proofs.Laws.Base.{case_b, clash}
 use Rattle.reassembly.specs.Slots.{Note}
 use Rattle.reassembly.specs.Take.{Seg, seg_of}
@@ -39,6 +31,10 @@ use Rattle.endpoint.specs.declared.answer.Place.{Place}
 use Rattle.endpoint.specs.declared.answer.Target.{Target}
 use Rattle.endpoint.specs.declared.answer.Received.{Received}
 use Rattle.endpoint.specs.declared.answer.Received.TheVariants as R
+use Rattle.wire.specs.declared.carriage.Carried.TheVariants as C
+use Rattle.wire.specs.declared.carriage.Carried.{Carried}
+use Rattle.wire.specs.declared.refusal.Refusal.{Refusal}
+use Rattle.endpoint.specs.declared.answer.Drop.{Drop}
 
 -- ---- the lookups find what the listing's entries say
 
@@ -94,11 +90,11 @@ module _ (c : Config) (peer kind network : ℕ) where
 
 -- ---- the inner frame: bound and good
 
-inner_by : (c : Config) (o : Option ℕ) (r : FrameRead) (t : Target) → by_binding c.tenants o r ≡ good t
-    → (o ≡ some t.binding) × ((t.tenant ≡ get_or c.tenants t.binding 0) × (r ≡ F.Good))
+inner_by : (c : Config) (o : Option ℕ) (r : Result (Unit {0}) Refusal) (t : Target) → by_binding c.tenants o r ≡ good t
+    → (o ≡ some t.binding) × ((t.tenant ≡ get_or c.tenants t.binding 0) × (r ≡ Ok tt))
 inner_by c none r t e = let z : ◌≡◌ {A = ℕ} 0 1 = cc in absurd (omega arith)
-inner_by c (some b) (F.Refused x) t e = let z : ◌≡◌ {A = ℕ} 0 1 = cc in absurd (omega arith)
-inner_by c (some b) F.Good t e =
+inner_by c (some b) (Err x) t e = let z : ◌≡◌ {A = ℕ} 0 1 = cc in absurd (omega arith)
+inner_by c (some b) (Ok tt) t e =
     let q : record { tenant = get_or c.tenants b 0; binding = b } ≡ t = cc (e) in
     rw (← q) (refl, (refl, refl))
 
@@ -117,9 +113,9 @@ module _ (c : Config) (p kind network : ℕ) (frame : List ℕ) (t : Target) whe
 
 -- ---- a complete STT frame
 
-stt_by : (r : SttRead) (next : ℕ → Verdict answers) (t : Target) → by_stt r next ≡ good t → (context : ℕ) × ((r ≡ T.Header context) × (next context ≡ good t))
-stt_by (T.Refused r) next t e = let z : ◌≡◌ {A = ℕ} 0 1 = cc in absurd (omega arith)
-stt_by (T.Header context) next t e = (context, (refl, e))
+stt_by : (r : Result ℕ Refusal) (next : ℕ → Verdict answers) (t : Target) → by_stt r next ≡ good t → (context : ℕ) × ((r ≡ Ok context) × (next context ≡ good t))
+stt_by (Err r) next t e = let z : ◌≡◌ {A = ℕ} 0 1 = cc in absurd (omega arith)
+stt_by (Ok context) next t e = (context, (refl, e))
 
 pub judge_sound : (c : Config) (p : ℕ) (note : Note) (whole : List ℕ) (t : Target) → Bytes whole → judge_of c p note whole ≡ good t
     → GoodFrame c p whole t (drop 18 whole)
@@ -139,23 +135,23 @@ judge-complete c p note whole t inner g =
 
 -- ---- a packet that is taken for a segment
 
-carried-segment : (c : Config) (q start end : ℕ) (k : List ℕ) (r : Carried) (p : ℕ) (g : Seg) → by_payload c q start end k r ≡ segment p g
-    → (s : Segment) × ((r ≡ C.Segment s) × ((q ≡ p) × (seg_of s (part k (start + s.start) end) ≡ g)))
-carried-segment c q start end k (C.Refused r) p g e = let z : ◌≡◌ {A = ℕ} 0 1 = cc in absurd (omega arith)
-carried-segment c q start end k (C.Tunnel t) p g e = let z : ◌≡◌ {A = ℕ} 0 1 = cc in absurd (omega arith)
-carried-segment c q start end k (C.Segment s) p g e = (s, (refl, (cc, cc)))
+carried-segment : (c : Config) (q start end : ℕ) (k : List ℕ) (r : Result Carried Refusal) (p : ℕ) (g : Seg) → by_payload c q start end k r ≡ segment p g
+    → (s : Segment) × ((r ≡ Ok (C.Segment s)) × ((q ≡ p) × (seg_of s (part k (start + s.start) end) ≡ g)))
+carried-segment c q start end k (Err r) p g e = let z : ◌≡◌ {A = ℕ} 0 1 = cc in absurd (omega arith)
+carried-segment c q start end k (Ok (C.Tunnel t)) p g e = let z : ◌≡◌ {A = ℕ} 0 1 = cc in absurd (omega arith)
+carried-segment c q start end k (Ok (C.Segment s)) p g e = (s, (refl, (cc, cc)))
 
 -- what it was read as
 record ReadSegment (c : Config) (k : List ℕ) (p : ℕ) (g : Seg) : Type 0 where
   h : Ipv4
-  ip : ipv4_of k ≡ I.Packet h
+  ip : ipv4_of k ≡ Ok h
   ours : h.destination ≡ c.own
   listed : find_peer c h.source ≡ some p
   s : Segment
-  read : carriage_of h.protocol h.source h.destination c.port (part k h.start h.end) ≡ C.Segment s
+  read : carriage_of h.protocol h.source h.destination c.port (part k h.start h.end) ≡ Ok (C.Segment s)
   is : seg_of s (part k (h.start + s.start) h.end) ≡ g
 
-peer-segment : (c : Config) (k : List ℕ) (p : ℕ) (g : Seg) (h : Ipv4) → ipv4_of k ≡ I.Packet h → h.destination ≡ c.own → (o : Option ℕ)
+peer-segment : (c : Config) (k : List ℕ) (p : ℕ) (g : Seg) (h : Ipv4) → ipv4_of k ≡ Ok h → h.destination ≡ c.own → (o : Option ℕ)
     → find_peer c h.source ≡ o
     → by_peer c h k o ≡ segment p g → ReadSegment c k p g
 peer-segment c k p g h ip ours none listed e = let z : ◌≡◌ {A = ℕ} 0 1 = cc in absurd (omega arith)
@@ -163,14 +159,14 @@ peer-segment c k p g h ip ours (some q) listed e =
     let x = carried-segment c q h.start h.end k (carriage_of h.protocol h.source h.destination c.port (part k h.start h.end)) p g e in
     record { h = h; ip = ip; ours = ours; listed = listed ∙ ap some x.1.1.0; s = x.0; read = x.1.0; is = x.1.1.1 }
 
-ours-segment : (c : Config) (k : List ℕ) (p : ℕ) (g : Seg) (h : Ipv4) → ipv4_of k ≡ I.Packet h → (b : Bool) → eqb h.destination c.own ≡ b
+ours-segment : (c : Config) (k : List ℕ) (p : ℕ) (g : Seg) (h : Ipv4) → ipv4_of k ≡ Ok h → (b : Bool) → eqb h.destination c.own ≡ b
     → by_destination c h k b ≡ segment p g → ReadSegment c k p g
 ours-segment c k p g h ip true b e = peer-segment c k p g h ip (eqb-true h.destination c.own b) (find_peer c h.source) refl e
 ours-segment c k p g h ip false b e = let z : ◌≡◌ {A = ℕ} 0 1 = cc in absurd (omega arith)
 
-ip_segment : (c : Config) (k : List ℕ) (p : ℕ) (g : Seg) (x : Ipv4Read) → ipv4_of k ≡ x → by_ipv4 c k x ≡ segment p g → ReadSegment c k p g
-ip_segment c k p g (I.Refused r) ip e = let z : ◌≡◌ {A = ℕ} 0 1 = cc in absurd (omega arith)
-ip_segment c k p g (I.Packet h) ip e = ours-segment c k p g h ip (eqb h.destination c.own) refl e
+ip_segment : (c : Config) (k : List ℕ) (p : ℕ) (g : Seg) (x : Result Ipv4 Refusal) → ipv4_of k ≡ x → by_ipv4 c k x ≡ segment p g → ReadSegment c k p g
+ip_segment c k p g (Err r) ip e = let z : ◌≡◌ {A = ℕ} 0 1 = cc in absurd (omega arith)
+ip_segment c k p g (Ok h) ip e = ours-segment c k p g h ip (eqb h.destination c.own) refl e
 
 pub segment_sound : (c : Config) (k : List ℕ) (p : ℕ) (g : Seg) → Bytes k → header_of c k ≡ segment p g → CarriesSegment c k p g
 unfolding header_of
@@ -207,56 +203,56 @@ segment_complete c k p g w =
 
 record ReadTunnel (c : Config) (k : List ℕ) (t : Target) (place : Place) : Type 0 where
   h : Ipv4
-  ip : ipv4_of k ≡ I.Packet h
+  ip : ipv4_of k ≡ Ok h
   ours : h.destination ≡ c.own
   peer : ℕ
   listed : find_peer c h.source ≡ some peer
   tunnel : Tunnel
-  read : carriage_of h.protocol h.source h.destination c.port (part k h.start h.end) ≡ C.Tunnel tunnel
+  read : carriage_of h.protocol h.source h.destination c.port (part k h.start h.end) ≡ Ok (C.Tunnel tunnel)
   worth : inner_from c.networks c.kinds c.owners c.tenants c.bindings peer tunnel.kind tunnel.network
       (part k (h.start + tunnel.start) h.end) ≡ good t
   lies : record { start = h.start + tunnel.start; length = length (part k (h.start + tunnel.start) h.end); in_memory = false } ≡ place
 
-worth_tunnel : (x : Verdict answers) (at : Place) (t : Target) (place : Place) → answer_at x at ≡ R.Delivered t place → (x ≡ good t) × (at ≡ place)
+worth_tunnel : (x : Verdict answers) (at : Place) (t : Target) (place : Place) → answer_at x at ≡ Ok (R.Delivered t place) → (x ≡ good t) × (at ≡ place)
 worth_tunnel (bad d) at t place e = let z : ◌≡◌ {A = ℕ} 0 1 = cc in absurd (omega arith)
 worth_tunnel (good u) at t place e = (cc, cc)
 
-carried_tunnel : (c : Config) (q start end : ℕ) (k : List ℕ) (r : Carried) (p : ℕ) (t : Target) (place : Place)
-    → by_payload c q start end k r ≡ direct p (R.Delivered t place)
-    → (u : Tunnel) × ((r ≡ C.Tunnel u) × ((inner_from c.networks c.kinds c.owners c.tenants c.bindings q u.kind u.network
+carried_tunnel : (c : Config) (q start end : ℕ) (k : List ℕ) (r : Result Carried Refusal) (p : ℕ) (t : Target) (place : Place)
+    → by_payload c q start end k r ≡ direct p (Ok (R.Delivered t place))
+    → (u : Tunnel) × ((r ≡ Ok (C.Tunnel u)) × ((inner_from c.networks c.kinds c.owners c.tenants c.bindings q u.kind u.network
     (part k (start + u.start) end) ≡ good t)
     × (record { start = start + u.start; length = length (part k (start + u.start) end); in_memory = false } ≡ place)))
 unfolding tunnel_from
-carried_tunnel c q start end k (C.Refused r) p t place e = let z : ◌≡◌ {A = ℕ} 0 1 = cc in absurd (omega arith)
-carried_tunnel c q start end k (C.Segment s) p t place e = let z : ◌≡◌ {A = ℕ} 0 1 = cc in absurd (omega arith)
-carried_tunnel c q start end k (C.Tunnel u) p t place e =
+carried_tunnel c q start end k (Err r) p t place e = let z : ◌≡◌ {A = ℕ} 0 1 = cc in absurd (omega arith)
+carried_tunnel c q start end k (Ok (C.Segment s)) p t place e = let z : ◌≡◌ {A = ℕ} 0 1 = cc in absurd (omega arith)
+carried_tunnel c q start end k (Ok (C.Tunnel u)) p t place e =
     let frame : List ℕ = part k (start + u.start) end in
     let worth : Verdict answers = inner_from c.networks c.kinds c.owners c.tenants c.bindings q u.kind u.network frame in
     let x = worth_tunnel worth (record { start = start + u.start; length = length frame; in_memory = false }) t place
-    (plain_is (answer_at worth (record { start = start + u.start; length = length frame; in_memory = false })) (R.Delivered t place) q p e) in
+    (plain_is (answer_at worth (record { start = start + u.start; length = length frame; in_memory = false })) (Ok (R.Delivered t place)) q p e) in
     (u, (refl, (x.0, x.1)))
   where
-    plain_is : (a b : Received) (i j : ℕ) → ◌≡◌ {A = Reading answers} (direct i a) (direct j b) → a ≡ b
+    plain_is : (a b : Result Received Drop) (i j : ℕ) → ◌≡◌ {A = Reading answers} (direct i a) (direct j b) → a ≡ b
     plain_is a b i j z = cc
 
-peer_tunnel : (c : Config) (k : List ℕ) (p : ℕ) (t : Target) (place : Place) (h : Ipv4) → ipv4_of k ≡ I.Packet h → h.destination ≡ c.own → (o : Option ℕ)
+peer_tunnel : (c : Config) (k : List ℕ) (p : ℕ) (t : Target) (place : Place) (h : Ipv4) → ipv4_of k ≡ Ok h → h.destination ≡ c.own → (o : Option ℕ)
     → find_peer c h.source ≡ o
-    → by_peer c h k o ≡ direct p (R.Delivered t place) → ReadTunnel c k t place
+    → by_peer c h k o ≡ direct p (Ok (R.Delivered t place)) → ReadTunnel c k t place
 peer_tunnel c k p t place h ip ours none listed e = let z : ◌≡◌ {A = ℕ} 0 1 = cc in absurd (omega arith)
 peer_tunnel c k p t place h ip ours (some q) listed e =
     let x = carried_tunnel c q h.start h.end k (carriage_of h.protocol h.source h.destination c.port (part k h.start h.end)) p t place
     e in
     record { h = h; ip = ip; ours = ours; peer = q; listed = listed; tunnel = x.0; read = x.1.0; worth = x.1.1.0; lies = x.1.1.1 }
 
-ours_tunnel : (c : Config) (k : List ℕ) (p : ℕ) (t : Target) (place : Place) (h : Ipv4) → ipv4_of k ≡ I.Packet h → (b : Bool) → eqb h.destination c.own ≡ b
-    → by_destination c h k b ≡ direct p (R.Delivered t place) → ReadTunnel c k t place
+ours_tunnel : (c : Config) (k : List ℕ) (p : ℕ) (t : Target) (place : Place) (h : Ipv4) → ipv4_of k ≡ Ok h → (b : Bool) → eqb h.destination c.own ≡ b
+    → by_destination c h k b ≡ direct p (Ok (R.Delivered t place)) → ReadTunnel c k t place
 ours_tunnel c k p t place h ip true b e = peer_tunnel c k p t place h ip (eqb-true h.destination c.own b) (find_peer c h.source) refl e
 ours_tunnel c k p t place h ip false b e = let z : ◌≡◌ {A = ℕ} 0 1 = cc in absurd (omega arith)
 
-ip_tunnel : (c : Config) (k : List ℕ) (p : ℕ) (t : Target) (place : Place) (x : Ipv4Read) → ipv4_of k ≡ x → by_ipv4 c k x ≡ direct p (R.Delivered t place)
+ip_tunnel : (c : Config) (k : List ℕ) (p : ℕ) (t : Target) (place : Place) (x : Result Ipv4 Refusal) → ipv4_of k ≡ x → by_ipv4 c k x ≡ direct p (Ok (R.Delivered t place))
     → ReadTunnel c k t place
-ip_tunnel c k p t place (I.Refused r) ip e = let z : ◌≡◌ {A = ℕ} 0 1 = cc in absurd (omega arith)
-ip_tunnel c k p t place (I.Packet h) ip e = ours_tunnel c k p t place h ip (eqb h.destination c.own) refl e
+ip_tunnel c k p t place (Err r) ip e = let z : ◌≡◌ {A = ℕ} 0 1 = cc in absurd (omega arith)
+ip_tunnel c k p t place (Ok h) ip e = ours_tunnel c k p t place h ip (eqb h.destination c.own) refl e
 
 -- where it lies: a part of the packet
 pub record Lies (k : List ℕ) (place : Place) (frame : List ℕ) : Type 0 where
@@ -264,7 +260,7 @@ pub record Lies (k : List ℕ) (place : Place) (frame : List ℕ) : Type 0 where
   pub within : place.start + place.length ≤ length k
   pub bytes : part k place.start (place.start + place.length) ≡ frame
 
-pub frame_sound : (c : Config) (k : List ℕ) (p : ℕ) (t : Target) (place : Place) → Bytes k → header_of c k ≡ direct p (R.Delivered t place)
+pub frame_sound : (c : Config) (k : List ℕ) (p : ℕ) (t : Target) (place : Place) → Bytes k → header_of c k ≡ direct p (Ok (R.Delivered t place))
     → (frame : List ℕ) × (CarriesFrame c k t frame × Lies k place frame)
 unfolding header_of
 frame_sound c k p t place b e =
@@ -305,7 +301,7 @@ frame_sound c k p t place b e =
     )
 
 pub frame-complete : (c : Config) (k : List ℕ) (t : Target) (frame : List ℕ) (w : CarriesFrame c k t frame)
-    → (place : Place) × ((header_of c k ≡ direct w.peer (R.Delivered t place)) × Lies k place frame)
+    → (place : Place) × ((header_of c k ≡ direct w.peer (Ok (R.Delivered t place))) × Lies k place frame)
 unfolding header_of tunnel_from
 frame-complete c k t frame w =
     let n : ℕ = length (header w.ipv4.f) in

@@ -9,7 +9,8 @@ use Rattle.std.proofs.Math.Dec.{ltb}
 use Rattle.wire.specs.Bytes.{Bytes}
 use Rattle.wire.specs.Checks.{Check, Passed}
 use Rattle.wire.specs.Refusal.{Finding, only}
-use Rattle.wire.specs.Table.{Rows, ◌⇒◌, ◌and_then◌, told, header_length_of, protocol_of, source_of, destination_of, payload_of, ipv4_rows, payload_rows, stt_rows}
+use Rattle.wire.specs.Table.{Rows, ◌⇒◌, ◌and_then◌, told, header_length_of, protocol_of, source_of, destination_of, payload_of, ipv4_rows, payload_rows}
+use Rattle.wire.specs.Table.{stt_rows}
 use Rattle.wire.specs.Table.{context_of}
 use Rattle.wire.specs.Offset.{breaks_vxlan, breaks_nvgre, breaks_stt, FirstOf}
 use Rattle.wire.proofs.Laws.Offset.{Low, Higher, skip, ipv4_low, carriage_low, vxlan_named, nvgre_named, stt_named}

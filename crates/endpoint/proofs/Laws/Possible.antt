@@ -1,7 +1,7 @@
 -- Demand 3 is not empty (document 01, "Whose packet it is"): a set-up and real packets meet its hypotheses. Five frames of one peer's, each cut into two
 -- segments, are mixed, four pending at once and one under an identifier that is used again, with ticks, packets of the peer's own and other senders'
 -- between; and by the claim each is delivered once in that run, to the tenant of its Context ID.
-use Rattle.std.specs.Prelude.{◌≡◌, refl, Bool, false, List, [], ◌++◌, map, ℕ, zero, suc, ◌+◌, ◌-◌, ◌≤◌, ◌<◌, length, take, drop}
+use Rattle.std.specs.Prelude.{◌≡◌, refl, Bool, false, List, [], ◌++◌, map, ℕ, zero, suc, ◌+◌, ◌-◌, ◌≤◌, ◌<◌, length, take, drop, Ok}
 use Rattle.std.proofs.Common.{sym, ap, subst, ◌∙◌, arith}
 use Rattle.reassembly.proofs.Laws.Base.{below_two}
 use Rattle.reassembly.specs.Take.{slot_no}
@@ -151,12 +151,12 @@ pub record Delivers (tenant binding : ℕ) (frame : List ℕ) (a : Answer answer
 -- what peer 0 is answered: to each frame's first segment in the run 1, though four are pending; to its last, 0; frame 4, under frame 0's identifier, is a
 -- frame of its own
 pub record Answered (w : World Config) : Type 0 where
-  pub waits_0 : answer_in answers Config layers w frames [] 0 1 ≡ bare answers R.Pending
-  pub waits_1 : answer_in answers Config layers w frames (take 2 mixed) 1 0 ≡ bare answers R.Pending
-  pub waits_2 : answer_in answers Config layers w frames (take 4 mixed) 2 0 ≡ bare answers R.Pending
-  pub waits_3 : answer_in answers Config layers w frames (take 6 mixed) 3 1 ≡ bare answers R.Pending
+  pub waits_0 : answer_in answers Config layers w frames [] 0 1 ≡ bare answers (Ok R.Pending)
+  pub waits_1 : answer_in answers Config layers w frames (take 2 mixed) 1 0 ≡ bare answers (Ok R.Pending)
+  pub waits_2 : answer_in answers Config layers w frames (take 4 mixed) 2 0 ≡ bare answers (Ok R.Pending)
+  pub waits_3 : answer_in answers Config layers w frames (take 6 mixed) 3 1 ≡ bare answers (Ok R.Pending)
   pub last_0 : Delivers 7 0 inner_a (answer_in answers Config layers w frames (take 12 mixed) 0 0)
-  pub waits_4 : answer_in answers Config layers w frames (take 13 mixed) 4 0 ≡ bare answers R.Pending
+  pub waits_4 : answer_in answers Config layers w frames (take 13 mixed) 4 0 ≡ bare answers (Ok R.Pending)
   pub last_1 : Delivers 8 1 inner_b (answer_in answers Config layers w frames (take 14 mixed) 1 1)
   pub last_4 : Delivers 7 0 inner_a (answer_in answers Config layers w frames (take 15 mixed) 4 1)
   pub last_2 : Delivers 7 0 inner_a (answer_in answers Config layers w frames (take 16 mixed) 2 1)

@@ -1,9 +1,9 @@
 -- What the contracts of the calls say beside the equality with their definitions follows from that equality: the table's number, and demand 1.
-use Rattle.std.specs.Prelude.{ℕ, ◌≡◌, refl, List}
-use Rattle.std.proofs.Common.{◌∙◌}
+use Rattle.std.specs.Prelude.{ℕ, ◌≡◌, refl, List, Result, Ok, Err}
+use Rattle.std.proofs.Common.{◌∙◌, ap}
 use Rattle.wire.specs.Bytes.{Bytes}
 use Rattle.endpoint.specs.Answer.{values_of, told_by, start_code, added_code, added_values_of, tick_code, wrap_values_of}
-use Rattle.endpoint.specs.Config.{start_of, add_peer_of, add_binding_of, tick_of}
+use Rattle.endpoint.specs.Config.{start_of, add_peer_of, add_binding_of, tick_of, AddResult}
 use Rattle.endpoint.specs.Receive.{step_of, receipt_of}
 use Rattle.endpoint.specs.Wrap.{wrap_of}
 use Rattle.endpoint.specs.Reached.{Reached}
@@ -13,14 +13,13 @@ use Rattle.endpoint.proofs.Laws.Table.{document_table}
 use Rattle.endpoint.specs.Demand1.{StartRule, PeerAdded, BindingAdded, AddRule, ReceiveRule, TickRule, WrapRule}
 use Rattle.endpoint.proofs.Laws.Demand1.{start_rule, add-peer_rule, add_binding_rule, tick_rule, wrap_rule}
 use Rattle.endpoint.proofs.Laws.Demand1Receive.{receive_rule}
-use Rattle.endpoint.specs.declared.answer.Added.{Added}
-use Rattle.endpoint.specs.declared.answer.Added.TheVariants as A
-use Rattle.endpoint.specs.declared.answer.Wrapped.{Wrapped}
 use Rattle.endpoint.specs.declared.config.Endpoint.{Endpoint}
-use Rattle.endpoint.specs.declared.config.AddResult.{AddResult}
 use Rattle.endpoint.specs.declared.config.StartResult.{StartResult}
-use Rattle.endpoint.specs.declared.receive.ReceiveResult.{ReceiveResult}
-use Rattle.endpoint.specs.declared.tick.TickResult.{TickResult}
+use Rattle.endpoint.specs.declared.answer.ConfigRefusal.{ConfigRefusal}
+use Rattle.endpoint.specs.declared.answer.Packet.{Packet}
+use Rattle.endpoint.specs.declared.answer.WrapRefusal.{WrapRefusal}
+use Rattle.endpoint.specs.declared.answer.Received.{Received}
+use Rattle.endpoint.specs.declared.answer.Drop.{Drop}
 
 -- ---- start
 
@@ -30,41 +29,55 @@ start_promised own port mtu r is = (is, (rw is (document_table.start own port mt
 
 -- ---- adding
 
-added-number : (a : Added) → (added_values_of a).number ≡ added_code a
+added-number : (a : Result ℕ ConfigRefusal) → (added_values_of a).number ≡ added_code a
 unfolding added_code
-added-number (A.Number n) = refl
-added-number (A.Refused r) = refl
+added-number (Ok n) = refl
+added-number (Err r) = refl
 
-pub add-peer_promised : (e : Endpoint) (address : ℕ) (r : AddResult) → r ≡ add_peer_of e address
-    → (r ≡ add_peer_of e address) × (((added_values_of r.answer).number ≡ numbered (add_peer_rows e address)) × AddRule e (PeerAdded e address) r)
-add-peer_promised e address r is =
-    (is, (added-number r.answer ∙ rw is (document_table.add_peer_lem e address), rw is (add-peer_rule e address)))
+module _ (e x : Endpoint) (a : Result ℕ ConfigRefusal) where
+  abbrev left : AddResult
+  left = record { endpoint = x; answer = a }
 
-pub add_binding_promised : (e : Endpoint) (peer kind network tenant : ℕ) (r : AddResult) → r ≡ add_binding_of e peer kind network tenant
-    → (r ≡ add_binding_of e peer kind network tenant)
-    × (((added_values_of r.answer).number ≡ numbered (add_binding_rows e peer kind network tenant)) × AddRule e (BindingAdded e peer kind network tenant) r)
-add_binding_promised e peer kind network tenant r is =
-    let number : (added_values_of r.answer).number ≡ numbered (add_binding_rows e peer kind network tenant) =
-    added-number r.answer ∙ rw is (document_table.add_binding_lem e peer kind network tenant) in
-    (is, (number, rw is (add_binding_rule e peer kind network tenant)))
+  pub add-peer_promised : (address : ℕ) → left ≡ add_peer_of e address
+      → (a ≡ (add_peer_of e address).answer)
+      × (x ≡ (add_peer_of e address).endpoint)
+      × ((added_values_of a).number ≡ numbered (add_peer_rows e address))
+      × AddRule e (PeerAdded e address) left
+  add-peer_promised address is = (
+    ap (λ (r : AddResult). r.answer) is,
+    ap (λ (r : AddResult). r.endpoint) is,
+    added-number a ∙ ap (λ (r : AddResult). added_code r.answer) is ∙ document_table.add_peer_lem e address,
+    rw is (add-peer_rule e address),
+  )
+
+  pub add_binding_promised : (peer kind network tenant : ℕ) → left ≡ add_binding_of e peer kind network tenant
+      → (a ≡ (add_binding_of e peer kind network tenant).answer)
+      × (x ≡ (add_binding_of e peer kind network tenant).endpoint)
+      × ((added_values_of a).number ≡ numbered (add_binding_rows e peer kind network tenant))
+      × AddRule e (BindingAdded e peer kind network tenant) left
+  add_binding_promised peer kind network tenant is = (
+    ap (λ (r : AddResult). r.answer) is,
+    ap (λ (r : AddResult). r.endpoint) is,
+    added-number a ∙ ap (λ (r : AddResult). added_code r.answer) is ∙ document_table.add_binding_lem e peer kind network tenant,
+    rw is (add_binding_rule e peer kind network tenant),
+  )
 
 -- ---- receive
 
-pub receive_promised : (e : Endpoint) (m k : List ℕ) (r : ReceiveResult) (m' : List ℕ) → r ≡ receipt_of e (step_of e m k) → m' ≡ (step_of e m k).mem
-    → (r ≡ receipt_of e (step_of e m k))
-    × ((m' ≡ (step_of e m k).mem)
-    × ((Bytes k → told_by (values_of r.answer) ≡ told (receive_rows e m k)) × ReceiveRule e m k (values_of r.answer) r.endpoint m'))
+pub receive_promised : (e : Endpoint) (m k : List ℕ) (a : Result Received Drop) (x : Endpoint) (m' : List ℕ)
+    → a ≡ (step_of e m k).answer → x ≡ (receipt_of e (step_of e m k)).endpoint → m' ≡ (step_of e m k).mem
+    → (Bytes k → told_by (values_of a) ≡ told (receive_rows e m k)) × ReceiveRule e m k (values_of a) x m'
 unfolding receipt_of
-receive_promised e m k r m' is left = (is, (left, (λ b. rw is (document_table.receive e m k b), rw (is, left) (receive_rule e m k))))
+receive_promised e m k a x m' is kept memory = (λ b. rw is (document_table.receive e m k b), rw (is, kept, memory) (receive_rule e m k))
 
 -- ---- a tick
 
-pub tick_promised : (e : Endpoint) (r : TickResult) → r ≡ tick_of e → (r ≡ tick_of e) × TickRule e (tick_code r.answer) r.endpoint
-tick_promised e r is = (is, rw is (tick_rule e))
+pub tick_promised : (e x : Endpoint) → x ≡ (tick_of e).endpoint → TickRule e (tick_code (tick_of e).answer) x
+tick_promised e x is = rw is (tick_rule e)
 
 -- ---- wrap
 
-pub wrap_promised : (e : Endpoint) (b : ℕ) (frame : List ℕ) (segment identifier : ℕ) (output : List ℕ) (r : Wrapped) (output' : List ℕ)
+pub wrap_promised : (e : Endpoint) (b : ℕ) (frame : List ℕ) (segment identifier : ℕ) (output : List ℕ) (r : Result Packet WrapRefusal) (output' : List ℕ)
     → r ≡ (wrap_of e b frame segment identifier output).answer → output' ≡ (wrap_of e b frame segment identifier output).output
     → (r ≡ (wrap_of e b frame segment identifier output).answer)
     × ((output' ≡ (wrap_of e b frame segment identifier output).output)

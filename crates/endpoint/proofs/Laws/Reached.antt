@@ -5,7 +5,8 @@ use Rattle.std.proofs.Common.{sym, ap₂, ◌∙◌, arith, ltb-false}
 use mathlib.Core.List.{List, [], ◌∷◌, ◌++◌, map}
 use Rattle.wire.specs.Checks.{Check, first}
 use Rattle.wire.proofs.Laws.Checks.{relates}
-use Rattle.endpoint.specs.Config.{Config, config_of, find_peer, is_some, fresh, start_of, refused_add, add_peer_checks, with_address, add_peer_of, add_binding_checks}
+use Rattle.endpoint.specs.Config.{Config, config_of, find_peer, is_some, fresh, start_of, refused_add, add_peer_checks, with_address, add_peer_of}
+use Rattle.endpoint.specs.Config.{add_binding_checks, AddResult}
 use Rattle.endpoint.specs.Config.{with_binding, add_binding_of, tick_of, Adding, add_peer, add_binding, added, added_all, set_up, most_bindings, start_checks}
 use Rattle.endpoint.proofs.Laws.Config.{start-cases, add-peer-cases, add_binding-cases, set_up_valid, config_tick}
 use Rattle.endpoint.proofs.Laws.ConfigExits.{peer_added, binding_added}
@@ -14,7 +15,6 @@ use Rattle.endpoint.proofs.Laws.Calls.{config_row}
 use Rattle.endpoint.proofs.Laws.Wrap.{Alike, Ready}
 use Rattle.endpoint.specs.declared.answer.ConfigRefusal.{ConfigRefusal}
 use Rattle.endpoint.specs.declared.config.Endpoint.{Endpoint}
-use Rattle.endpoint.specs.declared.config.AddResult.{AddResult}
 use Rattle.endpoint.specs.Reached.{Call, add, got, ticked, left, left_by, Typed, AllTyped, Reached}
 use Rattle.reassembly.specs.Slots.{most_peers}
 

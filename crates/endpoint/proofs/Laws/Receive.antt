@@ -1,6 +1,6 @@
 -- What the functions of `receive` give, over plain values, and the laws by which they add up to `step_of`.
 use Prim.Native.Nat.{ℕ, ◌+◌, ◌-◌, ◌*◌, ◌<◌, ◌≤◌, min}
-use Rattle.std.specs.Prelude.{◌≡◌, Bool, cond, get_or, drop, ltb, eqb}
+use Rattle.std.specs.Prelude.{◌≡◌, Bool, cond, get_or, drop, ltb, eqb, Result, Some, Ok, Err}
 use Rattle.std.proofs.Math.Path.{refl, sym, ap}
 use Rattle.std.proofs.Common.{◌∙◌}
 use Rattle.std.proofs.Math.Bool.{true, false}
@@ -8,50 +8,39 @@ use mathlib.Core.List.{List, []}
 use Rattle.std.proofs.Math.Option.{Option, none, some}
 use native.Mathlib.Omega.{arith}
 use Rattle.std.proofs.Math.ListN.{length, take}
-use borrow.Author.Tests.{lt-ltb, le-ltb, eq-eqb, ne_eqb}
 use Rattle.wire.specs.Bytes.{part}
 use Rattle.wire.proofs.Laws.Bytes.{part_is, part_length}
 use Rattle.wire.proofs.Laws.Ipv4.{ipv4_bounds}
-use Rattle.wire.proofs.Laws.Carriage.{tunnel_within, segment-within}
+use Rattle.wire.proofs.Laws.Carriage.{tunnel_within, segment_within}
 use Rattle.wire.specs.Ipv4.{ipv4_of}
 use Rattle.wire.specs.Carriage.{carriage_of}
 use Rattle.wire.specs.Stt.{stt_of}
-use Rattle.wire.specs.Frame.{frame_of}
 use Rattle.wire.specs.declared.refusal.Refusal.{Refusal}
 use Rattle.wire.specs.declared.ipv4.Ipv4.{Ipv4}
-use Rattle.wire.specs.declared.ipv4.Ipv4Read.{Ipv4Read}
-use Rattle.wire.specs.declared.ipv4.Ipv4Read.TheVariants as I
 use Rattle.wire.specs.declared.segment.Segment.{Segment}
-use Rattle.wire.specs.declared.carriage.Tunnel.{Tunnel}
-use Rattle.wire.specs.declared.carriage.Carried.{Carried}
-use Rattle.wire.specs.declared.carriage.Carried.TheVariants as C
-use Rattle.wire.specs.declared.stt.SttRead.{SttRead}
-use Rattle.wire.specs.declared.stt.SttRead.TheVariants as T
-use Rattle.wire.specs.declared.frame.FrameRead.TheVariants as F
 use Rattle.reassembly.specs.Slots.{Note, no_row, most_peers, most_slots}
 use Rattle.reassembly.proofs.Laws.TakeFacts.{length-frame}
-use Rattle.reassembly.proofs.Laws.Answers.{part-fits, view_packet, view_memory, slot_no_lem, bad_reply, good_reply, rejected_reply, pending_reply, no_memory_reply}
+use Rattle.reassembly.proofs.Laws.Answers.{part-fits, view_packet, view_memory, slot_no_lem, bad_reply, good_reply, rejected_reply, pending_reply}
+use Rattle.reassembly.proofs.Laws.Answers.{no_memory_reply}
 use Rattle.reassembly.proofs.Laws.Answers.{complete_reply}
 use Rattle.reassembly.proofs.Laws.Store.{handed, slot-inside}
 use Rattle.reassembly.specs.Take.{Seg, seg_of, frame_in}
-use Rattle.reassembly.specs.Store.{bytes_of, take_in, slot_start, taken_of}
-use Rattle.reassembly.specs.Receive.{Answer, Reading as Made, other_sender, direct, segment, Verdict, bad, good, frame_answer, take_answer, part_of_slice, view_of}
+use Rattle.reassembly.specs.Store.{bytes_of, take_in, slot_start}
+use Rattle.reassembly.specs.Receive.{Answer, Reading as Made, other_sender, direct, segment, Verdict, bad, good, frame_answer, take_answer, part_of_slice}
+use Rattle.reassembly.specs.Receive.{view_of}
 use Rattle.reassembly.proofs.Laws.Base.{case_b}
 use Rattle.reassembly.specs.SetUp.{Kept, peer_of}
 use Rattle.reassembly.proofs.Laws.SetUp.{peer-other, peer-direct, peer-segment}
-use Rattle.reassembly.specs.declared.take.Taken.{Taken}
-use Rattle.reassembly.proofs.Laws.TakeIn.{taken-row, taken-outcome, take-length, take_whole, slot-start, frame-part}
+use Rattle.reassembly.proofs.Laws.TakeIn.{take-length, take_whole, slot-start, frame-part}
 use Rattle.reassembly.specs.declared.slot.Peer.{Peer}
-use Rattle.reassembly.specs.declared.take.Rejection.{Rejection}
 use Rattle.reassembly.specs.declared.take.Outcome.{Outcome}
 use Rattle.reassembly.specs.declared.take.Outcome.TheVariants as O
-use Rattle.endpoint.specs.Answer.{drop_of, place_of, values_of}
-use Rattle.endpoint.specs.Search.{lowest, found_of}
+use Rattle.endpoint.specs.Answer.{drop_of, values_of}
+use Rattle.endpoint.specs.Search.{lowest}
 use Rattle.endpoint.proofs.Laws.Search.{lowest-some}
-use Rattle.endpoint.specs.declared.search.Lookup.{Lookup}
-use Rattle.endpoint.specs.declared.search.Lookup.TheVariants as L
-use Rattle.endpoint.specs.Config.{Config, config_of, has_address, find_peer, binds, most_bindings}
-use Rattle.endpoint.specs.Receive.{broken_at, answers, is_delivered, inner_from, answer_at, tunnel_from, tunnel_of, by_payload, by_peer, header_of, by_destination}
+use Rattle.endpoint.specs.Config.{Config, config_of, has_address, find_peer, most_bindings}
+use Rattle.endpoint.specs.Receive.{broken_at, answers, is_delivered, inner_from, answer_at, tunnel_from, tunnel_of, by_payload, by_peer, header_of}
+use Rattle.endpoint.specs.Receive.{by_destination}
 use Rattle.endpoint.specs.Receive.{by_ipv4}
 use Rattle.endpoint.specs.Receive.{by_sender}
 use Rattle.endpoint.specs.Receive.{source_of, by_stt, stt_from, judge_of, Step, row_at, unchanged, stepped, step_of, with_row}
@@ -59,118 +48,21 @@ use Rattle.endpoint.specs.declared.answer.Drop.{Drop}
 use Rattle.endpoint.specs.declared.answer.Drop.TheVariants as D
 use Rattle.endpoint.specs.declared.answer.Received.{Received}
 use Rattle.endpoint.specs.declared.answer.Received.TheVariants as R
-use Rattle.endpoint.specs.declared.receive.InnerFrame.{InnerFrame}
-use Rattle.endpoint.specs.declared.receive.Due.{Due}
+use Rattle.endpoint.specs.declared.receive.Arrival.{Arrival}
+use Rattle.endpoint.specs.declared.config.Endpoint.{Endpoint}
+use Rattle.endpoint.specs.Stages.{carried_from, content_from, from_other, open_peer, open_header, open_ip, open_of, stt_offer, offer_at, offer_of, Lies}
+use Rattle.endpoint.specs.Stages.{Change, take_of, deliver_of, opened_by, taken_by, delivered_by}
+use Rattle.wire.specs.declared.carriage.Carried.TheVariants as C
+use Rattle.wire.specs.declared.carriage.Carried.{Carried}
 use Rattle.endpoint.specs.declared.receive.Content.{Content}
 use Rattle.endpoint.specs.declared.receive.Content.TheVariants as A
-use Rattle.endpoint.specs.declared.receive.Arrival.{Arrival}
-use Rattle.endpoint.specs.declared.receive.Offer.{Offer}
-use Rattle.endpoint.specs.declared.receive.Offer.TheVariants as B
-use Rattle.endpoint.specs.declared.receive.Changed.{Changed}
-use Rattle.endpoint.specs.declared.config.Endpoint.{Endpoint}
-use Rattle.endpoint.specs.Stages.{carried_from, content_from, from_other, unlisted_of, open_peer, open_header, open_ip, open_of, stt_offer, offer_at, offer_of, Lies}
-use Rattle.endpoint.specs.Stages.{changed_of}
-use Rattle.endpoint.specs.Stages.{Change, take_content, brings_segment, untaken_of, take_of, deliver_of, opened_by, taken_by, delivered_by}
+use Rattle.endpoint.specs.Stages.{take_content, brings_segment, untaken_of}
 
 -- ---- a search, as the code makes it
 
-pub found_none : (d x : Drop) (o : Option ℕ) → found_of d o ≡ L.Refused x → o ≡ none
-found_none d x none e = refl
-found_none d x (some i) e = let z : ◌≡◌ {A = ℕ} 0 1 = cc in absurd (omega arith)
+-- ---- a complete frame lies in the memory
 
-pub found_some : (d : Drop) (o : Option ℕ) (i : ℕ) → found_of d o ≡ L.At i → o ≡ some i
-found_some d none i e = let z : ◌≡◌ {A = ℕ} 0 1 = cc in absurd (omega arith)
-found_some d (some j) i e = cc
-
-pub found_among : (d : Drop) (test : ℕ → Bool) (n all : ℕ) (f : Lookup) → f ≡ found_of d (lowest test n) → n ≡ all → f ≡ found_of d (lowest test all)
-found_among d test n all f q s = q ∙ ap (λ (x : ℕ). found_of d (lowest test x)) s
-
--- ---- the ways out of what a listed peer's packet brings
-
-module _ (port : ℕ) (h : Ipv4) (k payload : List ℕ) (is : payload ≡ part k h.start h.end) where
-  pub content_refused : (r : Refusal) → carriage_of h.protocol h.source h.destination port payload ≡ C.Refused r → A.Refused (broken_at h.start r)
-      ≡ content_from port h k
-  unfolding content_from
-  content_refused r read = rw (← is, read)
-
-  pub content_tunnel : (t : Tunnel) → carriage_of h.protocol h.source h.destination port payload ≡ C.Tunnel t
-      → A.Frame (record { network = t.network; place = record { start = h.start + t.start; length = h.end - (h.start + t.start); in_memory = false }; kind = t.kind }) ≡ content_from port h k
-  unfolding content_from
-  content_tunnel t read = rw (← is, read)
-
-  pub content_segment : (g : Segment) → carriage_of h.protocol h.source h.destination port payload ≡ C.Segment g
-      → A.Segment (record { header = g; start = h.start + g.start; length = h.end - (h.start + g.start) }) ≡ content_from port h k
-  unfolding content_from
-  content_segment g read = rw (← is, read)
-
--- ---- the ways out of opening
-
-module _ (addresses : List ℕ) (own port peers : ℕ) (k : List ℕ) (room : ℕ) where
-  pub open_memory : room < 55296 → from_other D.MemoryTooSmall ≡ open_of addresses own port peers k room
-  unfolding open_of
-  open_memory l = rw (lt-ltb room 55296 l)
-
-  module _ (enough : 55296 ≤ room) where
-    pub open_ip_lem : (x : Ipv4Read) (r : Refusal) → x ≡ ipv4_of k → x ≡ I.Refused r → unlisted_of x ≡ open_of addresses own port peers k room
-    unfolding open_of
-    open_ip_lem x r is q = rw (le-ltb room 55296 enough, ← is, q)
-
-    module _ (h : Ipv4) (ip : ipv4_of k ≡ I.Packet h) where
-      pub open_destination : (h.destination ≡ own → ⊥) → from_other D.NotForUs ≡ open_of addresses own port peers k room
-      unfolding open_of
-      open_destination n = rw (le-ltb room 55296 enough, ip, ne_eqb h.destination own n)
-
-      module _ (ours : h.destination ≡ own) where
-        pub open_unlisted : lowest (has_address addresses h.source) peers ≡ none → unlisted_of (I.Packet h) ≡ open_of addresses own port peers k room
-        unfolding open_of
-        open_unlisted q = rw (le-ltb room 55296 enough, ip, eq-eqb h.destination own ours, q)
-
-        pub open_peer_lem : (p : ℕ) (x : Content) → lowest (has_address addresses h.source) peers ≡ some p → x ≡ content_from port h k
-            → record { peer = p; content = x } ≡ open_of addresses own port peers k room
-        unfolding open_of
-        open_peer_lem p x q r = rw (le-ltb room 55296 enough, ip, eq-eqb h.destination own ours, q, r)
-
--- ---- the ways out of a complete STT frame's checks 28 and 29
-
-module _ (at : ℕ) (frame : List ℕ) where
-  pub offer_refused : (r : Refusal) → stt_of frame ≡ T.Refused r → B.Refused (broken_at 0 r) ≡ offer_at at frame
-  unfolding offer_at
-  offer_refused r e = rw e
-
-  pub offer_header : (context : ℕ) → stt_of frame ≡ T.Header context
-      → B.Frame (record { network = context; place = record { start = at + 18; length = length frame - 18; in_memory = true }; kind = 3 }) ≡ offer_at at frame
-  unfolding offer_at
-  offer_header context e = rw e
-
--- ---- the ways out of a segment
-
-pub lies_complete : (peer : ℕ) (o : Outcome) (size : ℕ) (m : List ℕ) (s : ℕ) → Lies peer o size m → o ≡ O.Complete s → (peer < most_peers)
-    × ((s < most_slots) × ((size ≤ 1532) × (55296 ≤ length m)))
-unfolding Lies
-lies_complete peer (O.Rejected r) size m s l e = let z : ◌≡◌ {A = ℕ} 0 1 = cc in absurd (omega arith)
-lies_complete peer O.Pending size m s l e = let z : ◌≡◌ {A = ℕ} 0 1 = cc in absurd (omega arith)
-lies_complete peer O.NoMemory size m s l e = let z : ◌≡◌ {A = ℕ} 0 1 = cc in absurd (omega arith)
-lies_complete peer (O.Complete t) size m s l e = let z : t ≡ s = cc in rw (← z) l
-
-module _ (peer : ℕ) (o : Outcome) (size : ℕ) (m : List ℕ) where
-  pub settled-rejected : (r : Rejection) → o ≡ O.Rejected r → B.Refused (D.Segment r) ≡ offer_of peer o size m
-  unfolding offer_of
-  settled-rejected r e = rw e
-
-  pub settled-pending : o ≡ O.Pending → B.Pending ≡ offer_of peer o size m
-  unfolding offer_of
-  settled-pending e = rw e
-
-  pub settled_memory : o ≡ O.NoMemory → B.Refused D.MemoryTooSmall ≡ offer_of peer o size m
-  unfolding offer_of
-  settled_memory e = rw e
-
-  pub settled-complete : (s : ℕ) → o ≡ O.Complete s → (frame : List ℕ) → frame ≡ part m ((most_slots * peer + s) * 1728) ((most_slots * peer + s) * 1728 + size)
-      → offer_at ((most_slots * peer + s) * 1728) frame ≡ offer_of peer o size m
-  unfolding offer_of
-  settled-complete s e frame f = rw (e, f)
-
--- a segment that was taken: what its outcome tells of the memory
+-- what the outcome of taking a segment tells of the memory
 lies_by : (peer : ℕ) (row : Peer) (m : List ℕ) (g : Seg) (o : Outcome) → (take_in peer row m g).outcome ≡ o
     → Lies peer o g.frame_length (take_in peer row m g).mem
 unfolding Lies
@@ -184,75 +76,17 @@ lies_by peer row m g (O.Complete s) e =
 pub lies : (peer : ℕ) (row : Peer) (m : List ℕ) (g : Seg) → Lies peer (take_in peer row m g).outcome g.frame_length (take_in peer row m g).mem
 lies peer row m g = lies_by peer row m g (take_in peer row m g).outcome refl
 
--- ---- the ways out of taking
-
-module _ (row : Peer) (a : Arrival) (k m : List ℕ) where
-  pub pass_refused : (d : Drop) → a.content ≡ A.Refused d → (record { row = row; offer = B.Refused d } ≡ changed_of (take_of row a k m))
-      × (m ≡ (take_of row a k m).mem)
-  unfolding take_of
-  pass_refused d q = (rw q, rw q)
-
-  pub pass-frame : (f : InnerFrame) → a.content ≡ A.Frame f → (record { row = row; offer = B.Frame f } ≡ changed_of (take_of row a k m))
-      × (m ≡ (take_of row a k m).mem)
-  unfolding take_of
-  pass-frame f q = (rw q, rw q)
-
-  -- a segment that is due: what `take` gave, and the memory that it left
-  module _ (d : Due) (due : a.content ≡ A.Segment d) (bytes : List ℕ) (are : bytes ≡ part_of_slice k d.start d.length) (t : Taken) (m' : List ℕ)
-      (took : t ≡ taken_of (take_in a.peer row m (seg_of d.header bytes))) (left : m' ≡ (take_in a.peer row m (seg_of d.header bytes)).mem) where
-    same_row : t.row ≡ (take_in a.peer row m (seg_of d.header bytes)).row
-    same_row = ap (λ (x : Taken). x.row) took ∙ taken-row (take_in a.peer row m (seg_of d.header bytes))
-
-    same_outcome : t.outcome ≡ (take_in a.peer row m (seg_of d.header bytes)).outcome
-    same_outcome = ap (λ (x : Taken). x.outcome) took ∙ taken-outcome (take_in a.peer row m (seg_of d.header bytes))
-
-    pub lies_taken : Lies a.peer t.outcome d.header.frame_length m'
-    lies_taken = rw (same_outcome, left) (lies a.peer row m (seg_of d.header bytes))
-
-    pub segment_out : (x : Offer) → x ≡ offer_of a.peer t.outcome d.header.frame_length m'
-        → (record { row = t.row; offer = x } ≡ changed_of (take_of row a k m)) × (m' ≡ (take_of row a k m).mem)
-    unfolding take_of
-    segment_out x e = (rw (due, e, same_row, same_outcome, left, are), rw (due, left, are))
-
 -- where there is no segment, nothing is taken
-untaken_content : (peer : ℕ) (row : Peer) (k m : List ℕ) (x : Content) → brings_segment x ≡ false
+untaken_content : (peer : ℕ) (row : Peer) (k m : List ℕ) (x : Result Content Drop) → brings_segment x ≡ false
     → take_content peer row k m x ≡ record { row = row; offer = untaken_of x; mem = m }
-untaken_content peer row k m (A.Refused d) e = refl
-untaken_content peer row k m (A.Frame f) e = refl
-untaken_content peer row k m (A.Segment d) e = let z : ◌≡◌ {A = ℕ} 0 1 = cc in absurd (omega arith)
+untaken_content peer row k m (Err d) e = refl
+untaken_content peer row k m (Ok (A.Frame f)) e = refl
+untaken_content peer row k m (Ok (A.Segment d)) e = cc
 
 pub nothing-taken : (row : Peer) (a : Arrival) (k m : List ℕ) → brings_segment a.content ≡ false
     → take_of row a k m ≡ record { row = row; offer = untaken_of a.content; mem = m }
 unfolding take_of
 nothing-taken row a k m e = untaken_content a.peer row k m a.content e
-
--- ---- the ways out of delivering
-
-module _ (networks kinds owners tenants : List ℕ) (n peer : ℕ) (o : Offer) (k m : List ℕ) where
-  pub deliver_refused : (d : Drop) → o ≡ B.Refused d → R.Dropped d ≡ deliver_of networks kinds owners tenants n peer o k m
-  unfolding deliver_of
-  deliver_refused d e = rw e
-
-  pub deliver_pending : o ≡ B.Pending → R.Pending ≡ deliver_of networks kinds owners tenants n peer o k m
-  unfolding deliver_of
-  deliver_pending e = rw e
-
-  module _ (f : InnerFrame) (is : o ≡ B.Frame f) where
-    pub deliver_unbound : lowest (binds networks kinds owners peer f.kind f.network) n ≡ none → R.Dropped D.NoBinding
-        ≡ deliver_of networks kinds owners tenants n peer o k m
-    unfolding deliver_of inner_from
-    deliver_unbound e = rw (is, e)
-
-    module _ (b : ℕ) (found : lowest (binds networks kinds owners peer f.kind f.network) n ≡ some b) (frame : List ℕ)
-        (view : frame ≡ view_of k m (place_of f.place)) where
-      pub deliver_bad : (r : Refusal) → frame_of frame ≡ F.Refused r → R.Dropped (D.Format r 0) ≡ deliver_of networks kinds owners tenants n peer o k m
-      unfolding deliver_of inner_from
-      deliver_bad r e = rw (is, found, ← view, e)
-
-      pub deliver_good : frame_of frame ≡ F.Good → R.Delivered (record { tenant = get_or tenants b 0; binding = b }) f.place
-          ≡ deliver_of networks kinds owners tenants n peer o k m
-      unfolding deliver_of inner_from
-      deliver_good e = rw (is, found, ← view, e)
 
 -- ---- views
 
@@ -271,8 +105,7 @@ slot_view k m i n l f =
 
 -- VXLAN and NVGRE: it lies in the packet
 pub tunnel_out : (networks kinds owners tenants : List ℕ) (n peer kind network at end : ℕ) (k m : List ℕ) → at ≤ end → end ≤ length k
-    → deliver_of networks kinds owners tenants n peer (B.Frame
-    (record { network = network; place = record { start = at; length = end - at; in_memory = false }; kind = kind })) k m
+    → deliver_of networks kinds owners tenants n peer (Ok (Some (record { network = network; place = record { start = at; length = end - at; in_memory = false }; kind = kind }))) k m
     ≡ tunnel_from networks kinds owners tenants n peer kind network at (part k at end)
 unfolding deliver_of tunnel_from
 tunnel_out networks kinds owners tenants n peer kind network at end k m l b =
@@ -288,12 +121,12 @@ module _ (c : Config) (p : ℕ) (k after : List ℕ) (i n : ℕ) (long : 18 ≤ 
   abbrev whole : List ℕ
   whole = frame_in bytes_of after i n
 
-  header_out : (x : SttRead) → deliver_of c.networks c.kinds c.owners c.tenants c.bindings p (stt_offer (slot_start i) n x) k after
+  header_out : (x : Result ℕ Refusal) → deliver_of c.networks c.kinds c.owners c.tenants c.bindings p (stt_offer (slot_start i) n x) k after
       ≡ (frame_answer answers (by_stt x (λ context. inner_from c.networks c.kinds c.owners c.tenants c.bindings p 3 context (drop 18 whole))) i n
       whole).reply
   unfolding deliver_of
-  header_out (T.Refused r) = sym (bad_reply answers (broken_at 0 r) i n whole)
-  header_out (T.Header context) =
+  header_out (Err r) = sym (bad_reply answers (broken_at 0 r) i n whole)
+  header_out (Ok context) =
       rw (slot_view k after i n long inside) (verdict_out (inner_from c.networks c.kinds c.owners c.tenants c.bindings p 3 context
       (drop 18 whole)) i n whole)
 
@@ -350,21 +183,21 @@ module _ (e : Endpoint) (m k : List ℕ) where
   abbrev staged : Arrival → Step
   staged x = settled_by e x (row_at e x.peer) k m
 
-  carried-adds : (h : Ipv4) → (h.start ≤ h.end) × (h.end ≤ length k) → (p : ℕ) (x : Carried)
+  carried-adds : (h : Ipv4) → (h.start ≤ h.end) × (h.end ≤ length k) → (p : ℕ) (x : Result Carried Refusal)
       → carriage_of h.protocol h.source h.destination e.port (part k h.start h.end) ≡ x
       → staged (record { peer = p; content = carried_from h.start h.end x }) ≡ stepped e m (by_payload (config_of e) p h.start h.end k x)
   unfolding settle_of take_of deliver_of config_of
-  carried-adds h b p (C.Refused r) q = refl
-  carried-adds h b p (C.Tunnel t) q =
+  carried-adds h b p (Err r) q = refl
+  carried-adds h b p (Ok (C.Tunnel t)) q =
       let in-payload : t.start ≤ length (part k h.start h.end) =
       tunnel_within h.protocol h.source h.destination e.port (part k h.start h.end) t q in
       ap (unchanged e p m)
       (tunnel_out e.networks e.kinds e.owners e.tenants (min e.binding_count most_bindings)
       p t.kind t.network (h.start + t.start) h.end k m
       (omega (arith, part_length k h.start h.end b.1)) b.1)
-  carried-adds h b p (C.Segment g) q =
+  carried-adds h b p (Ok (C.Segment g)) q =
       let in-payload : g.start ≤ length (part k h.start h.end) =
-      segment-within h.protocol h.source h.destination e.port (part k h.start h.end) g q in
+      segment_within h.protocol h.source h.destination e.port (part k h.start h.end) g q in
       let bytes : List ℕ = part k (h.start + g.start) h.end in
       rw (
         part_view k (h.start + g.start) h.end (omega (arith, part_length k h.start h.end b.1)) b.1,
@@ -384,11 +217,11 @@ module _ (e : Endpoint) (m k : List ℕ) where
   ours-adds h b true = peer-adds h b (find_peer (config_of e) h.source)
   ours-adds h b false = refl
 
-  ip-adds : (x : Ipv4Read) → ipv4_of k ≡ x → staged (open_ip x (open_header e.addresses e.own e.port (min e.peer_count most_peers) k))
+  ip-adds : (x : Result Ipv4 Refusal) → ipv4_of k ≡ x → staged (open_ip x (open_header e.addresses e.own e.port (min e.peer_count most_peers) k))
       ≡ stepped e m (by_ipv4 (config_of e) k x)
   unfolding settle_of take_of deliver_of config_of
-  ip-adds (I.Refused r) q = refl
-  ip-adds (I.Packet h) q = ours-adds h (ipv4_bounds k h q) (eqb h.destination e.own)
+  ip-adds (Err r) q = refl
+  ip-adds (Ok h) q = ours-adds h (ipv4_bounds k h q) (eqb h.destination e.own)
 
   header-adds : staged (open_ip (ipv4_of k) (open_header e.addresses e.own e.port (min e.peer_count most_peers) k)) ≡ stepped e m
       (header_of (config_of e) k)
@@ -409,14 +242,14 @@ place_in-packet networks kinds owners tenants n peer kind network at frame = by_
 -- WHAT HOLDS of everything that the header layer makes of a packet: another sender's is refused, and no byte named; a listed peer's breaks a format, or brings
 -- a tunnel's frame or a segment, a part of the packet
 module _ (c : Config) (k : List ℕ) (P : Made answers → Type 0)
-    (other : (d : Drop) → (drop_of d).offset ≡ 0 → P (other_sender (R.Dropped d)))
-    (refused : (a p : ℕ) → find_peer c a ≡ some p → (start : ℕ) (r : Refusal) → P (direct p (R.Dropped (broken_at start r))))
+    (other : (d : Drop) → (drop_of d).offset ≡ 0 → P (other_sender (Err d)))
+    (refused : (a p : ℕ) → find_peer c a ≡ some p → (start : ℕ) (r : Refusal) → P (direct p (Err (broken_at start r))))
     (tunnel : (a p : ℕ) → find_peer c a ≡ some p → (kind network at : ℕ) (frame : List ℕ) → P (direct p (tunnel_of c p kind network at frame)))
     (brings : (a p : ℕ) → find_peer c a ≡ some p → (g : Segment) (start end : ℕ) → P (segment p (seg_of g (part k start end)))) where
-  all-carried : (a p : ℕ) → find_peer c a ≡ some p → (start end : ℕ) (x : Carried) → P (by_payload c p start end k x)
-  all-carried a p q start end (C.Refused r) = refused a p q start r
-  all-carried a p q start end (C.Tunnel t) = tunnel a p q t.kind t.network (start + t.start) (part k (start + t.start) end)
-  all-carried a p q start end (C.Segment g) = brings a p q g (start + g.start) end
+  all-carried : (a p : ℕ) → find_peer c a ≡ some p → (start end : ℕ) (x : Result Carried Refusal) → P (by_payload c p start end k x)
+  all-carried a p q start end (Err r) = refused a p q start r
+  all-carried a p q start end (Ok (C.Tunnel t)) = tunnel a p q t.kind t.network (start + t.start) (part k (start + t.start) end)
+  all-carried a p q start end (Ok (C.Segment g)) = brings a p q g (start + g.start) end
 
   all-peer : (h : Ipv4) (o : Option ℕ) → find_peer c h.source ≡ o → P (by_peer c h k o)
   all-peer h none q = other D.UnknownPeer refl
@@ -427,9 +260,9 @@ module _ (c : Config) (k : List ℕ) (P : Made answers → Type 0)
   all-ours h true = all-peer h (find_peer c h.source) refl
   all-ours h false = other D.NotForUs refl
 
-  all_ip : (x : Ipv4Read) → P (by_ipv4 c k x)
-  all_ip (I.Refused r) = other (D.Format r 0) refl
-  all_ip (I.Packet h) = all-ours h (eqb h.destination c.own)
+  all_ip : (x : Result Ipv4 Refusal) → P (by_ipv4 c k x)
+  all_ip (Err r) = other (D.Format r 0) refl
+  all_ip (Ok h) = all-ours h (eqb h.destination c.own)
 
   pub header-all : P (header_of c k)
   unfolding header_of
@@ -451,10 +284,10 @@ module _ (c : Config) (few : c.peers ≤ most_peers) (k : List ℕ) where
       ))
       (λ a p q g start end. found_few a p q)
 
-  carried_whose : (p start end : ℕ) (x : Carried) → peer_of answers (by_payload c p start end k x) ≡ some p
-  carried_whose p start end (C.Refused r) = peer-direct answers p _
-  carried_whose p start end (C.Tunnel t) = peer-direct answers p _
-  carried_whose p start end (C.Segment g) = peer-segment answers p _
+  carried_whose : (p start end : ℕ) (x : Result Carried Refusal) → peer_of answers (by_payload c p start end k x) ≡ some p
+  carried_whose p start end (Err r) = peer-direct answers p _
+  carried_whose p start end (Ok (C.Tunnel t)) = peer-direct answers p _
+  carried_whose p start end (Ok (C.Segment g)) = peer-segment answers p _
 
   peer_whose : (h : Ipv4) (o : Option ℕ) → peer_of answers (by_peer c h k o) ≡ o
   peer_whose h none = peer-other answers _
@@ -464,9 +297,9 @@ module _ (c : Config) (few : c.peers ≤ most_peers) (k : List ℕ) where
   ours_whose h true = peer_whose h (find_peer c h.source)
   ours_whose h false = peer-other answers _
 
-  ip_whose : (x : Ipv4Read) → peer_of answers (by_ipv4 c k x) ≡ by_sender c x
-  ip_whose (I.Refused r) = peer-other answers _
-  ip_whose (I.Packet h) = ours_whose h (eqb h.destination c.own)
+  ip_whose : (x : Result Ipv4 Refusal) → peer_of answers (by_ipv4 c k x) ≡ by_sender c x
+  ip_whose (Err r) = peer-other answers _
+  ip_whose (Ok h) = ours_whose h (eqb h.destination c.own)
 
   pub header_whose : peer_of answers (header_of c k) ≡ source_of c k
   unfolding header_of source_of
@@ -474,10 +307,10 @@ module _ (c : Config) (few : c.peers ≤ most_peers) (k : List ℕ) where
 
 -- what the layers answer before reassembly: never 1, and to another sender never 0
 
-abbrev pub is_pending : Received → Bool
-is_pending (R.Delivered t p) = false
-is_pending R.Pending = true
-is_pending (R.Dropped d) = false
+abbrev pub is_pending : Result Received Drop → Bool
+is_pending (Ok (R.Delivered t p)) = false
+is_pending (Ok R.Pending) = true
+is_pending (Err d) = false
 
 abbrev pub Conclusive : Made answers → Type 0
 Conclusive (other_sender a) = (is_delivered a ≡ false) × (is_pending a ≡ false)
@@ -534,15 +367,7 @@ module _ (e : Endpoint) (k : List ℕ) where
     pub settled_is : (x : Arrival) → x ≡ opened_by e k (length m) → settled_by e x (get_or e.peers x.peer no_row) k m ≡ step_of e m k
     settled_is x q = rw q stages_step
 
--- taking and delivering, as the code does one after the other
-module _ (networks kinds owners tenants : List ℕ) (n : ℕ) (x : Arrival) (row : Peer) (k m : List ℕ) (c : Changed) (m' : List ℕ) (a : Received)
-    (took : c ≡ changed_of (take_of row x k m)) (left : m' ≡ (take_of row x k m).mem)
-    (gave : a ≡ deliver_of networks kinds owners tenants n x.peer c.offer k m') where
-  pub settled_out : record { peer = x.peer; row = c.row; answer = a; mem = m' } ≡ settle_of networks kinds owners tenants n x row k m
-  unfolding settle_of
-  settled_out = rw (gave, took, left)
-
--- the same over an endpoint that has its new row already
+-- the same over an endpoint that has its new row already, as the code makes it
 pub turn_is : (e : Endpoint) (k m : List ℕ) (x : Arrival) → x ≡ opened_by e k (length m)
     → record {
       peer = x.peer;

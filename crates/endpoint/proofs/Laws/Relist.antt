@@ -1,6 +1,6 @@
 -- Listing again: what each step gives, accepted or refused.
 use Prim.Native.Nat.{ℕ, zero, suc, ◌<◌, ◌≤◌}
-use Rattle.std.specs.Prelude.{◌≡◌, ◌≢◌, get_or, eqb}
+use Rattle.std.specs.Prelude.{◌≡◌, ◌≢◌, get_or, eqb, Result, Ok, Err}
 use Rattle.std.proofs.Math.Path.{refl, ap}
 use Rattle.std.proofs.Common.{sym, ◌∙◌, arith}
 use Rattle.std.proofs.Math.Option.{Option, none, some}
@@ -9,22 +9,18 @@ use borrow.Author.Tests.{eqb-true, eqb-false}
 use Rattle.endpoint.specs.Config.{Config, start_of, fresh, add_peer_of, add_binding_of, Adding, add_peer, add_binding}
 use Rattle.endpoint.proofs.Laws.Config.{start-cases}
 use Rattle.endpoint.specs.Relist.{if_started, if_added, started_by, added_by, added_to, relisted, peer_of, binding_of}
-use Rattle.endpoint.specs.declared.answer.Added.{Added}
-use Rattle.endpoint.specs.declared.answer.Added.TheVariants as A
 use Rattle.endpoint.specs.declared.answer.ConfigRefusal.{ConfigRefusal}
-use Rattle.endpoint.specs.declared.answer.Start.{Start}
-use Rattle.endpoint.specs.declared.answer.Start.TheVariants as S
 use Rattle.endpoint.specs.declared.config.Endpoint.{Endpoint}
 
 -- ---- a start
 
-pub started_yes : (own port mtu : ℕ) → (start_of own port mtu).answer ≡ S.Done → started_by own port mtu ≡ some (start_of own port mtu).endpoint
+pub started_yes : (own port mtu : ℕ) → (start_of own port mtu).answer ≡ Ok tt → started_by own port mtu ≡ some (start_of own port mtu).endpoint
 unfolding started_by if_started
-started_yes own port mtu h = ap (λ (a : Start). if_started a (start_of own port mtu).endpoint) h
+started_yes own port mtu h = ap (λ (a : Result (Unit {0}) ConfigRefusal). if_started a (start_of own port mtu).endpoint) h
 
-pub started_no : (own port mtu : ℕ) (r : ConfigRefusal) → (start_of own port mtu).answer ≡ S.Refused r → started_by own port mtu ≡ none
+pub started_no : (own port mtu : ℕ) (r : ConfigRefusal) → (start_of own port mtu).answer ≡ Err r → started_by own port mtu ≡ none
 unfolding started_by if_started
-started_no own port mtu r h = ap (λ (a : Start). if_started a (start_of own port mtu).endpoint) h
+started_no own port mtu r h = ap (λ (a : Result (Unit {0}) ConfigRefusal). if_started a (start_of own port mtu).endpoint) h
 
 -- ---- the calls, one by one
 
@@ -50,17 +46,17 @@ module _ (calls : ℕ → Adding) (e : Endpoint) where
       ap (λ (o : Option Endpoint). added_to o (calls k)) (stays n k h (omega arith)))
 
   module _ (i n : ℕ) (x : Endpoint) (before : relisted calls i e ≡ some x) (below : i < n) (r : ConfigRefusal) where
-    pub relisted_no_peer : (address : ℕ) → calls i ≡ add_peer address → (add_peer_of x address).answer ≡ A.Refused r → relisted calls n e ≡ none
+    pub relisted_no_peer : (address : ℕ) → calls i ≡ add_peer address → (add_peer_of x address).answer ≡ Err r → relisted calls n e ≡ none
     unfolding added_by if_added
     relisted_no_peer address h k =
-        stays (suc i) n (next i x before (add_peer address) h ∙ ap (λ (a : Added). if_added a (add_peer_of x address).endpoint) k) (omega arith)
+        stays (suc i) n (next i x before (add_peer address) h ∙ ap (λ (a : Result ℕ ConfigRefusal). if_added a (add_peer_of x address).endpoint) k) (omega arith)
 
     pub relisted_no_binding : (peer kind network tenant : ℕ) → calls i ≡ add_binding peer kind network tenant
-        → (add_binding_of x peer kind network tenant).answer ≡ A.Refused r → relisted calls n e ≡ none
+        → (add_binding_of x peer kind network tenant).answer ≡ Err r → relisted calls n e ≡ none
     unfolding added_by if_added
     relisted_no_binding peer kind network tenant h k =
         stays (suc i) n
-        (next i x before (add_binding peer kind network tenant) h ∙ ap (λ (a : Added). if_added a (add_binding_of x peer kind network tenant).endpoint) k)
+        (next i x before (add_binding peer kind network tenant) h ∙ ap (λ (a : Result ℕ ConfigRefusal). if_added a (add_binding_of x peer kind network tenant).endpoint) k)
         (omega arith)
 
 -- the calls that a configuration stands for

@@ -1,6 +1,6 @@
 -- What every set-up lists, listed again from its start, is accepted call by call and gives the same set-up; and what is listed is what the calls named.
 use Prim.Native.Nat.{ℕ, zero, suc, ◌+◌, ◌<◌, ◌≤◌, min}
-use Rattle.std.specs.Prelude.{◌≡◌, ◌≢◌, set}
+use Rattle.std.specs.Prelude.{◌≡◌, ◌≢◌, set, Result, Ok, Err}
 use Rattle.std.proofs.Math.Path.{refl, sym, ap, subst}
 use Rattle.std.proofs.Common.{ap₂, ◌∙◌, inl, get_or-set_same, get_or-set_other}
 use mathlib.Core.List.{List, [], ◌∷◌, ◌++◌, map}
@@ -12,7 +12,8 @@ use Rattle.wire.specs.Checks.{Check, Passed}
 use Rattle.wire.proofs.Laws.Checks.{cases, pass}
 use Rattle.reassembly.specs.Slots.{most_peers}
 use Rattle.reassembly.proofs.Laws.Base.{case_o, either, clash, below_suc}
-use Rattle.endpoint.specs.Config.{Config, config_of, fresh, start_checks, refused_start, start_of, refused_add, add_peer_checks, add_binding_checks, with_address}
+use Rattle.endpoint.specs.Config.{Config, config_of, fresh, start_checks, refused_start, start_of, refused_add, add_peer_checks, add_binding_checks}
+use Rattle.endpoint.specs.Config.{with_address, AddResult}
 use Rattle.endpoint.specs.Config.{with_binding, add_peer_of}
 use Rattle.endpoint.specs.Config.{add_binding_of, Adding, add_peer, add_binding, added, added_all, set_up, most_bindings, find_peer, find_binding}
 use Rattle.endpoint.specs.Answer.{start_code, config_code, added_code}
@@ -21,14 +22,9 @@ use Rattle.endpoint.proofs.Laws.Config.{peer-added_valid, binding_added_valid}
 use Rattle.endpoint.proofs.Laws.ConfigExits.{peer_added, binding_added}
 use Rattle.endpoint.specs.Relist.{if_started, if_added, started_by, added_by, added_to, relisted, peer_of, binding_of}
 use Rattle.endpoint.specs.Reached.{add, Typed, AllTyped}
-use Rattle.endpoint.specs.declared.answer.Added.{Added}
-use Rattle.endpoint.specs.declared.answer.Added.TheVariants as A
 use Rattle.endpoint.specs.declared.answer.ConfigRefusal.{ConfigRefusal}
 use Rattle.endpoint.specs.declared.answer.ConfigRefusal.TheVariants as C
-use Rattle.endpoint.specs.declared.answer.Start.{Start}
-use Rattle.endpoint.specs.declared.answer.Start.TheVariants as S
 use Rattle.endpoint.specs.declared.config.StartResult.{StartResult}
-use Rattle.endpoint.specs.declared.config.AddResult.{AddResult}
 use Rattle.endpoint.specs.declared.config.Endpoint.{Endpoint}
 
 -- ---- one call
@@ -440,7 +436,7 @@ started-fresh : (own port mtu : ℕ) → Passed (start_checks own port mtu) → 
 unfolding started_by if_started start_of
 started-fresh own port mtu p =
     ap (λ (x : StartResult). if_started x.answer x.endpoint)
-    (pass refused_start (start_checks own port mtu) (record { endpoint = fresh own port mtu; answer = S.Done }) p)
+    (pass refused_start (start_checks own port mtu) (record { endpoint = fresh own port mtu; answer = Ok tt }) p)
 
 again : (own port mtu : ℕ) (e : Endpoint) → Passed (start_checks own port mtu) → Relists own port mtu e → Again (config_of e) e
 unfolding config_of peer_of binding_of
@@ -486,10 +482,10 @@ pub record Adds (e y : Endpoint) : Type 0 where
   pub typed : AllTyped (map add adds)
   pub is : added_all e adds ≡ y
 
-if_added_lem : (a : Added) (e y : Endpoint) → if_added a e ≡ some y → e ≡ y
+if_added_lem : (a : Result ℕ ConfigRefusal) (e y : Endpoint) → if_added a e ≡ some y → e ≡ y
 unfolding if_added
-if_added_lem (A.Number n) e y h = some-injective e y h
-if_added_lem (A.Refused r) e y h = nothing h
+if_added_lem (Ok n) e y h = some-injective e y h
+if_added_lem (Err r) e y h = nothing h
 
 added_is : (e y : Endpoint) (a : Adding) → added_by e a ≡ some y → added e a ≡ y
 unfolding added_by added
@@ -530,7 +526,7 @@ relisted_adds calls (suc n) e y t h =
 
 -- a start that is accepted: these settings, nothing listed
 pub record Started (own port mtu : ℕ) (b : Endpoint) : Type 0 where
-  pub is : start_of own port mtu ≡ record { endpoint = b; answer = S.Done }
+  pub is : start_of own port mtu ≡ record { endpoint = b; answer = Ok tt }
   pub own_is : b.own ≡ own
   pub port_is : b.port ≡ port
   pub mtu_is : b.mtu ≡ mtu
@@ -538,7 +534,7 @@ pub record Started (own port mtu : ℕ) (b : Endpoint) : Type 0 where
   pub addresses_size : length b.addresses ≡ most_peers
   pub no_bindings : NoBindings b
 
-blank-started : (own port mtu : ℕ) → start_of own port mtu ≡ record { endpoint = fresh own port mtu; answer = S.Done }
+blank-started : (own port mtu : ℕ) → start_of own port mtu ≡ record { endpoint = fresh own port mtu; answer = Ok tt }
     → Started own port mtu (fresh own port mtu)
 unfolding fresh
 blank-started own port mtu e = record {
@@ -555,7 +551,7 @@ pub started_is : (own port mtu : ℕ) (b : Endpoint) → started_by own port mtu
 unfolding started_by if_started start_of
 started_is own port mtu b =
     cases (λ (x : StartResult). start_of own port mtu ≡ x → if_started x.answer x.endpoint ≡ some b → Started own port mtu b)
-    refused_start (start_checks own port mtu) (record { endpoint = fresh own port mtu; answer = S.Done })
+    refused_start (start_checks own port mtu) (record { endpoint = fresh own port mtu; answer = Ok tt })
     (λ r e q. nothing q)
     (λ p e q. subst (Started own port mtu) (some-injective (fresh own port mtu) b q) (blank-started own port mtu e))
     refl
@@ -578,22 +574,22 @@ pub good_port : (own port mtu : ℕ) (adds : List Adding) → start_code (start_
 unfolding set_up start_code start_of start_checks
 good_port own port mtu adds =
     cases (λ (r : StartResult). start_code r.answer ≡ 0 → (added_all r.endpoint adds).port ≢ 0)
-    refused_start (start_checks own port mtu) (record { endpoint = fresh own port mtu; answer = S.Done })
+    refused_start (start_checks own port mtu) (record { endpoint = fresh own port mtu; answer = Ok tt })
     (λ r h. refused_number r h)
     (λ p h z.
     eqb-false port 0 p.1.1.0 (sym (all_relists own port mtu (fresh own port mtu) adds (fresh_relists own port mtu p)).port_is ∙ z))
 
 -- ---- by the numbers that the calls answer
 
-zero-started : (a : Start) (e : Endpoint) → start_code a ≡ 0 → if_started a e ≡ some e
+zero-started : (a : Result (Unit {0}) ConfigRefusal) (e : Endpoint) → start_code a ≡ 0 → if_started a e ≡ some e
 unfolding start_code if_started
-zero-started S.Done e h = refl
-zero-started (S.Refused r) e h = refused_number r h
+zero-started (Ok tt) e h = refl
+zero-started (Err r) e h = refused_number r h
 
-zero-added : (a : Added) (e : Endpoint) → added_code a ≡ 0 → if_added a e ≡ some e
+zero-added : (a : Result ℕ ConfigRefusal) (e : Endpoint) → added_code a ≡ 0 → if_added a e ≡ some e
 unfolding added_code if_added
-zero-added (A.Number n) e h = refl
-zero-added (A.Refused r) e h = refused_number r h
+zero-added (Ok n) e h = refl
+zero-added (Err r) e h = refused_number r h
 
 pub start-zero : (own port mtu : ℕ) → start_code (start_of own port mtu).answer ≡ 0 → started_by own port mtu ≡ some (start_of own port mtu).endpoint
 unfolding started_by

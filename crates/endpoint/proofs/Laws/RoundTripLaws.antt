@@ -1,5 +1,5 @@
 -- What the round trip's proof uses: orders of segments; a run of one frame's segments, by demand 3's delivery; and an answer of a run as an answer of the call.
-use Rattle.std.specs.Prelude.{ℕ, zero, suc, ◌+◌, ◌<◌, ◌≤◌, ◌≡◌, refl, Bool, true, cond, List, [], ◌∷◌, ◌++◌, map, length, drop, ltb, eqb}
+use Rattle.std.specs.Prelude.{ℕ, zero, suc, ◌+◌, ◌<◌, ◌≤◌, ◌≡◌, refl, Bool, true, cond, List, [], ◌∷◌, ◌++◌, map, length, drop, ltb, eqb, Result}
 use Rattle.std.proofs.Common.{sym, ap, ap₂, ◌∙◌, arith, zero-add, ltb-true, eq-eqb, ne_eqb, lt-ltb, le-ltb}
 use Rattle.reassembly.proofs.Laws.Base.{case_b}
 use Rattle.reassembly.specs.Receive.{Event, receive, Answer, view_of}
@@ -22,6 +22,7 @@ use Rattle.endpoint.specs.declared.answer.Target.{Target}
 use Rattle.endpoint.specs.declared.answer.Place.{Place}
 use Rattle.endpoint.specs.declared.answer.Received.{Received}
 use Rattle.endpoint.specs.declared.config.Endpoint.{Endpoint}
+use Rattle.endpoint.specs.declared.answer.Drop.{Drop}
 
 -- ---- orders
 
@@ -172,7 +173,7 @@ module _ (w : Left) (k : List ℕ) where
         answer = reply_is ∙ r;
         views =
             ap (λ (m : List ℕ). view_of k m (place_of place)) mem_is
-            ∙ ap (λ (a : Received). view_of k (receives answers Config layers (world_of w.endpoint w.mem) k).world.mem (values_of a).place)
+            ∙ ap (λ (a : Result Received Drop). view_of k (receives answers Config layers (world_of w.endpoint w.mem) k).world.mem (values_of a).place)
             (sym (sym (answer_reply answers Config layers (world_of w.endpoint w.mem) k) ∙ r))
             ∙ sym (answer-bytes answers Config layers (world_of w.endpoint w.mem) k)
             ∙ b;

@@ -1,5 +1,5 @@
 -- An answer other than 25 to 29 names no byte (document 02, §4).
-use Rattle.std.specs.Prelude.{ℕ, ◌≤◌, ◌≡◌, refl, true, false, List, [], ◌∷◌, length, drop, ltb, eqb}
+use Rattle.std.specs.Prelude.{ℕ, ◌≤◌, ◌≡◌, refl, true, false, List, [], ◌∷◌, length, drop, ltb, eqb, Result, Ok, Err}
 use Rattle.std.proofs.Common.{inl, inr, arith}
 use Rattle.std.proofs.Math.Option.{Option, none, some}
 use Rattle.std.proofs.lemmas.Bool.{eqb-false}
@@ -8,10 +8,6 @@ use Rattle.wire.proofs.Laws.Refusal.{Told, refusal-number, refusal-told}
 use Rattle.wire.specs.Stt.{stt_of}
 use Rattle.wire.specs.Frame.{frame_of}
 use Rattle.wire.specs.declared.refusal.Refusal.{Refusal}
-use Rattle.wire.specs.declared.stt.SttRead.{SttRead}
-use Rattle.wire.specs.declared.stt.SttRead.TheVariants as T
-use Rattle.wire.specs.declared.frame.FrameRead.{FrameRead}
-use Rattle.wire.specs.declared.frame.FrameRead.TheVariants as F
 use Rattle.reassembly.proofs.Laws.Base.{case_b, clash}
 use Rattle.reassembly.proofs.Laws.Answers.{bad_reply, good_reply, rejected_reply, pending_reply, complete_reply, no_memory_reply}
 use Rattle.reassembly.specs.Slots.{Note}
@@ -49,7 +45,7 @@ in_naming n least most =
 abbrev Silent : Drop → Type 0
 Silent d = (drop_of d).number among naming ≡ false → (drop_of d).offset ≡ 0
 
-abbrev SilentAnswer : Received → Type 0
+abbrev SilentAnswer : Result Received Drop → Type 0
 SilentAnswer a = (values_of a).number among naming ≡ false → (values_of a).offset ≡ 0
 
 broken_silent : (start : ℕ) (r : Refusal) → Silent (broken_at start r)
@@ -74,19 +70,19 @@ unfolding inner_from
 inner_silent networks kinds owners tenants n peer kind network frame =
     by (lowest (binds networks kinds owners peer kind network) n) (frame_of frame)
   where
-    by : (o : Option ℕ) (r : FrameRead) → SilentVerdict (by_binding tenants o r)
+    by : (o : Option ℕ) (r : Result (Unit {0}) Refusal) → SilentVerdict (by_binding tenants o r)
     by none r = λ silent. refl
-    by (some b) F.Good = tt
-    by (some b) (F.Refused r) = λ silent. refl
+    by (some b) (Ok tt) = tt
+    by (some b) (Err r) = λ silent. refl
 
 judge_silent : (c : Config) (p : ℕ) (note : Note) (frame : List ℕ) → SilentVerdict (judge_of c p note frame)
 unfolding judge_of stt_from
 judge_silent c p note frame = by (stt_of frame)
   where
-    by : (r : SttRead)
+    by : (r : Result ℕ Refusal)
         → SilentVerdict (by_stt r (λ context. inner_from c.networks c.kinds c.owners c.tenants c.bindings p 3 context (drop 18 frame)))
-    by (T.Refused r) = broken_silent 0 r
-    by (T.Header context) = inner_silent c.networks c.kinds c.owners c.tenants c.bindings p 3 context (drop 18 frame)
+    by (Err r) = broken_silent 0 r
+    by (Ok context) = inner_silent c.networks c.kinds c.owners c.tenants c.bindings p 3 context (drop 18 frame)
 
 -- ---- what is made of a packet
 

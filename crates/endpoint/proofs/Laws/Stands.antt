@@ -1,6 +1,6 @@
 -- What an opened packet stands for, whatever the memory holds; and frames that lie at any place of the memory: for a crate that reassembles a second time.
 use Prim.Native.Nat.{◌^◌, ℕ, ◌+◌, ◌-◌, ◌<◌, ◌≤◌, min}
-use Rattle.std.specs.Prelude.{◌≡◌, Bool, cond, take, drop, leb, eqb}
+use Rattle.std.specs.Prelude.{◌≡◌, Bool, cond, take, drop, leb, eqb, Result, Ok, Err}
 use Rattle.std.proofs.Math.Path.{refl, sym, ap}
 use Rattle.std.proofs.Common.{◌∙◌, arith, length-take, length-drop, drop-drop}
 use Rattle.std.proofs.Math.Bool.{true, false}
@@ -11,18 +11,12 @@ use borrow.Author.Tests.{le-ltb, leb-true, leb-false}
 use Rattle.wire.specs.Bytes.{part}
 use Rattle.wire.proofs.Laws.Bytes.{part_length, drop-take}
 use Rattle.wire.proofs.Laws.Ipv4.{ipv4_bounds}
-use Rattle.wire.proofs.Laws.Stt.{stt-room}
-use Rattle.wire.proofs.Laws.Carriage.{tunnel_within, segment-within}
+use Rattle.wire.proofs.Laws.Stt.{stt_room}
+use Rattle.wire.proofs.Laws.Carriage.{tunnel_within, segment_within}
 use Rattle.wire.specs.Ipv4.{ipv4_of}
 use Rattle.wire.specs.Carriage.{carriage_of}
 use Rattle.wire.specs.Stt.{stt_of}
 use Rattle.wire.specs.declared.ipv4.Ipv4.{Ipv4}
-use Rattle.wire.specs.declared.ipv4.Ipv4Read.{Ipv4Read}
-use Rattle.wire.specs.declared.ipv4.Ipv4Read.TheVariants as I
-use Rattle.wire.specs.declared.carriage.Carried.{Carried}
-use Rattle.wire.specs.declared.carriage.Carried.TheVariants as C
-use Rattle.wire.specs.declared.stt.SttRead.{SttRead}
-use Rattle.wire.specs.declared.stt.SttRead.TheVariants as T
 use Rattle.reassembly.specs.Slots.{Note, most_peers}
 use Rattle.reassembly.proofs.Laws.Answers.{part-fits, part_past, view_memory}
 use Rattle.reassembly.specs.Take.{Seg, seg_of}
@@ -36,7 +30,6 @@ use Rattle.endpoint.specs.Receive.{by_stt, stt_from, judge_of}
 use Rattle.endpoint.specs.declared.answer.Drop.{Drop}
 use Rattle.endpoint.specs.declared.answer.Drop.TheVariants as D
 use Rattle.endpoint.specs.declared.answer.Received.{Received}
-use Rattle.endpoint.specs.declared.answer.Received.TheVariants as R
 use Rattle.endpoint.specs.declared.receive.Due.{Due}
 use Rattle.endpoint.specs.declared.receive.Content.TheVariants as A
 use Rattle.endpoint.specs.declared.receive.Arrival.{Arrival}
@@ -44,6 +37,9 @@ use Rattle.endpoint.specs.declared.config.Endpoint.{Endpoint}
 use Rattle.endpoint.specs.Stages.{carried_from, content_from, from_other, open_peer, open_header, open_ip, open_of, stt_offer, offer_at}
 use Rattle.endpoint.specs.Stages.{brings_segment, untaken_of, deliver_of, opened_by, delivered_by}
 use Rattle.endpoint.proofs.Laws.Receive.{part_view, tunnel_out}
+use Rattle.wire.specs.declared.carriage.Carried.TheVariants as C
+use Rattle.wire.specs.declared.carriage.Carried.{Carried}
+use Rattle.wire.specs.declared.refusal.Refusal.{Refusal}
 
 -- ---- parts of the memory
 
@@ -70,10 +66,10 @@ part_room s start len frame is fits most =
     omega arith)
 
 -- so an STT frame that is read lies in the memory, with its header
-pub header-inside : (m : List ℕ) (at n : ℕ) (frame : List ℕ) (context : ℕ) → frame ≡ part_of_slice m at n → stt_of frame ≡ T.Header context
+pub header-inside : (m : List ℕ) (at n : ℕ) (frame : List ℕ) (context : ℕ) → frame ≡ part_of_slice m at n → stt_of frame ≡ Ok context
     → (18 ≤ length frame) × (at + 18 ≤ length m)
 header-inside m at n frame context is read =
-    let long : 18 ≤ length frame = stt-room frame context read in
+    let long : 18 ≤ length frame = stt_room frame context read in
     let same : length frame ≡ length (part_of_slice m at n) = ap (λ (x : List ℕ). length x) is in
     (long, omega (arith, part-inside m at n (omega arith)))
 
@@ -87,12 +83,12 @@ inner_view k m at n l f =
 
 -- STT: it lies in the memory
 module _ (c : Config) (p : ℕ) (k m : List ℕ) (at n : ℕ) (long : 18 ≤ n) (inside : at + n ≤ length m) where
-  header_out : (x : SttRead) → deliver_of c.networks c.kinds c.owners c.tenants c.bindings p (stt_offer at n x) k m
+  header_out : (x : Result ℕ Refusal) → deliver_of c.networks c.kinds c.owners c.tenants c.bindings p (stt_offer at n x) k m
       ≡ answer_at (by_stt x (λ context. inner_from c.networks c.kinds c.owners c.tenants c.bindings p 3 context (drop 18 (part_of_slice m at n))))
       (record { start = at + 18; length = n - 18; in_memory = true })
   unfolding deliver_of
-  header_out (T.Refused r) = refl
-  header_out (T.Header context) = rw (inner_view k m at n long inside)
+  header_out (Err r) = refl
+  header_out (Ok context) = rw (inner_view k m at n long inside)
 
   judged_out : (note : Note) → deliver_of c.networks c.kinds c.owners c.tenants c.bindings p (offer_at at (part_of_slice m at n)) k m
       ≡ answer_at (judge_of c p note (part_of_slice m at n)) (record { start = at + 18; length = n - 18; in_memory = true })
@@ -110,14 +106,14 @@ judged_by e p k m at n long inside note = judged_out (config_of e) p k m at n lo
 
 -- WHAT AN OPENED PACKET STANDS FOR, by what the header layer makes of it: an answer, whatever the memory holds; or a segment of its peer's, a part of the
 -- packet
-pub record Direct (e : Endpoint) (k : List ℕ) (x : Arrival) (a : Received) : Type 0 where
+pub record Direct (e : Endpoint) (k : List ℕ) (x : Arrival) (a : Result Received Drop) : Type 0 where
   pub untaken : brings_segment x.content ≡ false
   pub answer : (m : List ℕ) → delivered_by e x.peer (untaken_of x.content) k m ≡ a
 
 pub record Brings (k : List ℕ) (x : Arrival) (p : ℕ) (g : Seg) : Type 0 where
   pub peer : x.peer ≡ p
   pub due : Due
-  pub content : x.content ≡ A.Segment due
+  pub content : x.content ≡ Ok (A.Segment due)
   pub bytes : seg_of due.header (part_of_slice k due.start due.length) ≡ g
 
 abbrev pub StandsFor : Endpoint → (packet : List ℕ) → Arrival → Made answers → Type 0
@@ -126,16 +122,16 @@ StandsFor e k x (direct p a) = (x.peer ≡ p) × Direct e k x a
 StandsFor e k x (segment p g) = Brings k x p g
 
 module _ (e : Endpoint) (k : List ℕ) where
-  refused_stands : (p : ℕ) (d : Drop) → Direct e k (record { peer = p; content = A.Refused d }) (R.Dropped d)
+  refused_stands : (p : ℕ) (d : Drop) → Direct e k (record { peer = p; content = Err d }) (Err d)
   unfolding deliver_of
   refused_stands p d = record { untaken = refl; answer = λ m. refl }
 
-  carried-stands : (h : Ipv4) → (h.start ≤ h.end) × (h.end ≤ length k) → (p : ℕ) (x : Carried)
+  carried-stands : (h : Ipv4) → (h.start ≤ h.end) × (h.end ≤ length k) → (p : ℕ) (x : Result Carried Refusal)
       → carriage_of h.protocol h.source h.destination e.port (part k h.start h.end) ≡ x
       → StandsFor e k (record { peer = p; content = carried_from h.start h.end x }) (by_payload (config_of e) p h.start h.end k x)
   unfolding config_of
-  carried-stands h b p (C.Refused r) q = (refl, refused_stands p (broken_at h.start r))
-  carried-stands h b p (C.Tunnel t) q =
+  carried-stands h b p (Err r) q = (refl, refused_stands p (broken_at h.start r))
+  carried-stands h b p (Ok (C.Tunnel t)) q =
       let in-payload : t.start ≤ length (part k h.start h.end) =
       tunnel_within h.protocol h.source h.destination e.port (part k h.start h.end) t q in (
         refl,
@@ -147,9 +143,9 @@ module _ (e : Endpoint) (k : List ℕ) where
               (omega (arith, part_length k h.start h.end b.1)) b.1;
         },
       )
-  carried-stands h b p (C.Segment g) q =
+  carried-stands h b p (Ok (C.Segment g)) q =
       let in-payload : g.start ≤ length (part k h.start h.end) =
-      segment-within h.protocol h.source h.destination e.port (part k h.start h.end) g q in
+      segment_within h.protocol h.source h.destination e.port (part k h.start h.end) g q in
       record {
         peer = refl;
         due = record { header = g; start = h.start + g.start; length = h.end - (h.start + g.start) };
@@ -171,18 +167,18 @@ module _ (e : Endpoint) (k : List ℕ) where
   ours-stands h b true = peer-stands h b (find_peer (config_of e) h.source)
   ours-stands h b false = (refl, refused_stands 0 D.NotForUs)
 
-  ip_stands : (x : Ipv4Read) → ipv4_of k ≡ x
+  ip_stands : (x : Result Ipv4 Refusal) → ipv4_of k ≡ x
       → StandsFor e k (open_ip x (open_header e.addresses e.own e.port (min e.peer_count most_peers) k)) (by_ipv4 (config_of e) k x)
   unfolding config_of
-  ip_stands (I.Refused r) q = (refl, refused_stands 0 (D.Format r 0))
-  ip_stands (I.Packet h) q = ours-stands h (ipv4_bounds k h q) (eqb h.destination e.own)
+  ip_stands (Err r) q = (refl, refused_stands 0 (D.Format r 0))
+  ip_stands (Ok h) q = ours-stands h (ipv4_bounds k h q) (eqb h.destination e.own)
 
   pub opened-stands : (room : ℕ) → 55296 ≤ room → StandsFor e k (opened_by e k room) (header_of (config_of e) k)
   unfolding open_of header_of
   opened-stands room enough = rw (le-ltb room 55296 enough) (ip_stands (ipv4_of k) refl)
 
 -- so what it brings tells what the header layer made of it
-pub stands-segment : (e : Endpoint) (k : List ℕ) (x : Arrival) (y : Made answers) (d : Due) → StandsFor e k x y → x.content ≡ A.Segment d
+pub stands-segment : (e : Endpoint) (k : List ℕ) (x : Arrival) (y : Made answers) (d : Due) → StandsFor e k x y → x.content ≡ Ok (A.Segment d)
     → y ≡ segment x.peer (seg_of d.header (part_of_slice k d.start d.length))
 stands-segment e k x (other_sender a) d s q = clash (cc (s.1.untaken, q))
 stands-segment e k x (direct p a) d s q = clash (cc (s.1.untaken, q))

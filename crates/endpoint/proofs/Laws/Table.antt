@@ -1,5 +1,6 @@
 -- Each call answers by document 01's table (Table.antt): the rows of crates wire and reassembly, as those prove them, joined with the endpoint's own.
-use Rattle.std.specs.Prelude.{ℕ, zero, suc, ◌+◌, ◌-◌, ◌*◌, ◌/◌, ◌^◌, ◌<◌, ◌≤◌, min, ◌≡◌, ◌≢◌, Bool, not, cond, ◌&&◌, ◌||◌, get_or, drop, ltb, leb, eqb}
+use Rattle.std.specs.Prelude.{ℕ, zero, suc, ◌+◌, ◌-◌, ◌*◌, ◌/◌, ◌^◌, ◌<◌, ◌≤◌, min, ◌≡◌, ◌≢◌, Bool, not, cond, ◌&&◌, ◌||◌, get_or, drop, ltb, leb, eqb, Result}
+use Rattle.std.specs.Prelude.{Ok, Err}
 use Rattle.std.proofs.Math.Path.{refl, sym, ap}
 use Rattle.std.proofs.Common.{◌∙◌, arith}
 use Rattle.std.proofs.Math.Bool.{true, false}
@@ -23,16 +24,8 @@ use Rattle.wire.specs.Table.{◌⇒◌, ◌and_then◌, ◌otherwise◌}
 use Rattle.wire.proofs.Laws.Checks.{choices, unless}
 use Rattle.wire.proofs.Laws.Table.{pull, behind, row3, row6, payload_is, segment-bytes_are, total_most, wire_table}
 use Rattle.wire.specs.declared.ipv4.Ipv4.{Ipv4}
-use Rattle.wire.specs.declared.ipv4.Ipv4Read.{Ipv4Read}
-use Rattle.wire.specs.declared.ipv4.Ipv4Read.TheVariants as I
 use Rattle.wire.specs.declared.segment.Segment.{Segment}
-use Rattle.wire.specs.declared.stt.SttRead.{SttRead}
-use Rattle.wire.specs.declared.stt.SttRead.TheVariants as H
-use Rattle.wire.specs.declared.frame.FrameRead.{FrameRead}
-use Rattle.wire.specs.declared.frame.FrameRead.TheVariants as F
 use Rattle.wire.specs.declared.carriage.Tunnel.{Tunnel}
-use Rattle.wire.specs.declared.carriage.Carried.{Carried}
-use Rattle.wire.specs.declared.carriage.Carried.TheVariants as C
 use Rattle.reassembly.proofs.Laws.Base.{case_b, case_o}
 use Rattle.reassembly.specs.Base.{some_below}
 use Rattle.lookup.specs.Search.{lowest, found}
@@ -50,6 +43,7 @@ use Rattle.reassembly.proofs.Laws.Answers.{rejected-told, pending-told, complete
 use Rattle.reassembly.specs.Receive.{nowhere, Answer, Reading, segment, frame_answer, take_answer, Verdict, bad, good}
 use Rattle.endpoint.specs.Answer.{drop_of, added_code, start_code, values_of, told_by, wrap_values_of}
 use Rattle.endpoint.specs.Config.{is_some, config_of, has_address, find_peer, binds, find_binding, fresh, start_checks, refused_start, start_of, refused_add}
+use Rattle.endpoint.specs.Config.{AddResult}
 use Rattle.endpoint.specs.Config.{add_peer_checks, with_address, add_peer_of, is_network, add_binding_checks, with_binding, add_binding_of, most_bindings}
 use Rattle.endpoint.specs.Receive.{by_binding, by_frame, inner_from, answer_at, tunnel_from, tunnel_of, answers, by_payload, by_peer, by_destination, by_ipv4}
 use Rattle.endpoint.specs.Receive.{header_of, by_stt, stt_from, judge_of, row_at, stepped, step_of}
@@ -62,14 +56,14 @@ use Rattle.endpoint.specs.declared.answer.Place.{Place}
 use Rattle.endpoint.specs.declared.answer.Target.{Target}
 use Rattle.endpoint.specs.declared.answer.Received.{Received}
 use Rattle.endpoint.specs.declared.answer.Received.TheVariants as R
-use Rattle.endpoint.specs.declared.answer.Added.TheVariants as A
-use Rattle.endpoint.specs.declared.answer.Start.TheVariants as S
-use Rattle.endpoint.specs.declared.answer.Wrapped.{Wrapped}
-use Rattle.endpoint.specs.declared.answer.Wrapped.TheVariants as Y
 use Rattle.endpoint.specs.declared.config.Endpoint.{Endpoint}
-use Rattle.endpoint.specs.declared.config.AddResult.{AddResult}
 use Rattle.endpoint.specs.declared.config.StartResult.{StartResult}
 use Rattle.endpoint.specs.Table as P
+use Rattle.endpoint.specs.declared.answer.Packet.{Packet}
+use Rattle.endpoint.specs.declared.answer.WrapRefusal.{WrapRefusal}
+use Rattle.wire.specs.declared.carriage.Carried.TheVariants as C
+use Rattle.wire.specs.declared.carriage.Carried.{Carried}
+use Rattle.endpoint.specs.declared.answer.Drop.{Drop}
 
 -- a lookup finds something exactly where something passes
 some-lowest : (n : ℕ) (f : ℕ → Bool) → some_below n f ≡ is_some (lowest f n)
@@ -83,7 +77,7 @@ some-lowest n f =
 pub start-number : (own port mtu : ℕ) → start_code (start_of own port mtu).answer ≡ T.numbered (P.start_rows own port mtu)
 unfolding start_of start_checks P.start_rows start_code
 start-number own port mtu =
-    pull (λ (s : StartResult). start_code s.answer) refused_start (start_checks own port mtu) (record { endpoint = fresh own port mtu; answer = S.Done })
+    pull (λ (s : StartResult). start_code s.answer) refused_start (start_checks own port mtu) (record { endpoint = fresh own port mtu; answer = Ok tt })
     ∙ simp choices (row6 18 (eqb (own / 2 ^ 24) 0) (leb 224 (own / 2 ^ 24)) (eqb port 0) (ltb 65535 port) (ltb mtu 576) (ltb 1600 mtu) 0)
 
 peer-rows : (p a b o : Bool) (x : ℕ) → pick p 18 (pick a 18 (pick b 18 (pick o 18 x))) ≡ pick (p || (a || b) || o) 18 x
@@ -95,7 +89,7 @@ unfolding add_peer_of add_peer_checks find_peer config_of has_address P.add_peer
 add-peer-number e address =
     rw (some-lowest (min e.peer_count most_peers) (λ i. eqb (get_or e.addresses i 0) address))
     (pull (λ (s : AddResult). added_code s.answer) (refused_add e) (add_peer_checks e address)
-    (record { endpoint = with_address e e.peer_count address; answer = A.Number e.peer_count })
+    (record { endpoint = with_address e e.peer_count address; answer = Ok e.peer_count })
     ∙ simp choices (peer-rows (eqb e.port 0) (eqb (address / 2 ^ 24) 0) (leb 224 (address / 2 ^ 24)) (eqb address e.own) _))
 
 -- numbers up to b are those not above it
@@ -135,7 +129,7 @@ unfolding add_binding_of add_binding_checks find_binding config_of binds P.add_b
 add_binding-number e peer kind network tenant =
     rw (some-lowest (min e.binding_count most_bindings) (P.is_binding e peer kind network), sym (network_bad kind network))
     (pull (λ (s : AddResult). added_code s.answer) (refused_add e) (add_binding_checks e peer kind network tenant)
-    (record { endpoint = with_binding e e.binding_count peer kind network tenant; answer = A.Number e.binding_count })
+    (record { endpoint = with_binding e e.binding_count peer kind network tenant; answer = Ok e.binding_count })
     ∙ simp choices (row3 18 (leb (min e.peer_count most_peers) peer) (not (is_network kind network)) (ltb 65535 tenant) _))
 
 -- where no row applies: 0
@@ -168,7 +162,7 @@ binding_done e peer kind network tenant p i t once room =
 broken-told : (start : ℕ) (r : Refusal) → code_of r at_byte (finding_of start r).offset ≡ finding_of start r
 broken-told start r = ap (λ (n : ℕ). n at_byte (finding_of start r).offset) (sym (refusal-number start r))
 
-frame_row : (x : Finding) (frame : List ℕ) → T.frame_tells 0 x (frame_of frame) ≡ pick (T.bad_frame frame) (only 13) x
+frame_row : (x : Finding) (frame : List ℕ) → T.tells 0 (λ u. x) (frame_of frame) ≡ pick (T.bad_frame frame) (only 13) x
 frame_row x frame = simp choices at (wire_table.inner_frame 0 x frame)
 
 -- what a verdict tells
@@ -186,9 +180,9 @@ module _ (e : Endpoint) (peer kind network : ℕ) (frame : List ℕ) where
       rw (some-lowest (P.bindings e) (P.is_binding e peer kind network))
       (simp choices (by_binding_lem (lowest (P.is_binding e peer kind network) (P.bindings e))))
     where
-      by_frame_lem : (r : FrameRead) → frame_of frame ≡ r → (t : Target) → verdict_tells (by_frame r t) ≡ T.frame_tells 0 (only 0) r
-      by_frame_lem F.Good q t = refl
-      by_frame_lem (F.Refused r) q t = ap (λ (x : Finding). x.number at_byte 0) (frame-plain frame r 0 q) ∙ sym (frame-plain frame r 0 q)
+      by_frame_lem : (r : Result (Unit {0}) Refusal) → frame_of frame ≡ r → (t : Target) → verdict_tells (by_frame r t) ≡ T.tells 0 (λ u. only 0) r
+      by_frame_lem (Ok tt) q t = refl
+      by_frame_lem (Err r) q t = ap (λ (x : Finding). x.number at_byte 0) (frame-plain frame r 0 q) ∙ sym (frame-plain frame r 0 q)
 
       by_binding_lem : (o : Option ℕ) → verdict_tells (by_binding e.tenants o (frame_of frame))
           ≡ pick (not (is_some o)) (only 12) (pick (T.bad_frame frame) (only 13) (only 0))
@@ -209,10 +203,10 @@ module _ (e : Endpoint) (peer : ℕ) where
       ∙ ap (λ (x : Finding). T.stt_rows frame otherwise x) (inner_told e peer 3 (T.context_of frame) (drop 18 frame))
       ∙ sym (behind (T.stt_rows frame) (P.inner_rows e peer 3 (T.context_of frame) (drop 18 frame)) (only 0))
     where
-      by_header : (x : SttRead) → verdict_tells (by_stt x (λ context. verdict e peer 3 context (drop 18 frame)))
-          ≡ T.stt_tells 0 (λ context. verdict_tells (verdict e peer 3 context (drop 18 frame))) x
-      by_header (H.Header context) = refl
-      by_header (H.Refused r) = broken-told 0 r
+      by_header : (x : Result ℕ Refusal) → verdict_tells (by_stt x (λ context. verdict e peer 3 context (drop 18 frame)))
+          ≡ T.tells 0 (λ context. verdict_tells (verdict e peer 3 context (drop 18 frame))) x
+      by_header (Ok context) = refl
+      by_header (Err r) = broken-told 0 r
 
 -- ---- an STT segment: 14, 15, 16, 17, 1, and then those of the complete frame
 
@@ -222,8 +216,8 @@ seen_tells e m x = told_by (values_of (stepped e m x).answer)
 
 verdict_reply_told : (v : Verdict answers) (i n : ℕ) (frame : List ℕ) → told_by (values_of (frame_answer answers v i n frame).reply) ≡ verdict_tells v
 unfolding verdict_tells
-verdict_reply_told (bad d) i n frame = ap (λ (a : Received). told_by (values_of a)) (bad_reply answers d i n frame)
-verdict_reply_told (good t) i n frame = ap (λ (a : Received). told_by (values_of a)) (good_reply answers t i n frame)
+verdict_reply_told (bad d) i n frame = ap (λ (a : Result Received Drop). told_by (values_of a)) (bad_reply answers d i n frame)
+verdict_reply_told (good t) i n frame = ap (λ (a : Result Received Drop). told_by (values_of a)) (good_reply answers t i n frame)
 
 module _ (e : Endpoint) (m : List ℕ) (p : ℕ) (g : Seg) where
   -- what is made of a complete frame; its note says nothing in the base
@@ -234,15 +228,15 @@ module _ (e : Endpoint) (m : List ℕ) (p : ℕ) (g : Seg) where
       ≡ taken_tells judged p g o x
   unfolding judged judge_of
   outcome-told o (O.Rejected r) =
-      ap (λ (a : Received). told_by (values_of a)) (rejected_reply answers (judge_of (config_of e)) bytes_of p g o r) ∙ sym (rejected-told judged p g o r)
+      ap (λ (a : Result Received Drop). told_by (values_of a)) (rejected_reply answers (judge_of (config_of e)) bytes_of p g o r) ∙ sym (rejected-told judged p g o r)
   outcome-told o O.Pending =
-      ap (λ (a : Received). told_by (values_of a)) (pending_reply answers (judge_of (config_of e)) bytes_of p g o) ∙ sym (pending-told judged p g o)
+      ap (λ (a : Result Received Drop). told_by (values_of a)) (pending_reply answers (judge_of (config_of e)) bytes_of p g o) ∙ sym (pending-told judged p g o)
   outcome-told o (O.Complete s) =
       ap (λ (a : Answer answers). told_by (values_of a.reply)) (complete_reply answers (judge_of (config_of e)) bytes_of p g o s)
       ∙ verdict_reply_told (judge_of (config_of e) p o.note (frame_in bytes_of o.mem (slot_no p s) g.frame_length)) _ _ _
       ∙ sym (complete-told judged p g o s)
   outcome-told o O.NoMemory =
-      ap (λ (a : Received). told_by (values_of a)) (no_memory_reply answers (judge_of (config_of e)) bytes_of p g o) ∙ sym (no_memory_told judged p g o)
+      ap (λ (a : Result Received Drop). told_by (values_of a)) (no_memory_reply answers (judge_of (config_of e)) bytes_of p g o) ∙ sym (no_memory_told judged p g o)
 
   segment-told : p < most_peers → 55296 ≤ length m
       → seen_tells e m (segment p g) ≡ T.told (segment_rows p (row_at e p) m g and_then judge_rows e p (complete_frame p (row_at e p) m g))
@@ -297,11 +291,11 @@ module _ (e : Endpoint) (m k : List ℕ) where
   segment_tells : Segment → Finding
   segment_tells g = seen_tells e m (segment peer (seg_of g (part k (start + g.start) end)))
 
-  carried_is : (x : Carried) → seen_tells e m (by_payload (config_of e) peer start end k x) ≡ T.carried_tells start tunnel_tells segment_tells x
+  carried_is : (x : Result Carried Refusal) → seen_tells e m (by_payload (config_of e) peer start end k x) ≡ T.tells start (T.carried_tells tunnel_tells segment_tells) x
   unfolding seen_tells tunnel_tells segment_tells
-  carried_is (C.Refused r) = broken-told start r
-  carried_is (C.Tunnel t) = refl
-  carried_is (C.Segment g) = refl
+  carried_is (Err r) = broken-told start r
+  carried_is (Ok (C.Tunnel t)) = refl
+  carried_is (Ok (C.Segment g)) = refl
 
   tunnel_rows : (rows : T.Rows) (kind network at : ℕ)
       → (rows otherwise tunnel_tells (record { kind = kind; network = network; start = at }))
@@ -383,9 +377,9 @@ module _ (e : Endpoint) (m k : List ℕ) where
         ∙ wire_table.ipv4 0 good-header k
         ∙ ap (λ (x : Finding). T.ipv4_rows k otherwise x) (ours-told (eqb (T.destination_of k) e.own))
       where
-        by_header : (x : Ipv4Read) → ipv4_of k ≡ x → seen_tells e m (by_ipv4 (config_of e) k x) ≡ T.ipv4_tells 0 good-header x
-        by_header (I.Packet h) q = refl
-        by_header (I.Refused r) q = sym (ipv4_plain k r 0 q)
+        by_header : (x : Result Ipv4 Refusal) → ipv4_of k ≡ x → seen_tells e m (by_ipv4 (config_of e) k x) ≡ T.tells 0 good-header x
+        by_header (Ok h) q = refl
+        by_header (Err r) q = sym (ipv4_plain k r 0 q)
 
   -- behind 5: 6, 7, and the rest
   abbrev ours : T.Rows
@@ -402,11 +396,11 @@ module _ (e : Endpoint) (m k : List ℕ) where
       (λ q. simp (choices, q, payload_is k) (header-told bytes (ltb-false (length m) 55296 q) ∙ behind-header))
 
 -- a refusal and answer 1 carry no tenant, no binding and the empty place
-pub receive_empties : (a : Received) → (values_of a).number ≢ 0
+pub receive_empties : (a : Result Received Drop) → (values_of a).number ≢ 0
     → values_of a ≡ record { number = (values_of a).number; offset = (values_of a).offset; tenant = none; binding = none; place = nowhere }
-receive_empties (R.Delivered t p) d = absurd (d refl)
-receive_empties R.Pending d = refl
-receive_empties (R.Dropped r) d = refl
+receive_empties (Ok (R.Delivered t p)) d = absurd (d refl)
+receive_empties (Ok R.Pending) d = refl
+receive_empties (Err r) d = refl
 
 -- ---- writing
 
@@ -414,11 +408,11 @@ receive_empties (R.Dropped r) d = refl
 frame-bad : (frame : List ℕ) → is_bad (frame_of frame) ≡ T.bad_frame frame
 frame-bad frame = by (frame_of frame) (T.bad_frame frame) (λ n. ap (λ (x : Finding). x.number) (frame_row (only n) frame))
   where
-    by : (r : FrameRead) (b : Bool) → ((n : ℕ) → (T.frame_tells 0 (only n) r).number ≡ (pick b (only 13) (only n)).number) → is_bad r ≡ b
-    by F.Good true h = absurd (omega (arith, h 0))
-    by F.Good false h = refl
-    by (F.Refused r) true h = refl
-    by (F.Refused r) false h = absurd (omega (arith, h 0, h 1))
+    by : (r : Result (Unit {0}) Refusal) (b : Bool) → ((n : ℕ) → (T.tells 0 (λ u. only n) r).number ≡ (pick b (only 13) (only n)).number) → is_bad r ≡ b
+    by (Ok tt) true h = absurd (omega (arith, h 0))
+    by (Ok tt) false h = refl
+    by (Err r) true h = refl
+    by (Err r) false h = absurd (omega (arith, h 0, h 1))
 
 module _ (e : Endpoint) (b : ℕ) (frame : List ℕ) (k identifier : ℕ) (output : List ℕ) where
   -- the number of segments and the packet's length, as the page has them
@@ -481,10 +475,10 @@ module _ (e : Endpoint) (b : ℕ) (frame : List ℕ) (k identifier : ℕ) (outpu
       (ap (pick (T.bad_frame frame) 13) (simp choices at (last-number l)))))
 
 -- a refusal carries the length 0 and no segment
-pub wrap_empties : (a : Wrapped) → (wrap_values_of a).number ≢ 0 → wrap_values_of a ≡ record { number = (wrap_values_of a).number; length_is = 0; segments = 0 }
+pub wrap_empties : (a : Result Packet WrapRefusal) → (wrap_values_of a).number ≢ 0 → wrap_values_of a ≡ record { number = (wrap_values_of a).number; length_is = 0; segments = 0 }
 unfolding wrap_values_of
-wrap_empties (Y.Written p) d = absurd (d refl)
-wrap_empties (Y.Refused r) d = refl
+wrap_empties (Ok p) d = absurd (d refl)
+wrap_empties (Err r) d = refl
 
 -- ---- the table
 

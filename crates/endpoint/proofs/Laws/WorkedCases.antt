@@ -11,7 +11,8 @@ use Rattle.wire.specs.Refusal.{finding_of}
 use Rattle.wire.specs.Inner.{carries_ipv4, carries_ipv6, transport_by, over_ipv4, transport_of, hints_of}
 use Rattle.wire.specs.Stt.{stt}
 use Rattle.wire.specs.Segment as S
-use Rattle.wire.specs.Write.{ipv4_with, outer, ipv4_head, packet, source_port_of, vxlan_body, nvgre_body, stt_frame, flags_of, tcp_with, segment_header, segment_bytes}
+use Rattle.wire.specs.Write.{ipv4_with, outer, ipv4_head, packet, source_port_of, vxlan_body, nvgre_body, stt_frame, flags_of, tcp_with, segment_header}
+use Rattle.wire.specs.Write.{segment_bytes}
 use Rattle.wire.specs.Write.{segment_body, vxlan_packet, nvgre_packet, segment_packet}
 use Rattle.reassembly.specs.Base.{all_below}
 use Rattle.reassembly.specs.Slots.{first, bears, is_free_slot}

@@ -2,6 +2,7 @@
 -- each kind, so between them every such frame makes the trip. At an MTU of 576 a frame of 1,514 bytes on the STT network makes it in three segments, the
 -- last first and the second last: the answers are 1, 1 and 0.
 use Rattle.std.specs.Prelude.{ℕ, zero, suc, ◌+◌, ◌-◌, ◌^◌, ◌<◌, ◌≤◌, ◌≡◌, refl, ◌⊎◌, false, cond, List, [], ◌∷◌, map, length, get_or, take, replicate, ltb, eqb}
+use Rattle.std.specs.Prelude.{Ok}
 use Rattle.std.proofs.Common.{sym, ap, subst, ◌∙◌, inl, inr, arith, le_refl, ne_eqb, ltb-true, ltb-false, eqb-true, lt-ltb, le-ltb}
 use Rattle.std.proofs.lemmas.Bool.{eqb-false}
 use Rattle.std.proofs.lemmas.List.{length-replicate}
@@ -12,7 +13,8 @@ use Rattle.wire.specs.Frame.{IsFrame}
 use Rattle.wire.proofs.Laws.WriteIs.{wrote_front}
 use Rattle.reassembly.proofs.Laws.Base.{case_b}
 use Rattle.endpoint.specs.Search.{from, lowest}
-use Rattle.endpoint.specs.Config.{config_of, has_address, find_peer, binds, find_binding, fresh, start_checks, start_of, add_peer_checks, with_address, add_peer_of}
+use Rattle.endpoint.specs.Config.{config_of, has_address, find_peer, binds, find_binding, fresh, start_checks, start_of, add_peer_checks, with_address}
+use Rattle.endpoint.specs.Config.{add_peer_of}
 use Rattle.endpoint.specs.Config.{is_network, add_binding_checks, with_binding, add_binding_of, Adding, add_peer, add_binding, added, added_all, set_up}
 use Rattle.endpoint.specs.Config.{address_at}
 use Rattle.endpoint.specs.Wrap.{segments_of, exceeds, kind_at, network_at, owner_at, peer_at, packet_at, wrap_of}
@@ -26,7 +28,6 @@ use Rattle.endpoint.specs.Run.{Left, left}
 use Rattle.endpoint.specs.Demand2.{Delivers}
 use Rattle.endpoint.specs.declared.answer.Received.TheVariants as R
 use Rattle.endpoint.specs.declared.answer.Packet.{Packet}
-use Rattle.endpoint.specs.declared.answer.Wrapped.TheVariants as Y
 use Rattle.endpoint.specs.declared.config.Endpoint.{Endpoint}
 
 -- ---- a good frame is wrapped
@@ -39,7 +40,7 @@ module _ (e : Endpoint) (b : ℕ) (frame : List ℕ) (identifier : ℕ) (reached
   abbrev answer : ℕ → Packet
   answer k = record { length = length (packets k); segments = segments_for e b frame }
 
-  written : (k : ℕ) → k < segments_for e b frame → (wrap_of e b frame k identifier (packets k)).answer ≡ Y.Written (answer k)
+  written : (k : ℕ) → k < segments_for e b frame → (wrap_of e b frame k identifier (packets k)).answer ≡ Ok (answer k)
   written k h =
       written_when e b frame k identifier (packets k) listed (ready-listed e b (reached_ready e reached) listed).owner_below good short h
       (le_refl (length (packets k)))
@@ -265,8 +266,8 @@ module _ (m : List ℕ) (enough : 55296 ≤ length m) (identifier : ℕ) (fits :
   -- the third segment, then the first, then the second: 1, 1, and the frame is delivered
   pub record InThree : Type 0 where
     pub count : segments_for sender 2 longest ≡ 3
-    pub third : (step_of receiver m (segment 2)).answer ≡ R.Pending
-    pub first : (step_of (after (2 ∷ [])).endpoint (after (2 ∷ [])).mem (segment 0)).answer ≡ R.Pending
+    pub third : (step_of receiver m (segment 2)).answer ≡ Ok R.Pending
+    pub first : (step_of (after (2 ∷ [])).endpoint (after (2 ∷ [])).mem (segment 0)).answer ≡ Ok R.Pending
     pub second : Delivers (after (2 ∷ 0 ∷ [])).endpoint (after (2 ∷ 0 ∷ [])).mem (segment 1) (record { tenant = 4; binding = 0 }) longest
 
   pub in_three : InThree

@@ -1,6 +1,6 @@
 -- A worked run, computed through the definitions of every layer: what the set-up of PossibleRun holds, what becomes of each packet of its run, and what each
 -- frame is worth.
-use Rattle.std.specs.Prelude.{◌≡◌, refl, true, false, replicate}
+use Rattle.std.specs.Prelude.{◌≡◌, refl, true, false, replicate, Ok, Err}
 use Rattle.wire.specs.Checks.{first}
 use Rattle.wire.specs.Bytes.{be, be_at, part}
 use Rattle.wire.specs.Sum.{total, ones, pseudo}
@@ -21,7 +21,8 @@ use Rattle.reassembly.specs.Mix.{part_of, states}
 use Rattle.reassembly.proofs.Laws.MixTest.{mixes}
 use Rattle.reassembly.proofs.Laws.OneByOne.{turns}
 use Rattle.endpoint.specs.Search.{from, lowest}
-use Rattle.endpoint.specs.Config.{config_of, has_address, find_peer, binds, find_binding, fresh, start_checks, start_of, add_peer_checks, with_address, add_peer_of}
+use Rattle.endpoint.specs.Config.{config_of, has_address, find_peer, binds, find_binding, fresh, start_checks, start_of, add_peer_checks, with_address}
+use Rattle.endpoint.specs.Config.{add_peer_of}
 use Rattle.endpoint.specs.Config.{is_network, add_binding_checks, with_binding, add_binding_of, added, added_all, set_up}
 use Rattle.endpoint.specs.Receive.{inner_from, tunnel_from, header_of, stt_from, judge_of}
 use Rattle.endpoint.specs.declared.answer.Drop.TheVariants as D
@@ -90,13 +91,13 @@ worth_b note = refl
 
 -- ---- packets of peer 0's own: delivered, and refused (10)
 
-pub read-own : header_of listed own-packet ≡ direct 0 (R.Delivered (record { tenant = 5; binding = 3 })
-    (record { start = 36; length = 14; in_memory = false }))
+pub read-own : header_of listed own-packet ≡ direct 0 (Ok (R.Delivered (record { tenant = 5; binding = 3 })
+    (record { start = 36; length = 14; in_memory = false })))
 unfolding first header_of ipv4_checks ipv4_at ipv4_of be be_at part total ones udp_sum udp_checks udp_of vxlan_checks vxlan_at vxlan_of carriage_of from lowest
     has_address find_peer binds inner_from tunnel_from frame_checks frame_of
 read-own = refl
 
-pub read-broken : header_of listed broken-packet ≡ direct 0 (R.Dropped (D.Format F.TcpChecksum 0))
+pub read-broken : header_of listed broken-packet ≡ direct 0 (Err (D.Format F.TcpChecksum 0))
 unfolding first states header_of ipv4_checks ipv4_at ipv4_of be be_at part total ones pseudo segment_checks segment_at segment_of carriage_of from lowest has_address
     find_peer finding_of
 read-broken = refl
@@ -104,8 +105,8 @@ read-broken = refl
 -- ---- other senders' packets
 
 -- delivered: the frame of 14 bytes behind 36
-pub read-vxlan : header_of listed vxlan-packet ≡ direct 1 (R.Delivered (record { tenant = 9; binding = 2 })
-    (record { start = 36; length = 14; in_memory = false }))
+pub read-vxlan : header_of listed vxlan-packet ≡ direct 1 (Ok (R.Delivered (record { tenant = 9; binding = 2 })
+    (record { start = 36; length = 14; in_memory = false })))
 unfolding first header_of ipv4_checks ipv4_at ipv4_of be be_at part total ones udp_sum udp_checks udp_of vxlan_checks vxlan_at vxlan_of carriage_of from lowest
     has_address find_peer binds inner_from tunnel_from frame_checks frame_of
 read-vxlan = refl
@@ -116,7 +117,7 @@ unfolding first header_of ipv4_checks ipv4_at ipv4_of be be_at part total ones p
     find_peer
 read_rival = refl
 
-pub read_stray : header_of listed stray_packet ≡ other_sender (R.Dropped D.UnknownPeer)
+pub read_stray : header_of listed stray_packet ≡ other_sender (Err D.UnknownPeer)
 unfolding first header_of ipv4_checks ipv4_at ipv4_of be be_at part total ones pseudo segment_checks segment_at segment_of carriage_of from lowest has_address
     find_peer
 read_stray = refl

@@ -1,5 +1,5 @@
 -- Laws of wrapping: what an answer Written says, the packet of each kind, the segments' bounds, and what a listed binding gives.
-use Rattle.std.specs.Prelude.{ℕ, suc, ◌+◌, ◌-◌, ◌*◌, ◌/◌, ◌^◌, ◌<◌, ◌≤◌, true, false, ◌&&◌, ◌||◌, List, get_or, ltb, leb, eqb}
+use Rattle.std.specs.Prelude.{ℕ, suc, ◌+◌, ◌-◌, ◌*◌, ◌/◌, ◌^◌, ◌<◌, ◌≤◌, true, false, ◌&&◌, ◌||◌, List, get_or, ltb, leb, eqb, Ok, Err, Result}
 use Rattle.std.proofs.Math.Path.{◌≡◌, refl, sym, ap}
 use Rattle.std.proofs.Common.{subst, ◌∙◌, suc-mul, le-div_iff_mul-le, arith}
 use Rattle.std.proofs.Math.Nat.{lt-div-mul-add, mod-eq_of_lt}
@@ -9,8 +9,6 @@ use Rattle.wire.specs.Checks.{Passed}
 use Rattle.wire.proofs.Laws.Checks.{pass, passed}
 use Rattle.wire.specs.Frame.{frame_of, IsFrame}
 use Rattle.wire.proofs.Laws.Frame as G
-use Rattle.wire.specs.declared.frame.FrameRead.{FrameRead}
-use Rattle.wire.specs.declared.frame.FrameRead.TheVariants as F
 use Rattle.wire.specs.Bytes.{wrote}
 use Rattle.wire.specs.Write.{vxlan_packet, nvgre_packet, segment_packet}
 use Rattle.reassembly.proofs.Laws.Base.{case_b, either, clash, and_l, and_r, or_cases}
@@ -19,9 +17,9 @@ use Rattle.endpoint.proofs.Laws.Config.{Valid}
 use Rattle.endpoint.specs.Wrap.{capacity, segments_of, segment_start, segment_size, low32, packet_of, exceeds, is_bad, kind_at, network_at, owner_at, peer_at}
 use Rattle.endpoint.specs.Wrap.{packet_at, wrap_checks, Wrote, refused_wrap, wrap_of}
 use Rattle.endpoint.specs.declared.answer.Packet.{Packet}
-use Rattle.endpoint.specs.declared.answer.Wrapped.TheVariants as Y
 use Rattle.endpoint.specs.declared.config.Endpoint.{Endpoint}
 use Rattle.reassembly.specs.Slots.{most_peers}
+use Rattle.wire.specs.declared.refusal.Refusal.{Refusal}
 
 -- ---- what an answer Written says, and when it is given
 
@@ -35,26 +33,26 @@ pub record WrittenFacts (e : Endpoint) (b : ℕ) (frame : List ℕ) (segment ide
   pub segments_is : p.segments ≡ segments_of (kind_at e b) (length frame) e.mtu
   pub output_is : (wrap_of e b frame segment identifier output).output ≡ wrote output (packet_at e b frame segment identifier)
 
-not_bad : (x : FrameRead) → is_bad x ≡ false → x ≡ F.Good
-not_bad F.Good e = refl
-not_bad (F.Refused r) e = clash (cc)
+not_bad : (x : Result (Unit {0}) Refusal) → is_bad x ≡ false → x ≡ Ok tt
+not_bad (Ok tt) e = refl
+not_bad (Err r) e = clash (cc)
 
-good_not : (x : FrameRead) → x ≡ F.Good → is_bad x ≡ false
+good_not : (x : Result (Unit {0}) Refusal) → x ≡ Ok tt → is_bad x ≡ false
 good_not x e = rw e
 
 module _ (e : Endpoint) (b : ℕ) (frame : List ℕ) (segment identifier : ℕ) (output : List ℕ) where
-  pub written_facts : (p : Packet) → (wrap_of e b frame segment identifier output).answer ≡ Y.Written p → WrittenFacts e b frame segment identifier output p
+  pub written_facts : (p : Packet) → (wrap_of e b frame segment identifier output).answer ≡ Ok p → WrittenFacts e b frame segment identifier output p
   unfolding wrap_of wrap_checks
   written_facts p a =
       let w : Wrote = wrap_of e b frame segment identifier output in
       let done : Wrote = record {
-        answer = Y.Written (record { length = length (packet_at e b frame segment identifier); segments = segments_of (kind_at e b) (length frame) e.mtu });
+        answer = Ok (record { length = length (packet_at e b frame segment identifier); segments = segments_of (kind_at e b) (length frame) e.mtu });
         output = wrote output (packet_at e b frame segment identifier);
       } in
       let q = passed (refused_wrap output) (wrap_checks e b frame segment identifier output) done w
-      (λ r z. let y : Y.Refused r ≡ Y.Written p = ap (λ (x : Wrote). x.answer) z ∙ a in let n : ◌≡◌ {A = ℕ} 0 1 = cc in omega arith) refl in
+      (λ r z. let y : Err r ≡ Ok p = ap (λ (x : Wrote). x.answer) z ∙ a in let n : ◌≡◌ {A = ℕ} 0 1 = cc in omega arith) refl in
       let same : p ≡ record { length = length (packet_at e b frame segment identifier); segments = segments_of (kind_at e b) (length frame) e.mtu } =
-      let y : Y.Written p ≡ done.answer = sym a ∙ ap (λ (x : Wrote). x.answer) (sym q.1) in cc in
+      let y : Ok p ≡ done.answer = sym a ∙ ap (λ (x : Wrote). x.answer) (sym q.1) in cc in
       record {
         binding = leb-false (config_of e).bindings b q.0.0;
         good = G.sound frame (not_bad (frame_of frame) q.0.1.1.0);
@@ -69,13 +67,13 @@ module _ (e : Endpoint) (b : ℕ) (frame : List ℕ) (segment identifier : ℕ) 
   pub written_when : b < (config_of e).bindings → owner_at e b < most_peers → IsFrame frame → exceeds (kind_at e b) (length frame) e.mtu ≡ false
       → segment < segments_of (kind_at e b) (length frame) e.mtu → length (packet_at e b frame segment identifier) ≤ length output
       → (wrap_of e b frame segment identifier output).answer
-      ≡ Y.Written (record { length = length (packet_at e b frame segment identifier); segments = segments_of (kind_at e b) (length frame) e.mtu })
+      ≡ Ok (record { length = length (packet_at e b frame segment identifier); segments = segments_of (kind_at e b) (length frame) e.mtu })
   unfolding wrap_of wrap_checks
   written_when binding owner good short within room =
       ap (λ (x : Wrote). x.answer)
       (pass (refused_wrap output) (wrap_checks e b frame segment identifier output)
       (record {
-        answer = Y.Written (record { length = length (packet_at e b frame segment identifier); segments = segments_of (kind_at e b) (length frame) e.mtu });
+        answer = Ok (record { length = length (packet_at e b frame segment identifier); segments = segments_of (kind_at e b) (length frame) e.mtu });
         output = wrote output (packet_at e b frame segment identifier);
       }) (
         lt-leb (config_of e).bindings b binding,

@@ -1,26 +1,27 @@
 -- Wrapping, as the proofs of the code cite it: exit by exit, the segments' bounds, and what a writer leaves.
 use Prim.Native.Nat.{ℕ, suc, ◌+◌, ◌-◌, ◌*◌, ◌/◌, ◌<◌, ◌≤◌, min}
-use Rattle.std.specs.Prelude.{◌≡◌, refl, Bool, true, false, length, get_or, ltb, leb, eqb}
-use Rattle.std.proofs.Common.{ap, subst, arith, suc-mul, le-div_iff_mul-le}
-use mathlib.Core.List.{List, []}
-use borrow.Author.Tests.{eq-eqb, ne_eqb, lt-ltb, le-ltb, le-leb, lt-leb, leb-true, leb-false, eqb-false}
+use Rattle.std.specs.Prelude.{◌≡◌, refl, Bool, true, false, cond, ◌||◌, Option, Some, None, length, leb, eqb, Result, Ok, Err}
+use Rattle.std.proofs.Common.{ap, sym, ◌∙◌, subst, arith, suc-mul, le-div_iff_mul-le}
+use mathlib.Core.List.{List}
+use borrow.Author.Tests.{eq-eqb, ne_eqb, lt-ltb, le-ltb, le-leb, lt-leb, leb-true, leb-false}
 use Rattle.wire.specs.Bytes.{wrote}
 use Rattle.wire.proofs.Laws.Checks.{At, given, decided, choices, tests}
 use Rattle.wire.specs.Frame.{frame_of}
 use Rattle.wire.specs.Write.{fits, segment_fits, vxlan_packet, nvgre_packet, segment_packet, Written}
 use Rattle.wire.proofs.Laws.Write.{fits_met, fits_facts, segment-fits_met, segment-fits_facts, vxlan-length_is, nvgre-length_is, segment-length_is}
 use Rattle.wire.specs.declared.refusal.Refusal.{Refusal}
-use Rattle.wire.specs.declared.frame.FrameRead.TheVariants as F
 use Rattle.reassembly.proofs.Laws.Base.{case_b, same_test}
 use Rattle.endpoint.specs.declared.answer.WrapRefusal.TheVariants as X
-use Rattle.endpoint.specs.declared.answer.Wrapped.{Wrapped}
-use Rattle.endpoint.specs.declared.answer.Wrapped.TheVariants as Y
 use Rattle.endpoint.specs.declared.config.Endpoint.{Endpoint}
 use Rattle.endpoint.specs.declared.wrap.Route.{Route}
-use Rattle.endpoint.specs.Config.{config_of, lent, most_bindings}
+use Rattle.endpoint.specs.Config.{config_of}
 use Rattle.endpoint.specs.Wrap.{packet_on, send_checks, sent, send_of, Put, piece_of}
-use Rattle.endpoint.specs.Wrap.{segments_of, low32, packet_of, exceeds, is_bad, kind_at, network_at, owner_at, wrap_checks, Wrote, refused_wrap, wrap_of}
+use Rattle.endpoint.specs.Wrap.{segments_of, low32, packet_of, exceeds, is_bad, kind_at, network_at, owner_at, peer_at, wrap_checks, Wrote, refused_wrap}
+use Rattle.endpoint.specs.Wrap.{wrap_of, route_of}
+use Rattle.wire.specs.Checks.{pick}
 use Rattle.reassembly.specs.Slots.{most_peers}
+use Rattle.endpoint.specs.declared.answer.Packet.{Packet}
+use Rattle.endpoint.specs.declared.answer.WrapRefusal.{WrapRefusal}
 
 -- ---- checks 13, 22, 23 (segment), 21: what the call comes to once the binding is found
 
@@ -30,21 +31,6 @@ module _ (t : Route) (frame : List ℕ) (segment identifier : ℕ) (output : Lis
       ≡ given (refused_wrap output) (send_checks t frame segment identifier output) (sent t frame segment identifier output) n
   unfolding send_of
   send_exit n p = decided (refused_wrap output) (send_checks t frame segment identifier output) (sent t frame segment identifier output) n p
-
--- ---- check 22
-
-module _ (kind size mtu : ℕ) where
-  pub exceeds-vxlan : kind ≡ 1 → ltb mtu (36 + size) ≡ exceeds kind size mtu
-  unfolding exceeds
-  exceeds-vxlan k = rw k
-
-  pub exceeds-nvgre : kind ≡ 2 → ltb mtu (28 + size) ≡ exceeds kind size mtu
-  unfolding exceeds
-  exceeds-nvgre k = rw k
-
-  pub exceeds-stt : (kind ≡ 1 → ⊥) → (kind ≡ 2 → ⊥) → false ≡ exceeds kind size mtu
-  unfolding exceeds
-  exceeds-stt a b = rw (ne_eqb kind 1 a, ne_eqb kind 2 b)
 
 -- ---- how many segments, and their bounds
 
@@ -73,8 +59,8 @@ begins size c k pos h =
     omega arith
 
 module _ (kind size mtu k : ℕ) where
-  pub stt-room : (kind ≡ 1 → ⊥) → (kind ≡ 2 → ⊥) → k < segments_of kind size mtu → 40 < mtu
-  stt-room a b h =
+  pub stt_room : (kind ≡ 1 → ⊥) → (kind ≡ 2 → ⊥) → k < segments_of kind size mtu → 40 < mtu
+  stt_room a b h =
       case_b (leb mtu 40)
       (λ q.
       let l : mtu ≤ 40 = leb-true mtu 40 q in
@@ -84,7 +70,7 @@ module _ (kind size mtu k : ℕ) where
 
   pub stt-begins : (kind ≡ 1 → ⊥) → (kind ≡ 2 → ⊥) → k < segments_of kind size mtu → k * (mtu - 40) < 18 + size
   stt-begins a b h =
-      let r : 40 < mtu = stt-room a b h in
+      let r : 40 < mtu = stt_room a b h in
       let s : (18 + size + (mtu - 40) - 1) / (mtu - 40) ≡ segments_of kind size mtu = segments-stt kind size mtu a b r in
       begins size (mtu - 40) k (omega arith) (rw s h)
 
@@ -108,7 +94,7 @@ piece-length : (own peer port context identifier c k : ℕ) (last : Bool) (frame
 piece-length own peer port context identifier c k last frame h =
     segment-length_is own peer port context identifier (k * c) (min (18 + length frame) (k * c + c) - k * c) last frame (omega arith)
 
-pub put-piece : (own peer port context identifier c k count : ℕ) (last : Bool) (frame old new : List ℕ) (r : ℕ)
+pub put-piece : (own peer port context identifier c k count : ℕ) (last : Bool) (frame old new : List ℕ) (r : Option ℕ)
     → 14 ≤ length frame → length frame ≤ 1514 → k * c < 18 + length frame → count ≡ min (18 + length frame) (k * c + c) - k * c
     → Written (segment_fits (length frame) (k * c) count (length old)) (segment_packet own peer port context identifier (k * c) count last frame) old new r
     → Put (piece_of own peer port context identifier c k last frame) old new r
@@ -122,7 +108,7 @@ put-piece own peer port context identifier c k count last frame old new r h1 h2 
     (subst (λ (j : ℕ). Written (segment_fits (length frame) (k * c) j (length old))
     (segment_packet own peer port context identifier (k * c) j last frame) old new r) e w)
 
-module _ (t : Route) (frame : List ℕ) (k identifier : ℕ) (old new : List ℕ) (r : ℕ) where
+module _ (t : Route) (frame : List ℕ) (k identifier : ℕ) (old new : List ℕ) (r : Option ℕ) where
   pub put-vxlan : t.kind ≡ 1 → 14 ≤ length frame → length frame ≤ 1514
       → Written (fits 36 (length frame) (length old)) (vxlan_packet t.own t.peer (low32 t.network) frame) old new r
       → Put (packet_on t frame k identifier) old new r
@@ -149,34 +135,19 @@ module _ (t : Route) (frame : List ℕ) (k identifier : ℕ) (old new : List ℕ
       rw (ne_eqb t.kind 1 a, ne_eqb t.kind 2 b)
       (subst (λ (j : ℕ). Put (piece_of t.own t.peer t.port t.network identifier (t.mtu - 40) k (eqb (k + 1) j) frame) old new r) e w)
 
--- a packet is never empty: an answer of 0 says that it was not written
-packet_long : (t : Route) (frame : List ℕ) (k identifier : ℕ) → k < segments_of t.kind (length frame) t.mtu
-    → 0 < length (packet_on t frame k identifier)
-unfolding packet_of
-packet_long t frame k identifier h =
-    case_b (eqb t.kind 1)
-    (λ p. rw p (omega (arith, vxlan-length_is t.own t.peer (low32 t.network) frame)))
-    (λ p. case_b (eqb t.kind 2)
-    (λ q. rw (p, q) (omega (arith, nvgre-length_is t.own t.peer (low32 t.network) frame)))
-    (λ q. rw (p, q) (omega (
-      arith,
-      piece-length t.own t.peer t.port t.network identifier (t.mtu - 40) k (eqb (k + 1) (segments_of t.kind (length frame) t.mtu)) frame
-          (stt-begins t.kind (length frame) t.mtu k (eqb-false t.kind 1 p) (eqb-false t.kind 2 q) h),
-    ))))
+not_put : (may : Bool) (packet old new : List ℕ) (r : Option ℕ) → Written may packet old new r → r ≡ None → (may ≡ false) × (new ≡ old)
+not_put true packet old new r w e = let z : Some (length packet) ≡ None = sym w.length_is ∙ e in cc
+not_put false packet old new r w e = (refl, w.output_is)
 
-not_put : (may : Bool) (packet old new : List ℕ) (r : ℕ) → Written may packet old new r → 0 < length packet → r ≡ 0 → (may ≡ false) × (new ≡ old)
-not_put true packet old new r w h e = absurd (omega (arith, w.length_is))
-not_put false packet old new r w h e = (refl, w.output_is)
-
-was-put : (may : Bool) (packet old new : List ℕ) (r : ℕ) → Written may packet old new r → (r ≡ 0 → ⊥) → (may ≡ true)
-    × ((r ≡ length packet) × (new ≡ wrote old packet))
-was-put true packet old new r w h = (refl, (w.length_is, w.output_is))
-was-put false packet old new r w h = absurd (h w.length_is)
+was-put : (may : Bool) (packet old new : List ℕ) (r : Option ℕ) (n : ℕ) → Written may packet old new r → r ≡ Some n → (may ≡ true)
+    × ((n ≡ length packet) × (new ≡ wrote old packet))
+was-put true packet old new r n w e = (refl, (let z : Some n ≡ Some (length packet) = sym e ∙ w.length_is in cc, w.output_is))
+was-put false packet old new r n w e = let z : Some n ≡ None = sym e ∙ w.length_is in cc
 
 -- ---- the exits behind the binding
 
 -- the code leaves this answer and this output, and they are what w says
-abbrev pub Leaves : (w : Wrote) (answer : Wrapped) (output : List ℕ) → Type 0
+abbrev pub Leaves : (w : Wrote) (answer : Result Packet WrapRefusal) (output : List ℕ) → Type 0
 Leaves w answer output = (answer ≡ w.answer) × (output ≡ w.output)
 
 leaves : (w v : Wrote) → w ≡ v → Leaves w v.answer v.output
@@ -190,72 +161,69 @@ module _ (t : Route) (frame : List ℕ) (k identifier : ℕ) (old : List ℕ) wh
   abbrev whole : Wrote
   whole = send_of t frame k identifier old
 
-  pub send_frame : (x : Refusal) → frame_of frame ≡ F.Refused x → Leaves (send_of t frame k identifier old) (Y.Refused X.BadFrame) old
+  pub send_frame : (x : Refusal) → frame_of frame ≡ Err x → Leaves (send_of t frame k identifier old) (Err X.BadFrame) old
   unfolding send_checks
   send_frame x e = leaves whole (refused_wrap old X.BadFrame) (send_exit t frame k identifier old 0 (ap is_bad e))
 
-  module _ (good : frame_of frame ≡ F.Good) where
-    pub send_mtu : exceeds t.kind (length frame) t.mtu ≡ true → Leaves (send_of t frame k identifier old) (Y.Refused X.ExceedsMtu) old
+  module _ (good : frame_of frame ≡ Ok tt) where
+    pub send_mtu : exceeds t.kind (length frame) t.mtu ≡ true → Leaves (send_of t frame k identifier old) (Err X.ExceedsMtu) old
     unfolding send_checks
     send_mtu e = leaves whole (refused_wrap old X.ExceedsMtu) (send_exit t frame k identifier old 1 (ap is_bad good, e))
 
     module _ (within : exceeds t.kind (length frame) t.mtu ≡ false) where
-      pub send_segment : segments_of t.kind (length frame) t.mtu ≤ k → Leaves (send_of t frame k identifier old) (Y.Refused X.NoSegment) old
+      pub send_segment : segments_of t.kind (length frame) t.mtu ≤ k → Leaves (send_of t frame k identifier old) (Err X.NoSegment) old
       unfolding send_checks
       send_segment h =
           leaves whole (refused_wrap old X.NoSegment)
           (send_exit t frame k identifier old 2 (ap is_bad good, (within, le-leb (segments_of t.kind (length frame) t.mtu) k h)))
 
-      module _ (below : k < segments_of t.kind (length frame) t.mtu) (new : List ℕ) (r : ℕ) (put : Put (packet_on t frame k identifier) old new r) where
-        pub send_output : r ≡ 0 → Leaves (send_of t frame k identifier old) (Y.Refused X.OutputTooShort) new
+      module _ (below : k < segments_of t.kind (length frame) t.mtu) (new : List ℕ) (r : Option ℕ) (put : Put (packet_on t frame k identifier) old new r) where
+        pub send_output : r ≡ None → Leaves (send_of t frame k identifier old) (Err X.OutputTooShort) new
         unfolding send_checks
         send_output e =
-            let n = not_put (leb (length packet) (length old)) packet old new r put (packet_long t frame k identifier below) e in
+            let n = not_put (leb (length packet) (length old)) packet old new r put e in
             rw n.1 (leaves whole (refused_wrap old X.OutputTooShort)
             (send_exit t frame k identifier old 3
             (ap is_bad good, (within, (lt-leb (segments_of t.kind (length frame) t.mtu) k below, lt-ltb (length old) (length packet) (leb-false (length packet) (length old) n.0))))))
 
-        pub send_written : (r ≡ 0 → ⊥) → (segments : ℕ) → segments ≡ segments_of t.kind (length frame) t.mtu
-            → Leaves (send_of t frame k identifier old) (Y.Written (record { length = r; segments = segments })) new
+        pub send_written : (n segments : ℕ) → r ≡ Some n → segments ≡ segments_of t.kind (length frame) t.mtu
+            → Leaves (send_of t frame k identifier old) (Ok (record { length = n; segments = segments })) new
         unfolding send_checks
-        send_written d segments e =
-            let n = was-put (leb (length packet) (length old)) packet old new r put d in
-            rw (n.1.0, n.1.1, e) (leaves whole (sent t frame k identifier old)
+        send_written n segments d e =
+            let w = was-put (leb (length packet) (length old)) packet old new r n put d in
+            rw (w.1.0, w.1.1, e) (leaves whole (sent t frame k identifier old)
             (send_exit t frame k identifier old 4
-            (ap is_bad good, (within, (lt-leb (segments_of t.kind (length frame) t.mtu) k below, (le-ltb (length old) (length packet) (leb-true (length packet) (length old) n.0), tt))))))
+            (ap is_bad good, (within, (lt-leb (segments_of t.kind (length frame) t.mtu) k below, (le-ltb (length old) (length packet) (leb-true (length packet) (length old) w.0), tt))))))
 
 -- ---- the call: the binding, then all the rest
 
+no_route : (nowhere : Bool) (r : Route) → cond nowhere None (Some r) ≡ None → nowhere ≡ true
+no_route true r h = refl
+no_route false r h = cc
+
+a_route : (nowhere : Bool) (r t : Route) → cond nowhere None (Some r) ≡ Some t → (nowhere ≡ false) × (r ≡ t)
+a_route true r t h = (cc, cc)
+a_route false r t h = (refl, cc)
+
 module _ (e : Endpoint) (b : ℕ) (frame : List ℕ) (k identifier : ℕ) (old : List ℕ) where
-  pub wrap_unlisted : min e.binding_count most_bindings ≤ b → Leaves (wrap_of e b frame k identifier old) (Y.Refused X.NoBinding) old
-  unfolding wrap_of wrap_checks config_of
-  wrap_unlisted h = simp (choices, le-leb (min e.binding_count most_bindings) b h) (refl, refl)
+  abbrev nowhere : Bool
+  nowhere = leb (config_of e).bindings b || leb most_peers (owner_at e b)
 
-  module _ (listed : b < min e.binding_count most_bindings) where
-    pub wrap_ownerless : most_peers ≤ owner_at e b → Leaves (wrap_of e b frame k identifier old) (Y.Refused X.NoBinding) old
-    unfolding wrap_of wrap_checks config_of
-    wrap_ownerless h = simp (choices, lt-leb (min e.binding_count most_bindings) b listed, le-leb most_peers (owner_at e b) h) (refl, refl)
+  abbrev way : Route
+  way = record { network = network_at e b; own = e.own; peer = peer_at e b; port = e.port; mtu = e.mtu; kind = kind_at e b }
 
-    -- the peer's address, as the code reads it
-    pub wrap_sends : owner_at e b < most_peers
-        → wrap_of e b frame k identifier old
-        ≡ send_of
-        (record {
-          network = network_at e b;
-          own = e.own;
-          peer = get_or e.addresses (owner_at e b) 0;
-          port = e.port;
-          mtu = e.mtu;
-          kind = kind_at e b;
-        })
-        frame k identifier old
-    unfolding wrap_of wrap_checks config_of send_of send_checks
-    wrap_sends h =
-        simp (choices, lt-leb (min e.binding_count most_bindings) b listed, lt-leb most_peers (owner_at e b) h)
+  wrap_is : wrap_of e b frame k identifier old ≡ pick nowhere (refused_wrap old X.NoBinding) (send_of way frame k identifier old)
+  unfolding wrap_of wrap_checks send_of send_checks
+  wrap_is = simp choices (two (leb (config_of e).bindings b) (leb most_peers (owner_at e b)) _ _)
+    where
+      two : (p q : Bool) (x y : Wrote) → pick p x (pick q x y) ≡ pick (p || q) x y
+      two true q x y = refl
+      two false q x y = refl
 
--- it knows of an endpoint only the columns and settings that it is lent
-pub wrap_lent : (e : Endpoint) (b : ℕ) (frame : List ℕ) (k identifier : ℕ) (old : List ℕ)
-    → wrap_of (lent e.networks e.kinds e.owners [] e.addresses e.own e.port e.mtu 0 e.binding_count) b frame k identifier old
-    ≡ wrap_of e b frame k identifier old
-unfolding wrap_of wrap_checks config_of lent
-wrap_lent e b frame k identifier old = refl
+  pub wrap_nowhere : route_of e b ≡ None → refused_wrap old X.NoBinding ≡ wrap_of e b frame k identifier old
+  wrap_nowhere h = let q = no_route nowhere way h in sym (wrap_is ∙ rw q)
+
+  pub wrap_on : (t : Route) → route_of e b ≡ Some t → send_of t frame k identifier old ≡ wrap_of e b frame k identifier old
+  wrap_on t h =
+      let q = a_route nowhere way t h in
+      ap (λ (r : Route). send_of r frame k identifier old) (sym q.1) ∙ sym (wrap_is ∙ rw q.0)

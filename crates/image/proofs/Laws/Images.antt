@@ -1,5 +1,5 @@
 -- What saving and loading promise (Images.antt), proved.
-use Rattle.std.specs.Prelude.{ℕ, ◌<◌, ◌≡◌, refl, Bool, ◌≢◌, List, []}
+use Rattle.std.specs.Prelude.{ℕ, ◌<◌, ◌≡◌, refl, Bool, ◌≢◌, List, [], Result, Ok}
 use Rattle.std.proofs.Common.{sym, ◌∙◌}
 use Rattle.std.proofs.Math.Path.{ap, subst}
 use Rattle.std.proofs.Math.Option.{Option}
@@ -31,9 +31,8 @@ use Rattle.image.proofs.Laws.Saved.{save_rule, most}
 use Rattle.image.proofs.Laws.Loaded.{accepted, freed, reached_loads, done_code, saved_from}
 use Rattle.image.proofs.Laws.Table.{fields_are, load_number}
 use Rattle.image.proofs.Laws.WorkedImage.{worked-image}
-use Rattle.image.specs.declared.answer.Saved.{Saved}
-use Rattle.image.specs.declared.answer.Loaded.TheVariants as L
 use Rattle.image.specs.declared.answer.LoadResult.{LoadResult}
+use Rattle.image.specs.declared.answer.SaveRefusal.{SaveRefusal}
 
 -- ---- exact
 
@@ -54,12 +53,12 @@ is_freed e = record {
 }
 
 -- what was saved from a set-up loads to it
-from_loads : (s : List ℕ) (f : SavedFrom s) → load_of s ≡ record { endpoint = set_up f.own f.port f.mtu f.adds; answer = L.Done }
+from_loads : (s : List ℕ) (f : SavedFrom s) → load_of s ≡ record { endpoint = set_up f.own f.port f.mtu f.adds; answer = Ok tt }
 from_loads s f =
     let e : Endpoint = set_up f.own f.port f.mtu f.adds in
     ap load_of (sym f.is)
     ∙ reached_loads e (set_up_reached f.own f.port f.mtu f.adds f.typed) (good_port f.own f.port f.mtu f.adds f.started)
-    ∙ ap (λ (x : Endpoint). record { endpoint = x; answer = L.Done }) (set_up-freed f.own f.port f.mtu f.adds)
+    ∙ ap (λ (x : Endpoint). record { endpoint = x; answer = Ok tt }) (set_up-freed f.own f.port f.mtu f.adds)
 
 module _ (s : List ℕ) (b : Bytes s) where
   abbrev number : ℕ
@@ -155,7 +154,7 @@ images = record {
 pub load_promised : (s : List ℕ) (r : LoadResult) → r ≡ load_of s → (r ≡ load_of s) × (Bytes s → LoadRule s (load_code r.answer) r.endpoint)
 load_promised s r is = (is, λ b. rw is (images.load s b))
 
-pub save_promised : (e : Endpoint) (output : List ℕ) (r : Saved) (out : List ℕ)
+pub save_promised : (e : Endpoint) (output : List ℕ) (r : Result ℕ SaveRefusal) (out : List ℕ)
     → (r ≡ (save_of (config_of e) output).answer) × (out ≡ (save_of (config_of e) output).output)
     → (r ≡ (save_of (config_of e) output).answer) × ((out ≡ (save_of (config_of e) output).output) × SaveRule e output (save_values_of r) out)
 save_promised e output r out w = (w.0, (w.1, rw (w.0, w.1) (images.save e output)))

@@ -1,6 +1,6 @@
 -- What was saved loads again; and what is loaded was read field by field, is a set-up, and saved again is the same bytes.
 use Prim.Native.Nat.{ℕ, ◌+◌, ◌*◌, ◌/◌, ◌^◌, ◌<◌, ◌≤◌, min}
-use Rattle.std.specs.Prelude.{◌≡◌, Bool, true, ◌⊎◌, ◌≢◌, List, length, replicate}
+use Rattle.std.specs.Prelude.{◌≡◌, Bool, true, ◌⊎◌, ◌≢◌, List, length, replicate, Ok}
 use Rattle.std.proofs.Math.Path.{refl, sym, ap, ap₂}
 use Rattle.std.proofs.Common.{subst, ◌∙◌, inl, inr, arith}
 use Rattle.std.proofs.Math.Option.{Option, none, some}
@@ -21,7 +21,8 @@ use Rattle.endpoint.proofs.Laws.Configured.{set_up_configured, reached_configure
 use Rattle.endpoint.proofs.Laws.Reached.{reached_ready}
 use Rattle.endpoint.proofs.Laws.Config.{config_is}
 use Rattle.endpoint.proofs.Laws.Relist.{peer_of_lem, binding_of_lem}
-use Rattle.endpoint.proofs.Laws.Relisted.{Again, relisted_ext, WithPeers, with_peers_lem, WithBindings, NoBindings, with_bindings_lem, Adds, then_adds, relisted_adds}
+use Rattle.endpoint.proofs.Laws.Relisted.{Again, relisted_ext, WithPeers, with_peers_lem, WithBindings, NoBindings, with_bindings_lem, Adds, then_adds}
+use Rattle.endpoint.proofs.Laws.Relisted.{relisted_adds}
 use Rattle.endpoint.proofs.Laws.Relisted.{Started, started_is, set_up_of, started_code, good_port}
 use Rattle.endpoint.proofs.Laws.Wrap.{Ready}
 use Rattle.endpoint.specs.declared.config.Endpoint.{Endpoint}
@@ -31,7 +32,6 @@ use Rattle.image.specs.Images.{SavedFrom}
 use Rattle.image.specs.Load.{peers_in, bindings_in, bindings_at, framed, peer_call, binding_call, and_then, listed_in, rebuilt, bad_image, loaded_of, load_of}
 use Rattle.image.proofs.Laws.Image.{binding_read, contents_read, Framed, framed_is, is_framed, Fits, written, own_read, port_read, mtu_read, peers-read}
 use Rattle.image.proofs.Laws.Image.{bindings-read, place_read, written-framed, address_read, binding_at_lem, bytes_back}
-use Rattle.image.specs.declared.answer.Loaded.TheVariants as L
 
 -- ---- saved, then loaded
 
@@ -87,7 +87,7 @@ module _ (k : Config) (y : Endpoint) (f : AllFit k) (a : Again k y) where
   unfolding rebuilt listed_in and_then
   rebuilt_again = rw (started-read, peers-read_again, bindings-read_again) refl
 
-  loads_again : load_of (image_of k) ≡ record { endpoint = y; answer = L.Done }
+  loads_again : load_of (image_of k) ≡ record { endpoint = y; answer = Ok tt }
   unfolding load_of loaded_of
   loads_again =
       ap load_of image_is
@@ -129,7 +129,7 @@ reached_fits e r d =
       tenant_fits = λ j l. let h : get_or e.tenants j 0 ≤ 65535 = g.tenant j (omega arith) in omega arith;
     })
 
-pub done_code : load_code L.Done ≡ 0
+pub done_code : load_code (Ok tt) ≡ 0
 unfolding load_code
 done_code = refl
 
@@ -137,7 +137,7 @@ done_code = refl
 abbrev pub freed : Endpoint → Endpoint
 freed e = with_rows e (replicate most_peers free_row)
 
-pub reached_loads : (e : Endpoint) → Reached e → e.port ≢ 0 → load_of (image_of (config_of e)) ≡ record { endpoint = freed e; answer = L.Done }
+pub reached_loads : (e : Endpoint) → Reached e → e.port ≢ 0 → load_of (image_of (config_of e)) ≡ record { endpoint = freed e; answer = Ok tt }
 reached_loads e r d = loads_again (config_of e) (freed e) (reached_fits e r d) (reached_again e r d)
 
 -- ---- loaded: a set-up, and saved again the same bytes
@@ -181,7 +181,7 @@ bad_code h = absurd (omega arith)
 pub record Accepted (s : List ℕ) : Type 0 where
   pub e : Endpoint
   pub read : Read s e
-  pub is : load_of s ≡ record { endpoint = e; answer = L.Done }
+  pub is : load_of s ≡ record { endpoint = e; answer = Ok tt }
 
 pub accepted : (s : List ℕ) → load_code (load_of s).answer ≡ 0 → Accepted s
 unfolding load_of loaded_of

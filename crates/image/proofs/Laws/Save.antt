@@ -1,8 +1,8 @@
 -- Laws of a save, as the functions come to them.
 use Prim.Native.Nat.{ℕ, ◌+◌, ◌*◌, ◌<◌, ◌≤◌, min}
-use Rattle.std.specs.Prelude.{◌≡◌}
-use Rattle.std.proofs.Math.Path.{refl, sym, ap, subst}
-use Rattle.std.proofs.Common.{ap₂, ◌∙◌}
+use Rattle.std.specs.Prelude.{◌≡◌, Result, Ok, Err}
+use Rattle.std.proofs.Math.Path.{refl, sym, ap}
+use Rattle.std.proofs.Common.{ap₂, subst, ◌∙◌}
 use mathlib.Core.List.{List, [], ◌++◌, append_assoc, append-nil}
 use native.Mathlib.Omega.{arith}
 use Rattle.std.proofs.Math.ListN.{length, get_or, length-append}
@@ -15,15 +15,14 @@ use Rattle.wire.proofs.Laws.Checks.{At, given, decided}
 use Rattle.reassembly.specs.Base.{table}
 use Rattle.reassembly.proofs.Laws.Base.{length-table}
 use Rattle.reassembly.specs.Slots.{most_peers}
-use Rattle.endpoint.specs.Config.{Config, config_of, lent, most_bindings}
-use Rattle.endpoint.proofs.Laws.Config.{config_lent, config_of-lent}
+use Rattle.endpoint.specs.Config.{Config, config_of, most_bindings}
+use Rattle.endpoint.proofs.Laws.Config.{config_is}
 use Rattle.endpoint.specs.declared.config.Endpoint.{Endpoint}
 use Rattle.image.specs.Image.{version1, letters, rows, peer_row, binding_row, binding_at, image, contents_of, image_of}
 use Rattle.image.proofs.Laws.Image.{rows_none, rows_next, rows-length, peer-length, binding_length}
 use Rattle.image.specs.Save.{SaveResult, save_checks, not_saved, save_of, settings_of, binding_in, binding_entry}
 use Rattle.image.specs.declared.answer.SaveRefusal.TheVariants as X
-use Rattle.image.specs.declared.answer.Saved.{Saved}
-use Rattle.image.specs.declared.answer.Saved.TheVariants as S
+use Rattle.image.specs.declared.answer.SaveRefusal.{SaveRefusal}
 
 settings_length : (own port mtu : ℕ) → length (settings_of version1 own port mtu) ≡ 13
 unfolding settings_of version1
@@ -168,11 +167,11 @@ binding_row-put networks kinds owners tenants m o next at i room h k =
 module _ (c : Config) (output : List ℕ) where
   -- a save gives this answer, and leaves this output
   -- Open: the two clauses of a contract
-  abbrev pub Saves : Saved → List ℕ → Type 0
+  abbrev pub Saves : Result ℕ SaveRefusal → List ℕ → Type 0
   Saves r out = (r ≡ (save_of c output).answer) × (out ≡ (save_of c output).output)
 
   accepted : SaveResult
-  accepted = record { answer = S.Written (length (image_of c)); output = wrote output (image_of c) }
+  accepted = record { answer = Ok (length (image_of c)); output = wrote output (image_of c) }
 
   saves : (n : ℕ) → At (save_checks c output) n → (r : SaveResult) → given (not_saved output) (save_checks c output) accepted n ≡ r
       → Saves r.answer r.output
@@ -181,97 +180,84 @@ module _ (c : Config) (output : List ℕ) where
       let k : save_of c output ≡ r = decided (not_saved output) (save_checks c output) accepted n p ∙ e in
       (sym (ap (λ (x : SaveResult). x.answer) k), sym (ap (λ (x : SaveResult). x.output) k))
 
-  pub save_not_started : c.port ≡ 0 → Saves (S.Refused X.NotStarted) output
+  pub save_not_started : c.port ≡ 0 → Saves (Err X.NotStarted) output
   unfolding save_checks not_saved
-  save_not_started h = saves 0 (eq-eqb c.port 0 h) (record { answer = S.Refused X.NotStarted; output = output }) refl
+  save_not_started h = saves 0 (eq-eqb c.port 0 h) (record { answer = Err X.NotStarted; output = output }) refl
 
-  pub save_too_short : (c.port ≡ 0 → ⊥) → length output < length (image_of c) → Saves (S.Refused X.OutputTooShort) output
+  pub save_too_short : (c.port ≡ 0 → ⊥) → length output < length (image_of c) → Saves (Err X.OutputTooShort) output
   unfolding save_checks not_saved
   save_too_short h k =
-      saves 1 (ne_eqb c.port 0 h, lt-ltb (length output) (length (image_of c)) k) (record { answer = S.Refused X.OutputTooShort; output = output }) refl
+      saves 1 (ne_eqb c.port 0 h, lt-ltb (length output) (length (image_of c)) k) (record { answer = Err X.OutputTooShort; output = output }) refl
 
-  pub save_written : (c.port ≡ 0 → ⊥) → length (image_of c) ≤ length output → Saves (S.Written (length (image_of c))) (wrote output (image_of c))
+  pub save_written : (c.port ≡ 0 → ⊥) → length (image_of c) ≤ length output → Saves (Ok (length (image_of c))) (wrote output (image_of c))
   unfolding save_checks accepted
   save_written h k = saves 2 (ne_eqb c.port 0 h, (le-ltb (length output) (length (image_of c)) k, tt)) accepted refl
 
--- of columns and numbers that are lent
-module _ (networks kinds owners tenants addresses : List ℕ) (own port mtu : ℕ) where
+-- of an endpoint
+module _ (e : Endpoint) where
   -- with so many peers and bindings
   config_with : (peers bindings : ℕ) → Config
   config_with peers bindings = record {
-    own = own;
-    port = port;
-    mtu = mtu;
-    addresses = addresses;
+    own = e.own;
+    port = e.port;
+    mtu = e.mtu;
+    addresses = e.addresses;
     peers = peers;
-    owners = owners;
-    kinds = kinds;
-    networks = networks;
-    tenants = tenants;
+    owners = e.owners;
+    kinds = e.kinds;
+    networks = e.networks;
+    tenants = e.tenants;
     bindings = bindings;
   }
 
   -- what the functions write, one behind the other, is the image
   image-put : (output o1 o2 o3 : List ℕ) (p b : ℕ)
-      → o1 ≡ wrote output (settings_of version1 own port mtu)
-      → o2 ≡ laid o1 13 (be 1 p ++ rows peer_row (table p (λ (i : ℕ). get_or addresses i 0)))
-      → o3 ≡ laid o2 (14 + p * 4) (be 1 b ++ rows binding_row (table b (binding_entry networks kinds owners tenants)))
+      → o1 ≡ wrote output (settings_of version1 e.own e.port e.mtu)
+      → o2 ≡ laid o1 13 (be 1 p ++ rows peer_row (table p (λ (i : ℕ). get_or e.addresses i 0)))
+      → o3 ≡ laid o2 (14 + p * 4) (be 1 b ++ rows binding_row (table b (binding_entry e.networks e.kinds e.owners e.tenants)))
       → o3 ≡ wrote output (image_of (config_with p b))
   unfolding config_with binding_at binding_entry binding_in
   image-put output o1 o2 o3 p b h1 h2 h3 =
-      let s : List ℕ = settings_of version1 own port mtu in
-      let ps : List ℕ = be 1 p ++ rows peer_row (table p (λ (i : ℕ). get_or addresses i 0)) in
-      let bs : List ℕ = be 1 b ++ rows binding_row (table b (binding_entry networks kinds owners tenants)) in
-      let n : length s ≡ 13 = settings_length own port mtu in
-      let k : length ps ≡ 1 + p * 4 = counted_length peer_row 4 peer-length p (λ (i : ℕ). get_or addresses i 0) in
+      let s : List ℕ = settings_of version1 e.own e.port e.mtu in
+      let ps : List ℕ = be 1 p ++ rows peer_row (table p (λ (i : ℕ). get_or e.addresses i 0)) in
+      let bs : List ℕ = be 1 b ++ rows binding_row (table b (binding_entry e.networks e.kinds e.owners e.tenants)) in
+      let n : length s ≡ 13 = settings_length e.own e.port e.mtu in
+      let k : length ps ≡ 1 + p * 4 = counted_length peer_row 4 peer-length p (λ (i : ℕ). get_or e.addresses i 0) in
       let m : length (s ++ ps) ≡ 14 + p * 4 = length-append s ps ∙ omega arith in
       h3
       ∙ ap (λ (l : List ℕ). laid l (14 + p * 4) bs) (h2 ∙ ap (λ (l : List ℕ). laid l 13 ps) h1 ∙ wrote-more output s ps 13 n)
       ∙ wrote-more output (s ++ ps) bs (14 + p * 4) m
       ∙ ap (wrote output) (append_assoc s ps bs ∙ sym (image-parts (config_with p b)))
 
-  module _ (peers bindings : ℕ) (output : List ℕ) where
-    -- Open: as above
-    abbrev pub SavesLent : Saved → List ℕ → Type 0
-    SavesLent = Saves (config_of (lent networks kinds owners tenants addresses own port mtu peers bindings)) output
-
-    of_config : (p b : ℕ) → p ≡ min peers most_peers → b ≡ min bindings most_bindings → (r : Saved) (out : List ℕ)
-        → Saves (config_with p b) output r out → SavesLent r out
+  module _ (output : List ℕ) where
+    of_config : (p b : ℕ) → p ≡ min e.peer_count most_peers → b ≡ min e.binding_count most_bindings → (r : Result ℕ SaveRefusal) (out : List ℕ)
+        → Saves (config_with p b) output r out → Saves (config_of e) output r out
     unfolding config_with
-    of_config p b h k r out e =
-        subst (λ (c : Config). Saves c output r out)
-        (ap₂ config_with h k ∙ sym (config_lent networks kinds owners tenants addresses own port mtu peers bindings)) e
+    of_config p b h k r out q = subst (λ (c : Config). Saves c output r out) (ap₂ config_with h k ∙ sym (config_is e)) q
 
-    pub lent_not_started : port ≡ 0 → SavesLent (S.Refused X.NotStarted) output
+    pub not_started : e.port ≡ 0 → Saves (config_of e) output (Err X.NotStarted) output
     unfolding config_with
-    lent_not_started h =
-        of_config (min peers most_peers) (min bindings most_bindings) refl refl (S.Refused X.NotStarted) output
-        (save_not_started (config_with (min peers most_peers) (min bindings most_bindings)) output h)
+    not_started h =
+        let p : ℕ = min e.peer_count most_peers in
+        let b : ℕ = min e.binding_count most_bindings in
+        of_config p b refl refl (Err X.NotStarted) output (save_not_started (config_with p b) output h)
 
-    module _ (p b : ℕ) (hp : p ≡ min peers most_peers) (hb : b ≡ min bindings most_bindings) (started : port ≡ 0 → ⊥) where
+    module _ (p b : ℕ) (hp : p ≡ min e.peer_count most_peers) (hb : b ≡ min e.binding_count most_bindings) (started : e.port ≡ 0 → ⊥) where
       size : length (image_of (config_with p b)) ≡ 14 + p * 4 + 1 + b * 12
       unfolding config_with
       size = omega (arith, image-length (config_with p b))
 
-      pub lent-too_short : length output < 14 + p * 4 + 1 + b * 12 → SavesLent (S.Refused X.OutputTooShort) output
+      pub too_short : length output < 14 + p * 4 + 1 + b * 12 → Saves (config_of e) output (Err X.OutputTooShort) output
       unfolding config_with
-      lent-too_short h =
-          of_config p b hp hb (S.Refused X.OutputTooShort) output (save_too_short (config_with p b) output started (omega (arith, size)))
+      too_short h = of_config p b hp hb (Err X.OutputTooShort) output (save_too_short (config_with p b) output started (omega (arith, size)))
 
-      pub lent_written : 14 + p * 4 + 1 + b * 12 ≤ length output → (o1 o2 o3 : List ℕ)
-          → o1 ≡ wrote output (settings_of version1 own port mtu)
-          → o2 ≡ laid o1 13 (be 1 p ++ rows peer_row (table p (λ (i : ℕ). get_or addresses i 0)))
-          → o3 ≡ laid o2 (14 + p * 4) (be 1 b ++ rows binding_row (table b (binding_entry networks kinds owners tenants)))
-          → SavesLent (S.Written (14 + p * 4 + 1 + b * 12)) o3
+      pub written : 14 + p * 4 + 1 + b * 12 ≤ length output → (o1 o2 o3 : List ℕ)
+          → o1 ≡ wrote output (settings_of version1 e.own e.port e.mtu)
+          → o2 ≡ laid o1 13 (be 1 p ++ rows peer_row (table p (λ (i : ℕ). get_or e.addresses i 0)))
+          → o3 ≡ laid o2 (14 + p * 4) (be 1 b ++ rows binding_row (table b (binding_entry e.networks e.kinds e.owners e.tenants)))
+          → Saves (config_of e) output (Ok (14 + p * 4 + 1 + b * 12)) o3
       unfolding config_with
-      lent_written h o1 o2 o3 h1 h2 h3 =
+      written h o1 o2 o3 h1 h2 h3 =
           let w = save_written (config_with p b) output started (omega (arith, size)) in
-          of_config p b hp hb (S.Written (14 + p * 4 + 1 + b * 12)) o3
-          (ap S.Written (sym size) ∙ w.0, image-put output o1 o2 o3 p b h1 h2 h3 ∙ w.1)
-
--- of an endpoint: its columns and numbers are lent
-pub save_whole : (e : Endpoint) (output out : List ℕ) (r : Saved)
-    → SavesLent e.networks e.kinds e.owners e.tenants e.addresses e.own e.port e.mtu e.peer_count e.binding_count output
-    r out
-    → Saves (config_of e) output r out
-save_whole e output out r h = subst (λ (c : Config). Saves c output r out) (config_of-lent e) h
+          of_config p b hp hb (Ok (14 + p * 4 + 1 + b * 12)) o3
+          (ap Ok (sym size) ∙ w.0, image-put output o1 o2 o3 p b h1 h2 h3 ∙ w.1)

@@ -1,5 +1,5 @@
 -- A save keeps its rule (Images.antt, `SaveRule`).
-use Rattle.std.specs.Prelude.{ℕ, ◌+◌, ◌*◌, ◌<◌, ◌≤◌, ◌≡◌, ◌≢◌, List, length, take, eqb, ltb}
+use Rattle.std.specs.Prelude.{ℕ, ◌+◌, ◌*◌, ◌<◌, ◌≤◌, ◌≡◌, ◌≢◌, List, length, take, eqb, ltb, Result, Ok, Err}
 use Rattle.std.proofs.Math.Path.{refl, sym, ap}
 use Rattle.std.proofs.Common.{subst, ◌∙◌, arith}
 use Rattle.std.proofs.Math.Seq.{take_at}
@@ -21,8 +21,7 @@ use Rattle.image.specs.Save.{save_of}
 use Rattle.image.specs.Table.{save_rows}
 use Rattle.image.proofs.Laws.Save.{image-length, Saves, save_not_started, save_too_short, save_written}
 use Rattle.image.specs.declared.answer.SaveRefusal.TheVariants as X
-use Rattle.image.specs.declared.answer.Saved.{Saved}
-use Rattle.image.specs.declared.answer.Saved.TheVariants as S
+use Rattle.image.specs.declared.answer.SaveRefusal.{SaveRefusal}
 
 -- ---- saving
 
@@ -53,14 +52,14 @@ module _ (e : Endpoint) (output : List ℕ) where
   unfolding save_rows
   room d h = simp choices (rw (ne_eqb e.port 0 d, le-ltb (length output) (15 + T.peers e * 4 + T.bindings e * 12) (omega (arith, size))) refl)
 
-  refusal_rule : (r : Saved) (n : ℕ) → save_values_of r ≡ record { number = n; length_is = 0 } → n ≢ 0 → numbered (save_rows e output) ≡ n
+  refusal_rule : (r : Result ℕ SaveRefusal) (n : ℕ) → save_values_of r ≡ record { number = n; length_is = 0 } → n ≢ 0 → numbered (save_rows e output) ≡ n
       → SaveRule e output (save_values_of r) output
   refusal_rule r n q d h =
       subst (λ (v : SaveValues). SaveRule e output v output) (sym q)
       (record { number = sym h; saved = λ z. absurd (d z); refused = λ z. (refl, refl); size = refl; beyond = λ i l. refl })
 
   written_rule : e.port ≢ 0 → length (image_of c) ≤ length output
-      → SaveRule e output (save_values_of (S.Written (length (image_of c)))) (wrote output (image_of c))
+      → SaveRule e output (save_values_of (Ok (length (image_of c)))) (wrote output (image_of c))
   unfolding save_values_of
   written_rule d h = record {
     number = sym (room d h);
@@ -71,17 +70,17 @@ module _ (e : Endpoint) (output : List ℕ) where
     beyond = wrote_beyond output (image_of c);
   }
 
-  of_saves : (r : Saved) (out : List ℕ) → Saves c output r out → SaveRule e output (save_values_of r) out
+  of_saves : (r : Result ℕ SaveRefusal) (out : List ℕ) → Saves c output r out → SaveRule e output (save_values_of r) out
       → SaveRule e output (save_values_of (save_of c output).answer) (save_of c output).output
   of_saves r out s rule =
       subst (λ (o : List ℕ). SaveRule e output (save_values_of (save_of c output).answer) o) s.1
-      (subst (λ (a : Saved). SaveRule e output (save_values_of a) out) s.0 rule)
+      (subst (λ (a : Result ℕ SaveRefusal). SaveRule e output (save_values_of a) out) s.0 rule)
 
-  not_started_values : save_values_of (S.Refused X.NotStarted) ≡ record { number = 18; length_is = 0 }
+  not_started_values : save_values_of (Err X.NotStarted) ≡ record { number = 18; length_is = 0 }
   unfolding save_values_of save_refusal_code
   not_started_values = refl
 
-  too_short_values : save_values_of (S.Refused X.OutputTooShort) ≡ record { number = 21; length_is = 0 }
+  too_short_values : save_values_of (Err X.OutputTooShort) ≡ record { number = 21; length_is = 0 }
   unfolding save_values_of save_refusal_code
   too_short_values = refl
 
@@ -90,19 +89,19 @@ module _ (e : Endpoint) (output : List ℕ) where
       case_b (eqb e.port 0)
       (λ q.
       let h : e.port ≡ 0 = eqb-true e.port 0 q in
-      of_saves (S.Refused X.NotStarted) output (save_not_started c output (port_is ∙ h))
-      (refusal_rule (S.Refused X.NotStarted) 18 not_started_values (λ z. absurd (omega arith)) (not_started h)))
+      of_saves (Err X.NotStarted) output (save_not_started c output (port_is ∙ h))
+      (refusal_rule (Err X.NotStarted) 18 not_started_values (λ z. absurd (omega arith)) (not_started h)))
       (λ q.
       let d : e.port ≢ 0 = eqb-false e.port 0 q in
       let d' : c.port ≢ 0 = λ z. d (sym port_is ∙ z) in
       case_b (ltb (length output) (length (image_of c)))
       (λ l.
       let h : length output < length (image_of c) = ltb-true (length output) (length (image_of c)) l in
-      of_saves (S.Refused X.OutputTooShort) output (save_too_short c output d' h)
-      (refusal_rule (S.Refused X.OutputTooShort) 21 too_short_values (λ z. absurd (omega arith)) (too_short d h)))
+      of_saves (Err X.OutputTooShort) output (save_too_short c output d' h)
+      (refusal_rule (Err X.OutputTooShort) 21 too_short_values (λ z. absurd (omega arith)) (too_short d h)))
       (λ l.
       let h : length (image_of c) ≤ length output = ltb-false (length output) (length (image_of c)) l in
-      of_saves (S.Written (length (image_of c))) (wrote output (image_of c)) (save_written c output d' h) (written_rule d h)))
+      of_saves (Ok (length (image_of c))) (wrote output (image_of c)) (save_written c output d' h) (written_rule d h)))
 
   pub most : length (image_of c) ≤ 815
   most = omega (arith, size)

@@ -1,6 +1,6 @@
 -- A load answers by its rows (Table.antt): what is accepted keeps every one of them, and what keeps every one is accepted.
 use Prim.Native.Nat.{ℕ, zero, suc, ◌+◌, ◌*◌, ◌/◌, ◌^◌, ◌<◌, ◌≤◌}
-use Rattle.std.specs.Prelude.{◌≡◌, false, ◌&&◌, ◌||◌, ◌⊎◌, ◌≢◌, List, [], ◌∷◌, length, ltb}
+use Rattle.std.specs.Prelude.{◌≡◌, false, ◌&&◌, ◌||◌, ◌⊎◌, ◌≢◌, List, [], ◌∷◌, length, ltb, Result, Ok, Err}
 use Rattle.std.proofs.Math.Path.{refl, sym, ap}
 use Rattle.std.proofs.Common.{ap₂, subst, ◌∙◌, inl, inr}
 use Rattle.std.proofs.Math.Bool.{Bool, true}
@@ -36,8 +36,7 @@ use Rattle.image.specs.Load.{peers_in, count_at, bindings_in, bindings_at, peer_
 use Rattle.image.specs.Table.{peer_count_in, binding_count_in, binding_start, own_address, peer_address, bad_peer, same_binding, bad_binding, load_rows}
 use Rattle.image.proofs.Laws.Image.{Framed, is_framed}
 use Rattle.image.proofs.Laws.Loaded.{Read, accepted, still_none, with_all-peers, with_all-bindings, loaded_configured, loaded_in_range, done_code}
-use Rattle.image.specs.declared.answer.Loaded.{Loaded}
-use Rattle.image.specs.declared.answer.Loaded.TheVariants as L
+use Rattle.image.specs.declared.answer.BadImage.{BadImage}
 
 -- ---- rows
 
@@ -465,10 +464,10 @@ module _ (s : List ℕ) (b : Bytes s) (rows : Passed (load_rows s)) where
 
 -- ---- the number
 
-two_numbers : (a : Loaded) → (load_code a ≡ 0) ⊎ (load_code a ≡ 24)
+two_numbers : (a : Result (Unit {0}) BadImage) → (load_code a ≡ 0) ⊎ (load_code a ≡ 24)
 unfolding load_code
-two_numbers L.Done = inl refl
-two_numbers L.BadImage = inr refl
+two_numbers (Ok done) = inl refl
+two_numbers (Err bad) = inr refl
 
 each_24 : (s : List ℕ) → Each (λ r. r.number ≡ 24) (load_rows s)
 unfolding load_rows

@@ -4,7 +4,8 @@ use Rattle.wire.specs.Bytes.{be}
 use Rattle.wire.specs.Checks.{first}
 use Rattle.lookup.specs.Search.{from, lowest}
 use Rattle.reassembly.specs.Base.{table}
-use Rattle.endpoint.specs.Config.{config_of, fresh, start_checks, start_of, add_peer_checks, with_address, add_peer_of, is_network, add_binding_checks, with_binding}
+use Rattle.endpoint.specs.Config.{config_of, fresh, start_checks, start_of, add_peer_checks, with_address, add_peer_of, is_network, add_binding_checks}
+use Rattle.endpoint.specs.Config.{with_binding}
 use Rattle.endpoint.specs.Config.{add_binding_of}
 use Rattle.endpoint.specs.Config.{has_address, find_peer, binds, find_binding, added, added_all, set_up}
 use Rattle.image.specs.Image.{version1, rows, peer_row, binding_row, letters, image, binding_at, contents_of, image_of}

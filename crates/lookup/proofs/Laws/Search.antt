@@ -1,14 +1,16 @@
 -- Laws of a search: what it finds is the lowest number that passes.
-use Rattle.std.specs.Prelude.{◌≡◌, Bool, true, cond, ◌≢◌, eqb}
+use Rattle.std.specs.Prelude.{◌≡◌, Bool, true, cond, ◌≢◌, eqb, ltb, List, length, get_or, Some, None, position}
+use Rattle.std.specs.List.{position_or_len}
 use Rattle.std.proofs.Math.Path.{refl, ap}
 use Rattle.std.proofs.Common.{sym, ◌∙◌, arith}
 use Rattle.std.proofs.Math.Bool.{false}
 use Rattle.std.proofs.Math.Option.{Option, none, some}
 use Prim.Native.Nat.{ℕ, zero, suc, ◌+◌, ◌<◌, ◌≤◌}
-use borrow.Author.Tests.{eqb-true, eqb-false}
+use Rattle.std.proofs.lemmas.List.Sums.{passes_at_first, fails_before_first}
+use borrow.Author.Tests.{eqb-true, eqb-false, ltb-true, ltb-false}
 use borrow.Table.Steps.{cases}
 use Rattle.lookup.proofs.Laws.Cases.{clash}
-use Rattle.lookup.specs.Search.{from, lowest, Lowest, found}
+use Rattle.lookup.specs.Search.{from, lowest, Lowest, found, found_of}
 
 module _ (test : ℕ → Bool) where
   -- r is the lowest that passes among the k numbers from i on
@@ -105,3 +107,32 @@ lowest_four test = refl
 pub found_is : (o : Option ℕ) (i : ℕ) → o ≡ some i → o ≡ some (found o)
 unfolding found
 found_is o i q = q ∙ ap some (sym (ap found q))
+
+-- ---- as std answers it
+
+-- `position` over elements that pass as the numbers do
+pub position_is : {X : Type 0} (p : X → Bool) (test : ℕ → Bool) (xs : List X) (d : X)
+    → ((i : ℕ) → i < length xs → p (get_or xs i d) ≡ test i)
+    → position p xs ≡ found_of (lowest test (length xs))
+position_is p test xs d same =
+    let k : ℕ = position_or_len p xs in
+    cases (ltb k (length xs))
+    (λ q.
+    let l : k < length xs = ltb-true k (length xs) q in
+    rw q
+    (sym (ap found_of (lowest_is test (length xs) k (record {
+      below = l;
+      passes = sym (same k l) ∙ passes_at_first p xs d l;
+      least = λ j h. sym (same j (omega arith)) ∙ fails_before_first p xs j d h;
+    })))))
+    (λ q.
+    let l : length xs ≤ k = ltb-false k (length xs) q in
+    rw q (sym (ap found_of (lowest_not test (length xs) (λ j h. sym (same j h) ∙ fails_before_first p xs j d (omega arith))))))
+
+pub found_some : (o : Option ℕ) (i : ℕ) → found_of o ≡ Some i → o ≡ some i
+found_some none i e = clash (cc)
+found_some (some j) i e = cc
+
+pub found_none : (o : Option ℕ) → found_of o ≡ None → o ≡ none
+found_none none e = refl
+found_none (some j) e = clash (cc)

@@ -1,12 +1,12 @@
 -- Laws of a binding's owner: listed or not; and what is read from the endpoint's column is the configuration's.
-use Rattle.std.specs.Prelude.{ℕ, min, ◌≤◌, ◌<◌, ◌≡◌, List, get_or}
-use Rattle.std.proofs.Common.{◌∙◌, arith, lt-ltb, le-ltb}
+use Rattle.std.specs.Prelude.{ℕ, ◌≤◌, ◌<◌, ◌≡◌, List, get_or}
+use Rattle.std.proofs.Common.{◌∙◌, lt-ltb, le-ltb}
 use Rattle.std.proofs.Math.Path.{subst⁻¹}
 use Rattle.std.proofs.Math.Option.{some}
 use Rattle.wire.specs.Bytes.{Bytes}
 use Rattle.lookup.proofs.Laws.Cases.{either}
 use Rattle.endpoint.specs.Answer.{Values, values_of}
-use Rattle.endpoint.specs.Config.{Config, config_of, most_bindings}
+use Rattle.endpoint.specs.Config.{Config, config_of}
 use Rattle.endpoint.specs.Demand1.{SameConfiguration, FromPacket, FromMemory}
 use Rattle.endpoint.specs.Formats.{Bound}
 use Rattle.endpoint.specs.Receive.{step_of, receipt_of}
@@ -15,7 +15,7 @@ use Rattle.endpoint.proofs.Laws.Config.{config_is}
 use Rattle.endpoint.specs.declared.answer.Target.{Target}
 use Rattle.endpoint.specs.declared.config.Endpoint.{Endpoint}
 use Rattle.niulassenc.specs.Answer.{or_none}
-use Rattle.niulassenc.specs.Owner.{owner_of, owner_in, SentBy, Owners}
+use Rattle.niulassenc.specs.Owner.{owner_of, SentBy, Owners}
 
 module _ (c : Config) (i : ℕ) where
   owner_listed : i < c.bindings → or_none (owner_of c i) ≡ get_or c.owners i 0
@@ -25,25 +25,6 @@ module _ (c : Config) (i : ℕ) where
   owner_unlisted : c.bindings ≤ i → or_none (owner_of c i) ≡ 0xFFFF
   unfolding owner_of
   owner_unlisted l = rw (le-ltb i c.bindings l)
-
--- ---- from the endpoint's column and its count
-
-pub owner_out : (e : Endpoint) (i r : ℕ) → r ≡ or_none (owner_in e.owners e.binding_count i) → r ≡ or_none (owner_of (config_of e) i)
-unfolding owner_of owner_in
-owner_out e i r is = is ∙ rw (config_is e)
-
-module _ (owners : List ℕ) (count i : ℕ) where
-  pub no_such : most_bindings ≤ i → 65535 ≡ or_none (owner_in owners count i)
-  unfolding owner_in
-  no_such l = rw (le-ltb i (min count most_bindings) (omega arith))
-
-  pub not_listed : count ≤ i → 65535 ≡ or_none (owner_in owners count i)
-  unfolding owner_in
-  not_listed l = rw (le-ltb i (min count most_bindings) (omega arith))
-
-  pub listed : i < most_bindings → i < count → get_or owners i 0 ≡ or_none (owner_in owners count i)
-  unfolding owner_in
-  listed l m = rw (lt-ltb i (min count most_bindings) (omega arith))
 
 -- ---- a delivered frame: its binding's peer is the sender
 

@@ -1,8 +1,9 @@
 -- The map a byte at a time: what a byte's mask does is what the single bits do.
 use Rattle.std.specs.Prelude.{◌≡◌, refl, Bool, true, false, not, ◌&&◌, ◌||◌, ◌≢◌, eqb}
 use Rattle.std.proofs.Math.Path.{sym, ap}
-use Rattle.std.proofs.Common.{◌∙◌, zero-add, add-zero, add_comm, suc-mul, zero-mul, add-suc, one-mul, mod-lt, mod-eq_of_lt, pow-suc, one-add, pow_pos, pow_mono, shr-shr, get_or-set_same, set-set, eq-eqb, ne_eqb, eqb-true}
-use mathlib.Core.List.{List}
+use Rattle.std.proofs.Common.{◌∙◌, zero-add, add-zero, add_comm, suc-mul, zero-mul, add-suc, add-one, one-mul, mod-lt, mod-eq_of_lt, pow-suc, one-add, pow_pos}
+use Rattle.std.proofs.Common.{pow_mono, shr-shr, get_or-set_same, set-set, eq-eqb, ne_eqb, eqb-true}
+use mathlib.Core.List.{List, map, ◌++◌, append-nil}
 use Prim.Native.Nat.{ℕ, zero, suc, ◌+◌, ◌-◌, ◌*◌, ◌/◌, ◌%◌, ◌^◌, ◌<◌, ◌≤◌, max}
 use native.Mathlib.Omega.{arith}
 use Rattle.std.proofs.Math.Arith.{bin_ind}
@@ -10,9 +11,13 @@ use Rattle.std.proofs.Math.Dec.{eqb-suc-zero}
 use Rattle.std.proofs.lemmas.Nat.{mod-pow-add, or_shr, and_mask, and_le_l, and_le_r}
 use Rattle.std.specs.Int.Bits.{bit_and, bit_or, or_step, or_zero_l, or_zero_r, or_add_and, or_shifted_r}
 use Rattle.std.proofs.lemmas.Nat.Bits.{and_high}
-use Rattle.std.proofs.Math.ListN.{length, get_or, set}
-use Rattle.std.proofs.Math.Seq.{set-get_or}
+use Rattle.std.proofs.Math.ListN.{length, get_or, set, take, drop}
+use Rattle.std.proofs.Math.Seq.{set-get_or, get_or-take, get_or-drop, paste}
+use Rattle.std.proofs.lemmas.List.Edits.{paste_none, paste_more, drop-paste}
 use Rattle.std.proofs.lemmas.Bool.{eqb-false}
+use Rattle.std.proofs.lemmas.List.{get_or-map, length-map, length-drop, length-take-le, take_all, drop_all}
+use Rattle.std.proofs.lemmas.Slice.{put_mid-paste}
+use borrow.Rule.Slice.PartMut.{put_mid}
 use Rattle.reassembly.proofs.Laws.Base.{case_b, same_test, and_l, and_r, some_below_ext, all_below_ext}
 use Rattle.reassembly.specs.Base.{some_below, all_below}
 use Rattle.reassembly.specs.Store.{is_on, set_bit, set_bits, bit_at}
@@ -283,6 +288,22 @@ any-whole m a q found h l e =
     ∙ ap not (some_below_ext 8 (λ i. is_on (get_or m q 0) i) (λ i. is_on (get_or m q 0) (0 + i)) (λ i _. ap (λ (j : ℕ). is_on (get_or m q 0) j) (sym (zero-add i)))))
     ∙ ap (λ (j : ℕ). not (some_below j (λ i. bit_at m 0 (a + i)))) t
 
+-- byte i of the bytes from b on
+pub byte_in : (m : List ℕ) (b k i : ℕ) → i < k → get_or (take k (drop b m)) i 0 ≡ get_or m (b + i) 0
+byte_in m b k i l = get_or-take k (drop b m) i 0 l ∙ get_or-drop b m i 0
+
+get_or-head : (n : ℕ) (l : List ℕ) → get_or (drop n l) 0 0 ≡ get_or l n 0
+get_or-head n l = get_or-drop n l 0 0 ∙ ap (λ (k : ℕ). get_or l k 0) (add-zero n)
+
+pub any-next : (m : List ℕ) (a b k i found : ℕ) → a ≤ b * 8 → i < k → get_or m (b + i) 0 < 256
+    → eqb found 0 ≡ not (some_below ((b + i) * 8 - a) (λ i. bit_at m 0 (a + i)))
+    → eqb (bit_or found (get_or (take k (drop b m)) i 0)) 0 ≡ not (some_below ((b + (i + 1)) * 8 - a) (λ i. bit_at m 0 (a + i)))
+any-next m a b k i found h l w e =
+    let t : (b + i + 1) * 8 - a ≡ (b + (i + 1)) * 8 - a = omega arith in
+    ap (λ (x : ℕ). eqb (bit_or found x) 0) (byte_in m b k i l)
+    ∙ any-whole m a (b + i) found (omega arith) w e
+    ∙ ap (λ (j : ℕ). not (some_below j (λ i. bit_at m 0 (a + i)))) t
+
 -- A turn of the test whether every bit is set: the first hi bits of byte q, all bits before it being set or not.
 all-turn : (m : List ℕ) (q hi : ℕ) → hi ≤ 8
     → all_below (q * 8 + hi) (λ i. bit_at m 0 i) ≡ (all_below (q * 8) (λ i. bit_at m 0 i) && eqb (get_or m q 0 % 2 ^ hi) (2 ^ hi - 1))
@@ -304,6 +325,11 @@ all_whole m q kept lk l e =
     ∙ ap (λ (x : ℕ). all_below (q * 8) (λ i. bit_at m 0 i) && eqb x 255) (sym w)
     ∙ sym (all-turn m q 8 (omega arith))
     ∙ ap (λ (j : ℕ). all_below j (λ i. bit_at m 0 i)) t
+
+pub all-next : (m : List ℕ) (k i kept : ℕ) → i < k → kept < 256 → get_or m i 0 < 256 → eqb kept 255 ≡ all_below (i * 8) (λ i. bit_at m 0 i)
+    → eqb (bit_and kept (get_or (take k m) i 0)) 255 ≡ all_below ((i + 1) * 8) (λ i. bit_at m 0 i)
+all-next m k i kept l lk w e =
+    ap (λ (x : ℕ). eqb (bit_and kept x) 255) (get_or-take k m i 0 l) ∙ all_whole m i kept lk w e
 
 -- the last byte's mask, once all before it are set
 pub all-last : (m : List ℕ) (q hi r : ℕ) → hi ≤ 8 → r ≡ 2 ^ hi - 2 ^ 0 → all_below (q * 8) (λ i. bit_at m 0 i) ≡ true
@@ -375,6 +401,38 @@ set-whole m M b b₀ h l e =
     let z : b * 8 + 0 - b₀ * 8 ≡ b * 8 - b₀ * 8 = omega arith in
     let t : b * 8 + 8 - b₀ * 8 ≡ (b + 1) * 8 - b₀ * 8 = omega arith in
     set-turn m M (b₀ * 8) b 0 8 (omega arith) (omega arith) (omega arith) l (rw z e) ∙ ap (λ (j : ℕ). set_bits m 0 (b₀ * 8) j) t
+
+-- the whole bytes between, n of them from byte b on, each with every bit set
+module _ (m : List ℕ) (b n : ℕ) (inside : b + n ≤ length m) where
+  abbrev full : List ℕ
+  full = map (λ x. bit_or x 255) (take n (drop b m))
+
+  filled : (k : ℕ) → k ≤ n → paste m b full k ≡ set_bits m 0 (b * 8) (k * 8)
+  unfolding set_bits
+  filled zero l = sym (paste_none m b full)
+  filled (suc k) l =
+      let P : List ℕ = paste m b full k in
+      let long : length (take n (drop b m)) ≡ n = length-take-le n (drop b m) (omega (arith, length-drop b m)) in
+      let much : length full ≡ n = length-map (take n (drop b m)) (λ x. bit_or x 255) ∙ long in
+      let here : get_or P (b + k) 0 ≡ get_or m (b + k) 0 =
+      sym (get_or-head (b + k) P) ∙ ap (λ (t : List ℕ). get_or t 0 0) (drop-paste m b full k (omega arith) (omega arith)) ∙ get_or-head (b + k) m in
+      let t : (b + k) * 8 - b * 8 ≡ k * 8 = omega arith in
+      let u : (b + k + 1) * 8 - b * 8 ≡ suc k * 8 = omega arith in
+      ap (λ (j : ℕ). paste m b full j) (sym (add-one k))
+      ∙ sym (paste_more m b full k 0 (omega arith) (omega arith))
+      ∙ ap (λ (x : ℕ). set P (b + k) x) (get_or-map (λ x. bit_or x 255) (take n (drop b m)) k 0 0 (omega arith)
+      ∙ ap (λ (x : ℕ). bit_or x 255) (byte_in m b n k (omega arith) ∙ sym here))
+      ∙ set-whole m P (b + k) b (omega arith) (omega arith) (filled k (omega arith) ∙ ap (λ (j : ℕ). set_bits m 0 (b * 8) j) (sym t))
+      ∙ ap (λ (j : ℕ). set_bits m 0 (b * 8) j) u
+
+  -- the part that a loop over them leaves, put back
+  pub set-between : (i : ℕ) (items : List ℕ) → n ≤ i → items ≡ map (λ x. bit_or x 255) (take i (take n (drop b m))) ++ drop i (take n (drop b m))
+      → put_mid b n m items ≡ set_bits m 0 (b * 8) (n * 8)
+  set-between i items l e =
+      let long : length (take n (drop b m)) ≡ n = length-take-le n (drop b m) (omega (arith, length-drop b m)) in
+      let all : items ≡ full =
+      e ∙ rw (take_all i (take n (drop b m)) (omega arith), drop_all i (take n (drop b m)) (omega arith)) (append-nil full) in
+      put_mid-paste b n m items full n all refl (sym (length-map (take n (drop b m)) (λ x. bit_or x 255) ∙ long)) ∙ filled n (omega arith)
 
 -- every bit below n, by the bytes before its last
 module _ (m : List ℕ) (n b kept : ℕ) (at : b ≡ n / 8) (known : eqb kept 255 ≡ all_below (b * 8) (λ i. bit_at m 0 i)) where

@@ -1,7 +1,9 @@
 -- Laws of `Slots`.
-use Rattle.std.specs.Prelude.{◌≡◌, refl, ◌≢◌, Bool, true, false, List, ℕ, zero, suc, ◌+◌, ◌<◌, get_or, ltb}
-use Rattle.std.proofs.Common.{ap, arith, lt-ltb}
+use Rattle.std.specs.Prelude.{◌≡◌, refl, ◌≢◌, Bool, true, false, List, ℕ, zero, suc, ◌+◌, ◌<◌, length, get_or, ltb, position}
+use Rattle.std.proofs.Common.{ap, sym, ◌∙◌, arith, lt-ltb}
 use Rattle.std.proofs.Math.Option.{none, some}
+use Rattle.lookup.specs.Search.{lowest, found_of}
+use Rattle.lookup.proofs.Laws.Search.{lowest_four, position_is}
 use Rattle.reassembly.proofs.Laws.Base.{case_b, clash}
 use Rattle.reassembly.specs.Slots.{Slot, Peer, Note, Mark, no_note, no_mark, noted, free, pending_slot, note_of, lifetime, older, first, most_slots}
 
@@ -102,3 +104,14 @@ first_is f l (suc (suc (suc (suc s)))) h n e = absurd (omega arith)
 pub first_not : (f : Slot → Bool) (l : List Slot) → ((t : ℕ) → t < most_slots → f (get_or l t free) ≡ false) → first f l ≡ none
 unfolding first
 first_not f l n = rw (n 0 (omega arith), n 1 (omega arith), n 2 (omega arith), n 3 (omega arith))
+
+-- the search of a row is a search, also as std's `position` does it
+pub slots-lowest : (f : Slot → Bool) (l : List Slot) → first f l ≡ lowest (λ (s : ℕ). f (get_or l s free)) most_slots
+unfolding first
+slots-lowest f l = sym (lowest_four (λ (s : ℕ). f (get_or l s free)))
+
+pub position-first : (f : Slot → Bool) (l : List Slot) → length l ≡ most_slots → position f l ≡ found_of (first f l)
+position-first f l n =
+    position_is f (λ (s : ℕ). f (get_or l s free)) l free (λ i h. refl)
+    ∙ ap (λ (k : ℕ). found_of (lowest (λ (s : ℕ). f (get_or l s free)) k)) n
+    ∙ ap found_of (sym (slots-lowest f l))

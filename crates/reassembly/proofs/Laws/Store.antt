@@ -1,6 +1,8 @@
 -- The memory of bytes keeps the laws of `Laws`; and the frame of a slot as the view call hands it back.
-use Rattle.std.specs.Prelude.{◌≡◌, refl, ◌⊎◌, ◌≢◌, Bool, true, false, not, ◌||◌, List, [], ◌∷◌, ◌++◌, ℕ, zero, suc, ◌+◌, ◌-◌, ◌/◌, ◌%◌, ◌^◌, ◌≤◌, ◌<◌, length, get_or, take, drop, set, ltb, eqb}
-use Rattle.std.proofs.Common.{sym, ap, ◌∙◌, inl, inr, arith, zero-add, suc-add, length-set, length-drop, length-take, get_or-set_same, get_or-set_other, ext_get_or, get_or-drop, get_or-take, get_or-append-add, ltb-true, ltb-false, eqb-true, lt-ltb, eq-eqb, ne_eqb, le-leb}
+use Rattle.std.specs.Prelude.{◌≡◌, refl, ◌⊎◌, ◌≢◌, Bool, true, false, not, ◌||◌, List, [], ◌∷◌, ◌++◌, ℕ, zero, suc, ◌+◌, ◌-◌, ◌/◌, ◌%◌, ◌^◌, ◌≤◌, ◌<◌, length}
+use Rattle.std.specs.Prelude.{get_or, take, drop, set, ltb, eqb}
+use Rattle.std.proofs.Common.{sym, ap, ◌∙◌, inl, inr, arith, zero-add, suc-add, length-set, length-drop, length-take, get_or-set_same, get_or-set_other}
+use Rattle.std.proofs.Common.{ext_get_or, get_or-drop, get_or-take, get_or-append-add, ltb-true, ltb-false, eqb-true, lt-ltb, eq-eqb, ne_eqb, le-leb}
 use Rattle.std.proofs.Math.Nat.{zero-div}
 use Rattle.std.proofs.lemmas.List.{length-replicate, get_or-replicate}
 use Rattle.std.proofs.lemmas.List.Edits.{sets}

@@ -18,10 +18,10 @@ use Rattle.wire.proofs.Laws.Offset.{Low}
 use Rattle.reassembly.proofs.Laws.Base.{case_b, case_o, clash, or_false-l, or_false_r, all_below_ext, all_below-at, all_below_intro, table_ext, length-table}
 use Rattle.reassembly.specs.Base.{some_below, all_below, within}
 use Rattle.lookup.specs.Search.{lowest}
-use Rattle.lookup.proofs.Laws.Search.{lowest-some, lowest_four, found_is}
+use Rattle.lookup.proofs.Laws.Search.{lowest-some, found_is}
 use Rattle.reassembly.proofs.Laws.Base.{found_some, found_none}
 use Rattle.reassembly.specs.Slots.{Slot, Peer, Note, no_note, note_of, free, first, bears, is_free_slot, most_peers, most_slots}
-use Rattle.reassembly.proofs.Laws.Slots.{first_some, first-none}
+use Rattle.reassembly.proofs.Laws.Slots.{first_some, first-none, slots-lowest}
 use Rattle.reassembly.specs.Take.{Seg, Effect, Choice, reject, old, chosen, choose_new, choose, slot_no, further_slot, opened_slot, note_after, overlaps}
 use Rattle.reassembly.specs.Take.{rejection_code}
 use Rattle.reassembly.specs.Take.{frame_in, finish, placed, take_segment}
@@ -47,11 +47,6 @@ new_row i j k false a b c x q = refl
 old_row : {A : Type 0} (i j k : A) (w a b c : Bool) (x : A) → w ≡ true → pick (w && a) i (pick (w && b) j (pick (not w && c) k x)) ≡ pick a i (pick b j x)
 old_row i j k true a b c x q = refl
 old_row i j k false a b c x q = clash (cc (q))
-
--- the search of a row is a search
-slots-lowest : (f : Slot → Bool) (l : List Slot) → first f l ≡ lowest (λ (s : ℕ). f (get_or l s free)) most_slots
-unfolding first
-slots-lowest f l = sym (lowest_four (λ (s : ℕ). f (get_or l s free)))
 
 -- 14, and what follows
 pub chosen_is : {A : Type 0} (h : Choice → A) (row : List Slot) (g : Seg) → h (chosen row g)

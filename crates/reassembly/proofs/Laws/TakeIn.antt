@@ -7,9 +7,9 @@ use Rattle.reassembly.proofs.Laws.Base.{case_b, and_l, and_r, length-table, get_
 use Rattle.reassembly.specs.Base.{table}
 use Rattle.reassembly.specs.Slots.{Slot, Peer, Note, no_note, note_of, free, most_peers, most_slots}
 use Rattle.reassembly.specs.Take.{Seg, slot_no, stored_bytes, AlreadyReceived, Rejection, Rejected, Pending, Complete, NoMemory, Choice, reject, old, fresh}
-use Rattle.reassembly.specs.Take.{chosen, Effect, complete, overlaps, frame_in, finish, placed, further_slot, opened_slot, note_after, take_segment, Fits}
+use Rattle.reassembly.specs.Take.{chosen, complete, overlaps, frame_in, finish, placed, further_slot, opened_slot, note_after, take_segment, Fits}
 use Rattle.reassembly.proofs.Laws.TakeFacts.{not_complete, take-complete, take-rejects}
-use Rattle.reassembly.specs.Store.{bytes_of, has_slots, take_in, put_at, clear_at, slot_start, map_start, byte_at, taken_of}
+use Rattle.reassembly.specs.Store.{bytes_of, has_slots, take_in, put_at, clear_at, slot_start, map_start, byte_at}
 use Rattle.reassembly.proofs.Laws.Store.{length-set_bits}
 
 -- ---- the memory keeps its length
@@ -86,15 +86,6 @@ table-part m a n h =
 pub frame-part : (m : List ℕ) (k n : ℕ) → slot_start k + n ≤ length m → frame_in bytes_of m k n ≡ take n (drop (slot_start k) m)
 unfolding frame_in byte_at
 frame-part m k n h = table-part m (slot_start k) n h
-
--- what `take` gives back is the effect's row and outcome
-pub taken-row : (e : Effect bytes_of) → (taken_of e).row ≡ e.row
-unfolding taken_of
-taken-row e = refl
-
-pub taken-outcome : (e : Effect bytes_of) → (taken_of e).outcome ≡ e.outcome
-unfolding taken_of
-taken-outcome e = refl
 
 -- ---- what is not taken changes nothing
 

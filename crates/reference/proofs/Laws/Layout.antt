@@ -47,12 +47,10 @@ count_either (suc n) f g =
     (λ a. case_b (g n) (λ b. rw (a, b) (omega arith)) (λ b. rw (a, b) (omega arith)))
 
 used_most : (bs : List Buffer) (n : ℕ) → how_many n (uses bs) ≤ length bs
-unfolding uses
 used_most [] n = omega (arith, count_none n (uses []) (λ i l. refl))
 used_most (b ∷ bs) n = omega (arith, count_either n (λ i. eqb b.block i) (uses bs), one_most n b.block, used_most bs n)
 
 unused : (bs : List Buffer) (n : ℕ) → uses bs n ≡ false → Each (λ (b : Buffer). b.block ≢ n) bs
-unfolding uses
 unused [] n e = tt
 unused (b ∷ bs) n e = case_b (eqb b.block n) (λ q. clash (cc)) (λ q. (eqb-false b.block n q, unused bs n (rw q at e)))
 

@@ -18,7 +18,8 @@ use Rattle.reassembly.specs.declared.take.Rejection.{Rejection}
 use Rattle.reassembly.specs.declared.take.Rejection.TheVariants.{Empty, FrameLength, PastEnd, LengthDiffers, AlreadyReceived, NoSlot}
 use Rattle.reassembly.specs.declared.take.Outcome.{Outcome}
 use Rattle.reassembly.specs.declared.take.Outcome.TheVariants.{Rejected, Pending, Complete, NoMemory}
-use Rattle.reassembly.specs.Take.{slot_no, Seg, Choice, old, fresh, choose_new, choose, chosen, note_after, opened_slot, further_slot, Effect, overlaps, frame_in}
+use Rattle.reassembly.specs.Take.{slot_no, Seg, Choice, old, fresh, choose_new, choose, chosen, note_after, opened_slot, further_slot, Effect, overlaps}
+use Rattle.reassembly.specs.Take.{frame_in}
 use Rattle.reassembly.specs.Take.{finish, placed, take_segment}
 use Rattle.reassembly.specs.Take as T
 use Rattle.reassembly.proofs.Laws.TakeFacts.{bears_is, bears-pending, bears_identifier, is_free-false, not_free}

@@ -1,14 +1,24 @@
 -- Laws of a pending frame's segments: where their bytes lie, and what a loop over them has found after one segment more.
-use Rattle.std.specs.Prelude.{◌≡◌, refl, true, false, ◌&&◌, List, ℕ, zero, suc, ◌+◌, ◌-◌, ◌*◌, ◌≤◌, ◌<◌, length, get_or, set, take, ltb, leb}
-use Rattle.std.proofs.Common.{sym, ap, ◌∙◌, arith, add-one, take-suc-set, length-take-le, ltb-true, leb-true, le-leb}
-use Rattle.std.proofs.Math.Option.{Option, none, some}
-use Rattle.std.proofs.lemmas.Bool.{lt-leb}
-use Rattle.reassembly.proofs.Laws.Base.{case_b, clash, and_l, and_r, length-table, get_d_table, below_suc, either}
-use Rattle.reference.specs.Reassembler.{Part, is_some, has, byte_at, followed_by, rebuilt}
-use Rattle.reference.specs.Layout.{no_extent, begins, part_in, parts_in, has_byte, place_in, found_byte, stored, Rebuilds}
+use Rattle.std.specs.Prelude.{◌≡◌, refl, true, false, ◌&&◌, List, ℕ, zero, suc, ◌+◌, ◌-◌, ◌≤◌, ◌<◌, length, get_or, set, take, ltb, leb, Bool, Some, None}
+use Rattle.std.proofs.Common.{sym, ap, ◌∙◌, arith, add-one, take-suc-set, length-take, get_or-take, ltb-true, leb-true}
+use Rattle.std.specs.Bool.{MatchBool}
+use Rattle.std.specs.List.{range_with_len, AllWithin, HoldsAt}
+use Rattle.std.proofs.Math.Option as Math
+use Rattle.std.proofs.Math.Option.{none, some}
+use Rattle.std.proofs.lemmas.List.FromFn.{length-range_with_len, get_or-range_with_len}
+use Rattle.std.proofs.lemmas.Option.{none-some, same_Some}
+use Rattle.reassembly.specs.Base.{some_below}
+use Rattle.reassembly.proofs.Laws.Base.{case_b, and_l, and_r, length-table, get_d_table, below_suc, either, some_below-some, some_below-none}
+use Rattle.reference.specs.Reassembler.{Part, has, byte_at, followed_by, rebuilt}
+use Rattle.reference.specs.Layout.{no_extent, begins, part_in, parts_in, has_byte, place_in, Rebuilds}
 use Rattle.reference.specs.declared.buffer.Extent.{Extent}
-use Rattle.reference.specs.declared.buffer.FoundByte.{FoundByte}
-use Rattle.reference.specs.declared.buffer.FoundByte.TheVariants as B
+
+-- ---- a segment that is kept is that of the array
+
+pub segment_at : (es : List Extent) (n : ℕ) (kept : List Extent) (j : ℕ) → kept ≡ take n es → j < length kept → get_or kept j no_extent ≡ get_or es j no_extent
+segment_at es n kept j e b =
+    let l : j < length (take n es) = rw e at b in
+    ap (λ (x : List Extent). get_or x j no_extent) e ∙ get_or-take n es j no_extent (omega (arith, length-take n es))
 
 -- ---- where a segment's bytes begin
 
@@ -22,14 +32,6 @@ begins-more es j at e = rw (add-one j, e)
 
 -- ---- a segment's byte
 
-pub has-before : (e : Extent) (i : ℕ) → i < e.offset → false ≡ has_byte e i
-unfolding has_byte
-has-before e i l = rw (lt-leb e.offset i l)
-
-pub has-from : (e : Extent) (i : ℕ) → e.offset ≤ i → ltb i (e.offset + e.length) ≡ has_byte e i
-unfolding has_byte
-has-from e i l = rw (le-leb e.offset i l)
-
 pub has_low : (e : Extent) (i : ℕ) → has_byte e i ≡ true → e.offset ≤ i
 unfolding has_byte
 has_low e i h = leb-true e.offset i (and_l (leb e.offset i) (ltb i (e.offset + e.length)) h)
@@ -40,48 +42,34 @@ has_high e i h = ltb-true i (e.offset + e.length) (and_r (leb e.offset i) (ltb i
 
 -- ---- the search for a byte, after j segments were looked at
 
-pub place_none : (es : List Extent) (i : ℕ) → B.Nothing ≡ found_byte (place_in es 0 i)
+pub place_none : (es : List Extent) (i : ℕ) → place_in es 0 i ≡ None
 unfolding place_in
 place_none es i = refl
 
-pub place_here : (es : List Extent) (j i at : ℕ) → at ≡ begins es j → has_byte (get_or es j no_extent) i ≡ true
-    → B.At (at + (i - (get_or es j no_extent).offset)) ≡ found_byte (place_in es (j + 1) i)
+pub place_here : (es : List Extent) (j i : ℕ) → has_byte (get_or es j no_extent) i ≡ true
+    → place_in es (j + 1) i ≡ Some (begins es j + (i - (get_or es j no_extent).offset))
 unfolding place_in
-place_here es j i at e h = rw (add-one j, h, e)
+place_here es j i h = rw (add-one j, h)
 
-pub place_kept : (es : List Extent) (j i : ℕ) (r : FoundByte) → r ≡ found_byte (place_in es j i) → has_byte (get_or es j no_extent) i ≡ false
-    → r ≡ found_byte (place_in es (j + 1) i)
+pub place_kept : (es : List Extent) (j i : ℕ) → has_byte (get_or es j no_extent) i ≡ false → place_in es (j + 1) i ≡ place_in es j i
 unfolding place_in
-place_kept es j i r e h = rw (add-one j, h) e
+place_kept es j i h = rw (add-one j, h)
 
--- a place lies among the bytes of the segments
-pub place_inside-none : (es : List Extent) (i p : ℕ) → place_in es 0 i ≡ some p → p < 0
-unfolding place_in
-place_inside-none es i p e = clash (cc)
+-- ---- is a byte of a range there
 
-pub place_inside : (es : List Extent) (j i at : ℕ) → at ≡ begins es j → at ≤ j * 65535 → (get_or es j no_extent).length ≤ 65535
-    → ((p : ℕ) → place_in es j i ≡ some p → p < j * 65535) → (p : ℕ) → place_in es (j + 1) i ≡ some p → p < (j + 1) * 65535
-unfolding place_in
-place_inside es j i at b l k h p e =
-    let f : place_in es (suc j) i ≡ some p = ap (λ (n : ℕ). place_in es n i) (sym (add-one j)) ∙ e in
-    case_b (has_byte (get_or es j no_extent) i)
-    (λ q. let z : begins es j + (i - (get_or es j no_extent).offset) ≡ p = cc in
-    omega (arith, has_low (get_or es j no_extent) i q, has_high (get_or es j no_extent) i q))
-    (λ q. let r : p < j * 65535 = h p (cc) in omega arith)
-
-pub found_place : (o : Option ℕ) (at : ℕ) → B.At at ≡ found_byte o → o ≡ some at
-found_place none at e = clash (cc)
-found_place (some j) at e = cc
-
-pub no_place : (o : Option ℕ) → B.Nothing ≡ found_byte o → o ≡ none
-no_place none e = refl
-no_place (some j) e = clash (cc)
-
-pub is_there : (o : Option ℕ) (at : ℕ) → B.At at ≡ found_byte o → is_some o ≡ true
-is_there o at e = rw (found_place o at e)
-
-pub not_there : (o : Option ℕ) → B.Nothing ≡ found_byte o → is_some o ≡ false
-not_there o e = rw (no_place o e)
+pub some_in_range : (n : ℕ) (f : ℕ → Bool) (r : Bool)
+    → MatchBool r ((k : ℕ) × (k < length (range_with_len 0 n)) × HoldsAt (λ i. f i ≡ true) (range_with_len 0 n) k)
+    (AllWithin (λ i. f i ≡ false) (range_with_len 0 n) 0 (length (range_with_len 0 n)))
+    → r ≡ some_below n f
+some_in_range n f true h =
+    let l : h.0 < n = rw (length-range_with_len 0 n) at h.1 in
+    let z : get_or (range_with_len 0 n) h.0 0 ≡ h.0 = get_or-range_with_len 0 n h.0 0 l ∙ omega arith in
+    sym (some_below-some n f h.0 l (ap f (sym z) ∙ h.2 0))
+some_in_range n f false h =
+    sym (some_below-none n f (λ i l.
+    let e = h i 0 (omega arith) (rw (length-range_with_len 0 n) l) in
+    let z : get_or (range_with_len 0 n) i 0 ≡ i = get_or-range_with_len 0 n i 0 l ∙ omega arith in
+    ap f (sym z) ∙ e))
 
 -- ---- the byte that lies there
 
@@ -99,23 +87,23 @@ byte_part es m block j i h =
     let z : block + begins es j + (i - e.offset) ≡ block + (begins es j + (i - e.offset)) = omega arith in
     get_d_table e.length (λ k. get_or m (block + begins es j + k) 0) 0 (i - e.offset) (omega arith) ∙ ap (λ (k : ℕ). get_or m k 0) z
 
-pub byte_missing : (es : List Extent) (m : List ℕ) (block n i : ℕ) → place_in es n i ≡ none → byte_at (parts_in es m block n) i ≡ none
+pub byte_missing : (es : List Extent) (m : List ℕ) (block n i : ℕ) → place_in es n i ≡ None → byte_at (parts_in es m block n) i ≡ none
 unfolding place_in parts_in byte_at
 byte_missing es m block zero i e = refl
 byte_missing es m block (suc j) i e =
     case_b (has_byte (get_or es j no_extent) i)
-    (λ h. clash (cc))
-    (λ h. rw (has_part es m block j i, h) (byte_missing es m block j i (cc)))
+    (λ h. absurd (none-some _ (sym (rw h at e))))
+    (λ h. rw (has_part es m block j i, h) (byte_missing es m block j i (rw h at e)))
 
-pub byte_there : (es : List Extent) (m : List ℕ) (block n i at : ℕ) → place_in es n i ≡ some at
+pub byte_there : (es : List Extent) (m : List ℕ) (block n i at : ℕ) → place_in es n i ≡ Some at
     → byte_at (parts_in es m block n) i ≡ some (get_or m (block + at) 0)
 unfolding place_in parts_in byte_at
-byte_there es m block zero i at e = clash (cc)
+byte_there es m block zero i at e = absurd (none-some _ e)
 byte_there es m block (suc j) i at e =
     case_b (has_byte (get_or es j no_extent) i)
-    (λ h. let q : begins es j + (i - (get_or es j no_extent).offset) ≡ at = cc in
+    (λ h. let q : begins es j + (i - (get_or es j no_extent).offset) ≡ at = same_Some _ _ (rw h at e) in
     rw (has_part es m block j i, h) (ap some (byte_part es m block j i h ∙ rw q)))
-    (λ h. rw (has_part es m block j i, h) (byte_there es m block j i at (cc)))
+    (λ h. rw (has_part es m block j i, h) (byte_there es m block j i at (rw h at e)))
 
 -- ---- the frame rebuilt, after i bytes
 
@@ -136,27 +124,9 @@ rebuilt_missing gs (suc n) i l e =
     (λ h. rw (rebuilt_missing gs n i h e))
     (λ q. rw (← q, e) (by_none (rebuilt gs i)))
   where
-    by_none : (o : Option (List ℕ)) → followed_by o none ≡ none
+    by_none : (o : Math.Option (List ℕ)) → followed_by o none ≡ none
     by_none none = refl
     by_none (some bs) = refl
 
-pub rebuilds_not : (gs : List Part) (n i : ℕ) (frame : List ℕ) → i < n → byte_at gs i ≡ none → Rebuilds (rebuilt gs n) false frame
-rebuilds_not gs n i frame l e =
-    let z : rebuilt gs n ≡ none = rebuilt_missing gs n i l e in
-    record { all_there = rw z; bytes = λ bs q. clash (cc) }
-
-pub rebuilds_all : (gs : List Part) (n : ℕ) (frame : List ℕ) → n ≤ length frame → rebuilt gs n ≡ some (take n frame) → Rebuilds (rebuilt gs n) true frame
-rebuilds_all gs n frame l e =
-    record {
-      all_there = rw e;
-      bytes = λ bs q.
-          let z : take n frame ≡ bs = cc in
-          let k : length bs ≡ n = ap length (sym z) ∙ length-take-le n frame l in
-          rw k z;
-    }
-
--- ---- bytes to a place that the memory does not have
-
-pub not_stored : (m bs : List ℕ) (at : ℕ) → length m < at + length bs → m ≡ stored m at bs
-unfolding stored
-not_stored m bs at l = rw (lt-leb (at + length bs) (length m) l)
+pub rebuilds_not : (gs : List Part) (n i : ℕ) → i < n → byte_at gs i ≡ none → Rebuilds (rebuilt gs n) None
+rebuilds_not gs n i l e = rw (rebuilt_missing gs n i l e) refl

@@ -1,5 +1,5 @@
 -- The stages of a receive add up to `hears_in`.
-use Rattle.std.specs.Prelude.{◌≡◌, true, false, ◌||◌, List, [], map, ℕ, ◌+◌, ◌-◌, ◌≤◌, ◌<◌, get_or, set, leb, eqb}
+use Rattle.std.specs.Prelude.{◌≡◌, true, false, ◌||◌, List, [], map, ℕ, ◌+◌, ◌-◌, ◌≤◌, ◌<◌, get_or, set, leb, eqb, Result, Ok, Err}
 use Rattle.std.proofs.Math.Path.{refl}
 use Rattle.std.proofs.Common.{sym, ap, subst, ◌∙◌, arith}
 use Rattle.std.proofs.Math.Option.{Option, none, some}
@@ -8,44 +8,44 @@ use Rattle.std.proofs.Math.Dec.{ltb}
 use borrow.Author.Tests.{ltb-false, eqb-true, lt-ltb, le-ltb}
 use Rattle.reassembly.specs.Take.{Seg, seg_of}
 use Rattle.reassembly.specs.Receive.{part_of_slice, Verdict, bad, good, Reading, other_sender, direct, segment}
-use Rattle.reassembly.specs.declared.take.Rejection.{Rejection}
 use Rattle.reassembly.proofs.Laws.Base.{case_b, clash, or_false-l, or_false_r, map-set}
 use Rattle.reassembly.proofs.Laws.Answers.{part-fits}
 use Rattle.reassembly.proofs.Laws.TakeIn.{table-part}
 use Rattle.endpoint.specs.Config.{Config, config_of}
 use Rattle.endpoint.specs.Receive.{answers, layers, answer_at, judge_of, header_of}
-use Rattle.endpoint.specs.Stages.{offer_at, brings_segment, untaken_of, opened_by, delivered_by}
+use Rattle.endpoint.specs.Stages.{Offer, offer_at, brings_segment, untaken_of, opened_by, delivered_by}
 use Rattle.endpoint.proofs.Laws.Stands.{StandsFor, opened-stands, stands-segment, judged_by}
+use Rattle.endpoint.specs.declared.answer.Drop.{Drop}
 use Rattle.endpoint.specs.declared.answer.Drop.TheVariants as D
 use Rattle.endpoint.specs.declared.answer.Received.{Received}
 use Rattle.endpoint.specs.declared.answer.Received.TheVariants as R
 use Rattle.endpoint.specs.declared.config.Endpoint.{Endpoint}
 use Rattle.endpoint.specs.declared.receive.Arrival.{Arrival}
+use Rattle.endpoint.specs.declared.receive.Content.{Content}
 use Rattle.endpoint.specs.declared.receive.Content.TheVariants as A
 use Rattle.endpoint.specs.declared.receive.Due.{Due}
-use Rattle.endpoint.specs.declared.receive.Offer.{Offer}
 use Rattle.reference.specs.Keyed.{find}
-use Rattle.reference.specs.Reassembler.{Part, rebuilt, repeats, part_of, Result, rejects, too_many, waits, complete}
+use Rattle.reference.specs.Reassembler as Def
+use Rattle.reference.specs.Reassembler.{Part, rebuilt, repeats, part_of, rejects, too_many, waits, complete}
 use Rattle.reference.specs.Run.{need, rebuilt_at}
 use Rattle.reference.specs.Layout.{kept, begins, bytes_at, stored, added, block_at, frame_in, identifier_in, buffers_of, spare, blank, Effect, settled_in}
 use Rattle.reference.specs.Layout.{joined_in, opened_in, further_in, looked_in, taken_in, outcome_of, TakenAs}
-use Rattle.reference.specs.Calls.{viewed, judged_in, replied_in, heard_in, hears_in, left_of, reply_of}
+use Rattle.reference.specs.Calls.{viewed, judged_in, replied_in, heard_in, hears_in, left_of, passed, reply_of}
 use Rattle.reference.specs.Stages.{settled_as, HeardAs}
 use Rattle.reference.proofs.Laws.Parts.{length-stored}
 use Rattle.reference.proofs.Laws.Layout.{rebuilt-length}
 use Rattle.reference.proofs.Laws.Tick.{no_buffers}
-use Rattle.reference.specs.declared.answer.Reply.{Reply}
-use Rattle.reference.specs.declared.answer.Reply.TheVariants as X
+use Rattle.reference.specs.declared.answer.Refusal.{Refusal}
+use Rattle.reference.specs.declared.answer.Refusal.TheVariants.{Dropped}
 use Rattle.reference.specs.declared.buffer.Buffer.{Buffer}
+use Rattle.reference.specs.declared.list.Buffers.{Buffers}
 use Rattle.reference.specs.declared.reassembler.Reassembler.{Reassembler}
-use Rattle.reference.specs.declared.receive.Heard.{Heard}
-use Rattle.reference.specs.declared.take.Outcome.{Outcome}
-use Rattle.reference.specs.declared.take.Outcome.TheVariants as O
-use Rattle.reference.specs.declared.take.Taken.{Taken}
+use Rattle.reference.specs.declared.take.Progress.{Progress}
+use Rattle.reference.specs.declared.take.Progress.TheVariants as P
 
 -- ---- taking leaves a memory of the same length, and a complete frame is as long as its segments say
 
-abbrev Sized : ℕ → Result → Type 0
+abbrev Sized : ℕ → Def.Result → Type 0
 Sized n (rejects r) = Unit {0}
 Sized n too_many = Unit {0}
 Sized n waits = Unit {0}
@@ -106,32 +106,28 @@ module _ (p : ℕ) (bs : List Buffer) (m : List ℕ) (g : Seg) where
 
 -- ---- the ways out of the answer
 
-module _ (e : Endpoint) (p : ℕ) (o : Outcome) (n : ℕ) (k m : List ℕ) where
-  pub settle_rejected : (r : Rejection) → o ≡ O.Rejected r → X.Answer (R.Dropped (D.Segment r)) ≡ settled_as e p o n k m
+module _ (e : Endpoint) (p : ℕ) (o : Result Progress Refusal) (n : ℕ) (k m : List ℕ) where
+  pub settled_refused : (why : Refusal) → o ≡ Err why → Err why ≡ settled_as e p o n k m
   unfolding settled_as
-  settle_rejected r q = rw q
+  settled_refused why q = rw q refl
 
-  pub settle_many : o ≡ O.TooMany → X.TooManySegments ≡ settled_as e p o n k m
+  pub settled_pending : (x : Progress) → o ≡ Ok x → x ≡ P.Pending → Ok R.Pending ≡ settled_as e p o n k m
   unfolding settled_as
-  settle_many q = rw q
+  settled_pending x q g = rw (q, g) refl
 
-  pub settle_pending : o ≡ O.Pending → X.Answer R.Pending ≡ settled_as e p o n k m
+  pub settled-complete : (x : Progress) → o ≡ Ok x → x ≡ P.Complete → (f : Offer) (a : Result Received Drop)
+      → f ≡ offer_at rebuilt_at (part_of_slice m rebuilt_at n) → a ≡ delivered_by e p f k m → passed a ≡ settled_as e p o n k m
   unfolding settled_as
-  settle_pending q = rw q
+  settled-complete x q g f a lies gave = rw (q, g, gave, lies) refl
 
-  pub settle_complete : o ≡ O.Complete → (f : Offer) (a : Received) → f ≡ offer_at rebuilt_at (part_of_slice m rebuilt_at n) → a ≡ delivered_by e p f k m
-      → X.Answer a ≡ settled_as e p o n k m
-  unfolding settled_as
-  settle_complete q f a lies gave = rw (q, gave, lies)
-
--- ---- the answer is that of the run
+-- ---- the reply is that of the run
 
 verdict_is : (v : Verdict answers) (n : ℕ)
     → answer_at v (record { start = rebuilt_at + 18; length = n - 18; in_memory = true }) ≡ judged_in answers Config layers v n
 verdict_is (bad d) n = refl
 verdict_is (good t) n = refl
 
-settled-replied : (e : Endpoint) (p : ℕ) (k m : List ℕ) (n : ℕ) (x : Result) → need ≤ length m → Sized n x
+settled-replied : (e : Endpoint) (p : ℕ) (k m : List ℕ) (n : ℕ) (x : Def.Result) → need ≤ length m → Sized n x
     → settled_as e p (outcome_of x) n k m ≡ reply_of (replied_in answers Config layers (config_of e) p k m x)
 unfolding settled_as
 settled-replied e p k m n (rejects r) o s = refl
@@ -141,44 +137,42 @@ settled-replied e p k m n (complete note frame) o s =
     let inside : rebuilt_at + n ≤ length m = omega (arith, s.1.1) in
     let lies : part_of_slice m rebuilt_at n ≡ bytes_at m rebuilt_at n = part-fits m rebuilt_at n inside ∙ sym (table-part m rebuilt_at n inside) in
     rw s.0
-    (ap X.Answer (judged_by e p k m rebuilt_at n (omega (arith, s.1.0)) inside note
+    (ap passed (judged_by e p k m rebuilt_at n (omega (arith, s.1.0)) inside note
     ∙ ap (λ (f : List ℕ). answer_at (judge_of (config_of e) p note f) (record { start = rebuilt_at + 18; length = n - 18; in_memory = true })) lies
     ∙ verdict_is (judge_of (config_of e) p note (bytes_at m rebuilt_at n)) n))
 
 -- ---- a segment that is due: what taking it gave, and the memory that it left
 
 module _ (r : Reassembler) (p : ℕ) (d : Due) (k m : List ℕ) (enough : need ≤ length m) (bytes : List ℕ)
-    (are : bytes ≡ part_of_slice k d.start d.length) (t : Taken) (m' : List ℕ)
-    (took : TakenAs (taken_in p (buffers_of (get_or r.peers p no_buffers)) m (seg_of d.header bytes)) t m')
-    (a : Reply) (gave : a ≡ settled_as r.endpoint p t.outcome d.header.frame_length k m') where
+    (are : bytes ≡ part_of_slice k d.start d.length) (o : Result Progress Refusal) (t : Buffers) (m' : List ℕ)
+    (took : TakenAs (taken_in p (buffers_of (get_or r.peers p no_buffers)) m (seg_of d.header bytes)) o (buffers_of t) m')
+    (a : Result Received Refusal) (gave : a ≡ settled_as r.endpoint p o d.header.frame_length k m') where
   abbrev g : Seg
   g = seg_of d.header (part_of_slice k d.start d.length)
 
   abbrev x : Effect
   x = taken_in p (get_or (map buffers_of r.peers) p []) m g
 
-  same : TakenAs x t m'
+  same : TakenAs x o (buffers_of t) m'
   same = rw (get_or-map buffers_of r.peers p no_buffers, ← are) took
 
-  pub due_out : HeardAs (heard_in answers Config layers (left_of r m) k (segment p g)) r
-      (record { reassembler = record { endpoint = r.endpoint; peers = set r.peers p t.buffers }; reply = a }) m'
+  pub due_out : HeardAs (heard_in answers Config layers (left_of r m) k (segment p g)) r (record { endpoint = r.endpoint; peers = set r.peers p t }) a m'
   due_out =
       let keeps : Keeps g.frame_length m x = taken-keeps p (get_or (map buffers_of r.peers) p []) m g in
       record {
         reply =
             gave
-            ∙ ap (λ o. settled_as r.endpoint p o d.header.frame_length k m') same.outcome
+            ∙ ap (λ y. settled_as r.endpoint p y d.header.frame_length k m') same.outcome
             ∙ ap (settled_as r.endpoint p (outcome_of x.result) d.header.frame_length k) same.mem
             ∙ settled-replied r.endpoint p k x.mem g.frame_length x.result (omega (arith, keeps.room)) keeps.sized;
-        left = rw (map-set buffers_of r.peers p t.buffers, same.buffers, same.mem);
+        left = rw (map-set buffers_of r.peers p t, same.buffers, same.mem);
         endpoint = refl;
       }
 
 -- ---- a receive
 
 module _ (r : Reassembler) (k m : List ℕ) where
-  pub small_out : length m < need
-      → HeardAs (hears_in answers Config layers (left_of r m) k) r (record { reassembler = r; reply = X.Answer (R.Dropped D.MemoryTooSmall) }) m
+  pub small_out : length m < need → HeardAs (hears_in answers Config layers (left_of r m) k) r r (Err (Dropped D.MemoryTooSmall)) m
   unfolding hears_in
   small_out l = rw (lt-ltb (length m) need l) (record { reply = refl; left = refl; endpoint = refl })
 
@@ -198,14 +192,14 @@ module _ (r : Reassembler) (k m : List ℕ) where
     direct-heard (segment p g) s q = clash (cc (s.content, q))
 
     -- no segment: the packet has its answer
-    pub untaken_out : brings_segment v.content ≡ false → (f : Offer) (a : Received) → f ≡ untaken_of v.content
-        → a ≡ delivered_by r.endpoint v.peer f k m
-        → HeardAs (hears_in answers Config layers (left_of r m) k) r (record { reassembler = r; reply = X.Answer a }) m
+    pub untaken_out : brings_segment v.content ≡ false → (f : Offer) (a : Result Received Drop) → f ≡ untaken_of v.content
+        → a ≡ delivered_by r.endpoint v.peer f k m → HeardAs (hears_in answers Config layers (left_of r m) k) r r (passed a) m
     untaken_out q f a is gave =
-        rw (heard_is, direct-heard (header_of (config_of r.endpoint) k) stands q) (record { reply = rw (gave, is); left = refl; endpoint = refl })
+        rw (heard_is, direct-heard (header_of (config_of r.endpoint) k) stands q) (record { reply = rw (gave, is) refl; left = refl; endpoint = refl })
 
     -- a segment: it is taken
-    pub segment_out : (d : Due) (h : Heard) (m' : List ℕ) → v.content ≡ A.Segment d
-        → HeardAs (heard_in answers Config layers (left_of r m) k (segment v.peer (seg_of d.header (part_of_slice k d.start d.length)))) r h m'
-        → HeardAs (hears_in answers Config layers (left_of r m) k) r h m'
-    segment_out d h m' q out = rw (heard_is, stands-segment r.endpoint k v (header_of (config_of r.endpoint) k) d stands q) out
+    pub segment_out : (y : Content) (d : Due) (r' : Reassembler) (a : Result Received Refusal) (m' : List ℕ) → v.content ≡ Ok y → y ≡ A.Segment d
+        → HeardAs (heard_in answers Config layers (left_of r m) k (segment v.peer (seg_of d.header (part_of_slice k d.start d.length)))) r r' a m'
+        → HeardAs (hears_in answers Config layers (left_of r m) k) r r' a m'
+    segment_out y d r' a m' q s out =
+        rw (heard_is, stands-segment r.endpoint k v (header_of (config_of r.endpoint) k) d stands (q ∙ ap Ok s)) out

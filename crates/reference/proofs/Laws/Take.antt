@@ -1,70 +1,48 @@
 -- The ways out of taking a segment, as the code takes them (src/take.rt).
-use Rattle.std.specs.Prelude.{◌≡◌, ◌≢◌, Bool, true, false, List, ℕ, ◌+◌, ◌≤◌, ◌<◌, take}
-use Rattle.std.proofs.Math.Path.{refl}
-use Rattle.std.proofs.Common.{sym, ap, ◌∙◌, arith}
-use Rattle.std.proofs.Math.Option.{Option, none, some}
-use Rattle.std.proofs.Math.ListN.{length}
-use borrow.Author.Tests.{lt-ltb, le-ltb, le-leb, lt-leb, eq-eqb, ne_eqb}
+use Rattle.std.specs.Prelude.{◌≡◌, ◌≢◌, true, false, List, ℕ, ◌+◌, ◌≤◌, ◌<◌, take, length, position, eqb, get_or, is_some, Bool, Option, Some, None, Ok, Err}
+use Rattle.std.proofs.Common.{refl, sym, ap, ◌∙◌, arith}
+use Rattle.std.proofs.Math.Option as Math
+use Rattle.std.proofs.Math.Option.{none, some}
+use Rattle.std.proofs.lemmas.Option.{none-some}
+use borrow.Author.Tests.{le-ltb, le-leb, lt-leb, eq-eqb, ne_eqb}
 use Rattle.reassembly.specs.Base.{some_below}
-use Rattle.reassembly.proofs.Laws.Base.{case_o, clash, some_below_ext}
+use Rattle.reassembly.proofs.Laws.Base.{clash, some_below_ext}
 use Rattle.reassembly.specs.Take.{Seg, Fits}
 use Rattle.reassembly.specs.declared.take.Rejection.{Rejection}
-use Rattle.reassembly.specs.declared.take.Rejection.TheVariants.{Empty, FrameLength, PastEnd, LengthDiffers, AlreadyReceived, NoSlot}
+use Rattle.reassembly.specs.declared.take.Rejection.TheVariants.{AlreadyReceived, NoSlot}
 use Rattle.reference.specs.Keyed.{find, put, without}
 use Rattle.reference.proofs.Laws.Keyed.{find_key}
 use Rattle.reference.proofs.Laws.Layout.{rebuilt-length}
+use Rattle.reference.proofs.Laws.Lists.{find_absent, find_at}
 use Rattle.reference.proofs.Laws.Places.{byte_missing, byte_there}
-use Rattle.reference.specs.Reassembler.{Part, is_some, byte_at, rebuilt, repeats, rejects, part_of, most_segments}
+use Rattle.reference.specs.Reassembler as R
+use Rattle.reference.specs.Reassembler.{Part, byte_at, rebuilt, repeats, rejects, part_of, most_segments}
 use Rattle.reference.specs.Run.{rebuilt_at}
-use Rattle.reference.specs.Layout.{kept, begins, parts_in, place_in, stored, Rebuilds, added, block_at, frame_in, identifier_in, buffers_of}
-use Rattle.reference.specs.Layout.{spare, blank, Effect, leaves, settled_in, joined_in, opened_in, further_in, taken_in, rejected_of, TakenAs}
+use Rattle.reference.specs.Layout.{kept, begins, parts_in, place_in, stored, Rebuilds, added, block_at, frame_in, identifier_in, no_buffer, spare, blank}
+use Rattle.reference.specs.Layout.{refusal_of, leaves, settled_in, joined_in, opened_in, further_in, taken_in, TakenAs, Unfit, Excludes, Admits, Refuses, Joins}
+use Rattle.reference.specs.declared.answer.Refusal.{Refusal}
+use Rattle.reference.specs.declared.answer.Refusal.TheVariants.{TooManySegments}
 use Rattle.reference.specs.declared.buffer.Extent.{Extent}
 use Rattle.reference.specs.declared.buffer.Buffer.{Buffer}
-use Rattle.reference.specs.declared.list.Buffers.{Buffers}
-use Rattle.reference.specs.declared.take.Outcome.TheVariants as O
-use Rattle.reference.specs.declared.take.Taken.{Taken}
+use Rattle.reference.specs.declared.take.Progress.TheVariants.{Pending, Complete}
 
--- ---- a refusal changes nothing
+-- ---- 14
 
-refused_as : (s : Buffers) (m : List ℕ) (why : Rejection) (x : Effect) (r : Taken) → x ≡ leaves (buffers_of s) m (rejects why) → r ≡ rejected_of s why
-    → TakenAs x r m
-refused_as s m why x r e q = rw (e, q) (record { outcome = refl; buffers = refl; mem = refl })
+refused_as : (bs : List Buffer) (m : List ℕ) (why : Rejection) (x : _) → x ≡ leaves bs m (rejects why) → TakenAs x (Err (refusal_of why)) bs m
+refused_as bs m why x e = rw e (record { outcome = refl; buffers = refl; mem = refl })
 
-module _ (p : ℕ) (s : Buffers) (m : List ℕ) (g : Seg) (r : Taken) where
-  pub taken-empty : length g.bytes ≡ 0 → r ≡ rejected_of s Empty → TakenAs (taken_in p (buffers_of s) m g) r m
-  unfolding taken_in
-  taken-empty e q = refused_as s m Empty (taken_in p (buffers_of s) m g) r (rw (eq-eqb (length g.bytes) 0 e)) q
-
-  pub taken-short : length g.bytes ≢ 0 → g.frame_length < 32 → r ≡ rejected_of s FrameLength → TakenAs (taken_in p (buffers_of s) m g) r m
-  unfolding taken_in
-  taken-short n l q = refused_as s m FrameLength (taken_in p (buffers_of s) m g) r (rw (ne_eqb (length g.bytes) 0 n, lt-ltb g.frame_length 32 l)) q
-
-  pub taken_long : length g.bytes ≢ 0 → 32 ≤ g.frame_length → 1532 < g.frame_length → r ≡ rejected_of s FrameLength → TakenAs
-      (taken_in p (buffers_of s) m g) r m
-  unfolding taken_in
-  taken_long n h l q = refused_as s m FrameLength (taken_in p (buffers_of s) m g) r
-      (rw (ne_eqb (length g.bytes) 0 n, le-ltb g.frame_length 32 h, lt-ltb 1532 g.frame_length l)) q
-
-  pub taken_past : length g.bytes ≢ 0 → 32 ≤ g.frame_length → g.frame_length ≤ 1532 → g.frame_length < g.offset + length g.bytes
-      → r ≡ rejected_of s PastEnd → TakenAs (taken_in p (buffers_of s) m g) r m
-  unfolding taken_in
-  taken_past n h l o q = refused_as s m PastEnd (taken_in p (buffers_of s) m g) r
-      (rw (
-        ne_eqb (length g.bytes) 0 n,
-        le-ltb g.frame_length 32 h,
-        le-ltb 1532 g.frame_length l,
-        lt-ltb g.frame_length (g.offset + length g.bytes) o,
-      )) q
+pub unfit-refuses : (bs : List Buffer) (g : Seg) (why : Rejection) → Unfit g why → Refuses bs g (refusal_of why)
+unfit-refuses bs g why h p m = refused_as bs m why (taken_in p bs m g) (h p bs m)
 
 -- ---- 14 does not apply: by what the search found
 
 some_byte_not : (n : ℕ) → 0 < n → n ≢ 0
 some_byte_not n l e = absurd (omega arith)
 
-module _ (p : ℕ) (s : Buffers) (m : List ℕ) (g : Seg) (fits : Fits g) where
-  taken-new : find identifier_in g.identifier (buffers_of s) ≡ none → taken_in p (buffers_of s) m g ≡ opened_in p (buffers_of s) m g
+module _ (bs : List Buffer) (g : Seg) (fits : Fits g) where
+  taken-new : (p : ℕ) (m : List ℕ) → find identifier_in g.identifier bs ≡ none → taken_in p bs m g ≡ opened_in p bs m g
   unfolding taken_in
-  taken-new e = rw (
+  taken-new p m e = rw (
     ne_eqb (length g.bytes) 0 (some_byte_not (length g.bytes) fits.some_byte),
     le-ltb g.frame_length 32 fits.least,
     le-ltb 1532 g.frame_length fits.most,
@@ -72,9 +50,9 @@ module _ (p : ℕ) (s : Buffers) (m : List ℕ) (g : Seg) (fits : Fits g) where
     e,
   )
 
-  taken-further : (b : Buffer) → find identifier_in g.identifier (buffers_of s) ≡ some b → taken_in p (buffers_of s) m g ≡ further_in p (buffers_of s) m g b
+  taken-further : (p : ℕ) (m : List ℕ) (b : Buffer) → find identifier_in g.identifier bs ≡ some b → taken_in p bs m g ≡ further_in p bs m g b
   unfolding taken_in
-  taken-further b e = rw (
+  taken-further p m b e = rw (
     ne_eqb (length g.bytes) 0 (some_byte_not (length g.bytes) fits.some_byte),
     le-ltb g.frame_length 32 fits.least,
     le-ltb 1532 g.frame_length fits.most,
@@ -82,107 +60,119 @@ module _ (p : ℕ) (s : Buffers) (m : List ℕ) (g : Seg) (fits : Fits g) where
     e,
   )
 
-  module _ (r : Taken) (m' : List ℕ) where
-    pub as_new : find identifier_in g.identifier (buffers_of s) ≡ none → TakenAs (opened_in p (buffers_of s) m g) r m'
-        → TakenAs (taken_in p (buffers_of s) m g) r m'
-    as_new e t = rw (taken-new e) t
+  -- ---- the first segment of a frame
 
-    pub as_further : (b : Buffer) → find identifier_in g.identifier (buffers_of s) ≡ some b → TakenAs (further_in p (buffers_of s) m g b) r m'
-        → TakenAs (taken_in p (buffers_of s) m g) r m'
-    as_further b e t = rw (taken-further b e) t
+  module _ (new : position (λ b. eqb b.identifier g.identifier) bs ≡ None) where
+    absent : find identifier_in g.identifier bs ≡ none
+    absent = find_absent identifier_in no_buffer g.identifier bs new
 
--- ---- the first segment of a frame
+    pub new-refuses : (why : Rejection) → (why ≡ NoSlot) × (4 ≤ length bs) → Refuses bs g (refusal_of why)
+    unfolding opened_in
+    new-refuses why h p m = rw h.0 (refused_as bs m NoSlot (taken_in p bs m g) (taken-new p m absent ∙ rw (le-leb 4 (length bs) h.1)))
 
-module _ (p : ℕ) (s : Buffers) (m : List ℕ) (g : Seg) where
-  pub opened-full : (r : Taken) → 4 ≤ length (buffers_of s) → r ≡ rejected_of s NoSlot → TakenAs (opened_in p (buffers_of s) m g) r m
-  unfolding opened_in
-  opened-full r l q = refused_as s m NoSlot (opened_in p (buffers_of s) m g) r (rw (le-leb 4 (length (buffers_of s)) l)) q
-
-  pub opened_joins : (b : Buffer) (r : Taken) (m' : List ℕ) → length (buffers_of s) < 4 → b ≡ blank (spare (buffers_of s)) g.identifier g.frame_length
-      → TakenAs (joined_in p (buffers_of s) m g b) r m' → TakenAs (opened_in p (buffers_of s) m g) r m'
-  unfolding opened_in
-  opened_joins b r m' l q t = rw (lt-leb 4 (length (buffers_of s)) l, ← q) t
+    pub new-joins : (b : Buffer) → (b ≡ blank (spare bs) g.identifier g.frame_length) × (length bs < 4) → Joins bs g b
+    unfolding opened_in
+    new-joins b h =
+        rw h.0
+        (record {
+          fits = fits;
+          size = refl;
+          few = omega arith;
+          room = λ e. h.1;
+          effect = λ p m. taken-new p m absent ∙ rw (lt-leb 4 (length bs) h.1);
+        })
 
   -- ---- a further segment
 
-  module _ (b : Buffer) where
-    pub further_differs : (r : Taken) → b.frame_length ≢ g.frame_length → r ≡ rejected_of s LengthDiffers → TakenAs (further_in p (buffers_of s) m g b) r m
-    unfolding further_in
-    further_differs r n q = refused_as s m LengthDiffers (further_in p (buffers_of s) m g b) r (rw (ne_eqb b.frame_length g.frame_length n)) q
+  module _ (i : ℕ) (found : position (λ b. eqb b.identifier g.identifier) bs ≡ Some i) where
+    abbrev b : Buffer
+    b = get_or bs i no_buffer
 
-    module _ (same : b.frame_length ≡ g.frame_length) (x : Bool) (is : x ≡ repeats (frame_in p m b).parts (part_of g)) where
-      pub further-repeats : (r : Taken) → x ≡ true → r ≡ rejected_of s AlreadyReceived → TakenAs (further_in p (buffers_of s) m g b) r m
-      unfolding further_in
-      further-repeats r t q = refused_as s m AlreadyReceived (further_in p (buffers_of s) m g b) r
-          (rw (eq-eqb b.frame_length g.frame_length same, ← is, t)) q
+    present : find identifier_in g.identifier bs ≡ some b
+    present = find_at identifier_in no_buffer g.identifier bs i found
 
-      pub further-many : x ≡ false → most_segments ≤ kept b → TakenAs (further_in p (buffers_of s) m g b) (record { buffers = s; outcome = O.TooMany }) m
-      unfolding further_in
-      further-many t l = rw (eq-eqb b.frame_length g.frame_length same, ← is, t, le-leb most_segments (kept b) l)
-          (record { outcome = refl; buffers = refl; mem = refl })
+    pub further-refuses : (why : Refusal) → Excludes b g why → Refuses bs g why
+    further-refuses why h p m = rw (taken-further p m b present) (h p bs m)
 
-      pub further_joins : (r : Taken) (m' : List ℕ) → x ≡ false → kept b < most_segments → TakenAs (joined_in p (buffers_of s) m g b) r m'
-          → TakenAs (further_in p (buffers_of s) m g b) r m'
-      unfolding further_in
-      further_joins r m' t l h = rw (eq-eqb b.frame_length g.frame_length same, ← is, t, lt-leb most_segments (kept b) l) h
+    -- a frame that was found is in the list: nothing need be appended for it
+    pub further-joins : Admits b g → Joins bs g b
+    further-joins h =
+        let z : b.identifier ≡ g.identifier = find_key identifier_in g.identifier bs b present in
+        record {
+          fits = fits;
+          size = h.size;
+          few = h.few;
+          room = λ e. let y : find identifier_in g.identifier bs ≡ none = rw z at e in clash (cc (y, present));
+          effect = λ p m. taken-further p m b present ∙ h.effect p bs m;
+        }
 
--- ---- it joins its frame
-
-waits_as : (bs : List Buffer) (m : List ℕ) (b : Buffer) (gs : List Part) (x : Option (List ℕ)) (t : Buffers) → is_some x ≡ false
-    → buffers_of t ≡ put identifier_in b bs → TakenAs (settled_in bs m b gs x) (record { buffers = t; outcome = O.Pending }) m
-waits_as bs m b gs none t e q = record { outcome = refl; buffers = q; mem = refl }
-waits_as bs m b gs (some frame) t e q = clash (cc)
-
-complete_as : (bs : List Buffer) (m : List ℕ) (b : Buffer) (gs : List Part) (x : Option (List ℕ)) (t : Buffers) (m' : List ℕ) → is_some x ≡ true
-    → buffers_of t ≡ without identifier_in b.identifier bs → ((frame : List ℕ) → x ≡ some frame → m' ≡ stored m rebuilt_at frame)
-    → TakenAs (settled_in bs m b gs x) (record { buffers = t; outcome = O.Complete }) m'
-complete_as bs m b gs none t m' e q w = clash (cc)
-complete_as bs m b gs (some frame) t m' e q w = record { outcome = refl; buffers = q; mem = w frame refl }
-
-module _ (p : ℕ) (s : Buffers) (m : List ℕ) (g : Seg) (b : Buffer) (at : ℕ) (m₁ : List ℕ) (longer : Buffer) (found : Bool) (frame : List ℕ)
-    (begin : at ≡ block_at p b.block + begins b.extents (kept b)) (wrote : m₁ ≡ stored m at g.bytes)
-    (joins : longer ≡ added b g.offset (length g.bytes))
-    (built : Rebuilds (rebuilt (parts_in longer.extents m₁ (block_at p b.block) (kept longer)) longer.frame_length) found frame) where
-  abbrev parts : List Part
-  parts = parts_in longer.extents m₁ (block_at p b.block) (kept longer)
-
-  joined_is : joined_in p (buffers_of s) m g b ≡ settled_in (buffers_of s) m₁ longer parts (rebuilt parts longer.frame_length)
-  unfolding joined_in
-  joined_is = rw (joins, wrote, begin)
-
-  pub joined-waits : (t : Buffers) → found ≡ false → buffers_of t ≡ put identifier_in longer (buffers_of s)
-      → TakenAs (joined_in p (buffers_of s) m g b) (record { buffers = t; outcome = O.Pending }) m₁
-  joined-waits t e q =
-      rw joined_is (waits_as (buffers_of s) m₁ longer parts (rebuilt parts longer.frame_length) t (sym built.all_there ∙ e) q)
-
-  pub joined-complete : (t : Buffers) (m₂ : List ℕ) → found ≡ true → buffers_of t ≡ without identifier_in b.identifier (buffers_of s)
-      → m₂ ≡ stored m₁ rebuilt_at (take b.frame_length frame) → TakenAs (joined_in p (buffers_of s) m g b) (record { buffers = t; outcome = O.Complete }) m₂
-  joined-complete t m₂ e q w =
-      let id : longer.identifier ≡ b.identifier = ap (λ (x : Buffer). x.identifier) joins in
-      let size : longer.frame_length ≡ b.frame_length = ap (λ (x : Buffer). x.frame_length) joins in
-      rw joined_is
-      (complete_as (buffers_of s) m₁ longer parts (rebuilt parts longer.frame_length) t m₂ (sym built.all_there ∙ e)
-      (q ∙ ap (λ (k : ℕ). without identifier_in k (buffers_of s)) (sym id))
-      (λ bs h. w ∙ ap (stored m₁ rebuilt_at) (ap (λ (n : ℕ). take n frame) (sym size ∙ sym (rebuilt-length parts longer.frame_length bs h))
-      ∙ built.bytes bs h)))
-
--- a frame that was found is in the list: nothing need be appended for it
-pub found-room : {P : Type 0} (l : List Buffer) (id : ℕ) (b : Buffer) → find identifier_in id l ≡ some b → find identifier_in b.identifier l ≡ none → P
-found-room l id b e n =
-    let z : b.identifier ≡ id = find_key identifier_in id l b e in
-    let y : find identifier_in id l ≡ none = rw z at n in
-    clash (cc)
-
--- ---- which bytes are there already
-
-has_place : (es : List Extent) (m : List ℕ) (block n i : ℕ) → is_some (place_in es n i) ≡ is_some (byte_at (parts_in es m block n) i)
-has_place es m block n i =
-    case_o (place_in es n i)
-    (λ e. rw (e, byte_missing es m block n i e))
-    (λ at e. rw (e, byte_there es m block n i at e))
+-- which bytes are there already
+has_place : (es : List Extent) (m : List ℕ) (block n i : ℕ) → (o : Option ℕ) → place_in es n i ≡ o → is_some o ≡ R.is_some (byte_at (parts_in es m block n) i)
+has_place es m block n i None e = rw (byte_missing es m block n i e)
+has_place es m block n i (Some at) e = rw (byte_there es m block n i at e)
 
 pub repeats_places : (p : ℕ) (m : List ℕ) (b : Buffer) (g : Seg)
     → some_below (length g.bytes) (λ i. is_some (place_in b.extents (kept b) (g.offset + i))) ≡ repeats (frame_in p m b).parts (part_of g)
 unfolding repeats
 repeats_places p m b g =
-    some_below_ext (length g.bytes) _ _ (λ i l. has_place b.extents m (block_at p b.block) (kept b) (g.offset + i))
+    some_below_ext (length g.bytes) _ _ (λ i l. has_place b.extents m (block_at p b.block) (kept b) (g.offset + i) _ refl)
+
+module _ (b : Buffer) (g : Seg) where
+  module _ (same : b.frame_length ≡ g.frame_length) (x : Bool)
+      (is : x ≡ some_below (length g.bytes) (λ i. is_some (place_in b.extents (kept b) (g.offset + i)))) where
+    repeats_is : (p : ℕ) (m : List ℕ) → x ≡ repeats (frame_in p m b).parts (part_of g)
+    repeats_is p m = is ∙ repeats_places p m b g
+
+    pub excludes-repeated : x ≡ true → Excludes b g (refusal_of AlreadyReceived)
+    unfolding further_in
+    excludes-repeated t p bs m = refused_as bs m AlreadyReceived (further_in p bs m g b)
+        (rw (eq-eqb b.frame_length g.frame_length same, ← repeats_is p m, t))
+
+    pub excludes-many : x ≡ false → most_segments ≤ kept b → Excludes b g TooManySegments
+    unfolding further_in
+    excludes-many t l p bs m = rw (eq-eqb b.frame_length g.frame_length same, ← repeats_is p m, t, le-leb most_segments (kept b) l)
+        (record { outcome = refl; buffers = refl; mem = refl })
+
+    pub admits : x ≡ false → kept b < most_segments → Admits b g
+    unfolding further_in
+    admits t l =
+        record {
+          size = same;
+          few = l;
+          effect = λ p bs m. rw (eq-eqb b.frame_length g.frame_length same, ← repeats_is p m, t, lt-leb most_segments (kept b) l);
+        }
+
+-- ---- it joins its frame
+
+waits_as : (bs : List Buffer) (m : List ℕ) (b : Buffer) (gs : List Part) (x : Math.Option (List ℕ)) (t : List Buffer) → Rebuilds x None
+    → t ≡ put identifier_in b bs → TakenAs (settled_in bs m b gs x) (Ok Pending) t m
+waits_as bs m b gs none t e q = record { outcome = refl; buffers = q; mem = refl }
+waits_as bs m b gs (some frame) t e q = absurd e
+
+complete_as : (bs : List Buffer) (m : List ℕ) (b : Buffer) (gs : List Part) (x : Math.Option (List ℕ)) (t : List Buffer) (m' frame : List ℕ)
+    → Rebuilds x (Some frame) → t ≡ without identifier_in b.identifier bs
+    → ((bs : List ℕ) → x ≡ some bs → m' ≡ stored m rebuilt_at (take (length bs) frame))
+    → TakenAs (settled_in bs m b gs x) (Ok Complete) t m'
+complete_as bs m b gs none t m' frame e q w = absurd (none-some frame (sym e))
+complete_as bs m b gs (some bytes) t m' frame e q w = record { outcome = refl; buffers = q; mem = w bytes refl ∙ ap (stored m rebuilt_at) e }
+
+module _ (p : ℕ) (bs : List Buffer) (m : List ℕ) (g : Seg) (b : Buffer) (joins : Joins bs g b) (block at : ℕ) (m₁ : List ℕ) (longer : Buffer) (found : Option (List ℕ))
+    (of : block ≡ block_at p b.block) (begin : at ≡ begins b.extents (kept b)) (wrote : m₁ ≡ stored m (block + at) g.bytes)
+    (is : longer ≡ added b g.offset (length g.bytes))
+    (built : Rebuilds (rebuilt (parts_in longer.extents m₁ block (kept longer)) longer.frame_length) found) where
+  abbrev parts : List Part
+  parts = parts_in longer.extents m₁ block (kept longer)
+
+  taken_is : taken_in p bs m g ≡ settled_in bs m₁ longer parts (rebuilt parts longer.frame_length)
+  unfolding joined_in
+  taken_is = joins.effect p m ∙ rw (is, wrote, begin, of)
+
+  pub joined-waits : (t : List Buffer) → found ≡ None → t ≡ put identifier_in longer bs → TakenAs (taken_in p bs m g) (Ok Pending) t m₁
+  joined-waits t e q = rw taken_is (waits_as bs m₁ longer parts (rebuilt parts longer.frame_length) t (rw e at built) q)
+
+  pub joined-complete : (t : List Buffer) (frame m₂ : List ℕ) → found ≡ Some frame → t ≡ without identifier_in longer.identifier bs
+      → m₂ ≡ stored m₁ rebuilt_at (take longer.frame_length frame) → TakenAs (taken_in p bs m g) (Ok Complete) t m₂
+  joined-complete t frame m₂ e q w =
+      rw taken_is
+      (complete_as bs m₁ longer parts (rebuilt parts longer.frame_length) t m₂ frame (rw e at built) q
+      (λ bytes h. w ∙ ap (λ (n : ℕ). stored m₁ rebuilt_at (take n frame)) (sym (rebuilt-length parts longer.frame_length bytes h))))

@@ -1,14 +1,13 @@
--- The tick's loop over the peers, turn by turn; and a start.
-use Rattle.std.specs.Prelude.{◌≡◌, List, [], map, ℕ, ◌+◌, ◌<◌, length, get_or, set, replicate}
-use Rattle.std.proofs.Common.{sym, ap, ◌∙◌, add-one}
+-- The tick's loop over the peers, turn by turn.
+use Rattle.std.specs.Prelude.{◌≡◌, List, [], map, ℕ, ◌+◌, ◌<◌, length, get_or, set}
+use Rattle.std.proofs.Common.{sym, ap, ◌∙◌}
 use Rattle.std.proofs.lemmas.List.{length-map}
 use Rattle.std.proofs.Math.ListN.{get_or-map}
 use Rattle.reassembly.proofs.Laws.Base.{map-set}
-use Rattle.endpoint.proofs.Laws.Changed.{changed_before, before_at, before_more, before-none, before-all}
-use Rattle.endpoint.specs.Config.{Config, config_of}
+use Rattle.endpoint.proofs.Laws.Changed.{changed_before, before_turn, before-none, before-all}
+use Rattle.endpoint.specs.Config.{Config}
 use Rattle.endpoint.specs.Receive.{answers, layers}
-use Rattle.endpoint.specs.declared.config.Endpoint.{Endpoint}
-use Rattle.reference.specs.Calls.{ticked_in, left_of, begun_of}
+use Rattle.reference.specs.Calls.{ticked_in, left_of}
 use Rattle.reference.specs.Layout.{buffers_of, older_buffers}
 use Rattle.reference.specs.declared.buffer.Buffer.{Buffer}
 use Rattle.reference.specs.declared.list.Buffers.{Buffers}
@@ -29,15 +28,9 @@ pub one_older_lem : (l next : List Buffers) (p : ℕ) (s : Buffers) → p < leng
     → buffers_of s ≡ older_buffers (buffers_of (get_or next p no_buffers))
     → map buffers_of (set next p s) ≡ older_peers l (p + 1)
 one_older_lem l next p s h is now =
-    let found : buffers_of (get_or next p no_buffers) ≡ get_or (map buffers_of l) p [] =
-    sym (get_or-map buffers_of next p no_buffers)
-    ∙ ap (λ (x : List (List Buffer)). get_or x p []) is
-    ∙ before_at older_buffers (map buffers_of l) p [] (rw (length-map l buffers_of) h) in
     map-set buffers_of next p s
-    ∙ ap (λ (x : List Buffer). set (map buffers_of next) p x) (now ∙ ap older_buffers found)
-    ∙ ap (λ (x : List (List Buffer)). set x p (older_buffers (get_or (map buffers_of l) p []))) is
-    ∙ before_more older_buffers (map buffers_of l) p [] (rw (length-map l buffers_of) h)
-    ∙ ap (changed_before older_buffers (map buffers_of l)) (sym (add-one p))
+    ∙ before_turn older_buffers (map buffers_of l) (map buffers_of next) p (buffers_of s) [] (rw (length-map l buffers_of) h) is
+    (now ∙ ap older_buffers (sym (get_or-map buffers_of next p no_buffers)))
 
 pub all-older : (l : List Buffers) (p : ℕ) → p ≡ length l → older_peers l p ≡ map older_buffers (map buffers_of l)
 all-older l p h = ap (changed_before older_buffers (map buffers_of l)) (h ∙ sym (length-map l buffers_of)) ∙ before-all older_buffers (map buffers_of l)
@@ -45,8 +38,3 @@ all-older l p h = ap (changed_before older_buffers (map buffers_of l)) (h ∙ sy
 pub ticked_is : (r next : Reassembler) (m : List ℕ) → next.endpoint ≡ r.endpoint → map buffers_of next.peers ≡ map older_buffers (map buffers_of r.peers)
     → left_of next m ≡ ticked_in answers Config layers (left_of r m)
 ticked_is r next m e q = rw (e, q)
-
--- ---- a start: no peer has a frame
-
-pub begun_is : (e : Endpoint) (s : Buffers) (m : List ℕ) → buffers_of s ≡ [] → left_of (record { endpoint = e; peers = replicate 8 s }) m ≡ begun_of e m
-begun_is e s m q = ap (λ (x : List Buffer). record { config = config_of e; peers = replicate 8 x; mem = m }) q

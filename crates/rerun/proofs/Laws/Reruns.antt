@@ -1,5 +1,5 @@
 -- What rerun promises (Reruns.antt), proved.
-use Rattle.std.specs.Prelude.{ℕ, ◌+◌, ◌≤◌, ◌<◌, ◌≡◌, ◌≢◌, ltb, length, take}
+use Rattle.std.specs.Prelude.{ℕ, ◌+◌, ◌≤◌, ◌<◌, ◌≡◌, ◌≢◌, ltb, length, take, Result}
 use Rattle.std.proofs.Math.Path.{refl, ap}
 use Rattle.std.proofs.Common.{sym, subst, ◌∙◌, arith, eq-eqb, ne_eqb, ltb-true, ltb-false, take_all, length-take-le}
 use Rattle.std.proofs.Math.Bool.{true}
@@ -24,9 +24,11 @@ use Rattle.trace.specs.Reader.{begins_trace}
 use Rattle.trace.proofs.Laws.Reads.{header_body}
 use Rattle.trace.proofs.Laws.Traces.{traces}
 use Rattle.rerun.specs.Rerun.{answered, line_text, loaded, event_of, said_of, lines_of, bad_trace, bad_settings}
+use Rattle.rerun.specs.declared.input.Phase.TheVariants as P
 use Rattle.rerun.specs.Standing.{ending, records_text, trace_text, output_of, Standing, goes_on}
 use Rattle.rerun.specs.Reruns.{Call, Calls, pieces, written, last, Writes, Reruns}
 use Rattle.rerun.proofs.Laws.WorkedRerun.{worked_rerun}
+use Rattle.endpoint.specs.declared.answer.Drop.{Drop}
 
 -- ---- what is written
 
@@ -99,7 +101,7 @@ accounted settings b g =
     let f : SavedFrom settings = (images.load settings b).exact.only g in
     subst Accounts (sym ((images.load settings b).set_up_from f)) (accounting f.own f.port f.mtu f.adds)
 
-stops : (x : Standing) → x.phase ≡ 2 → (t : List ℕ) → goes_on x t ≡ bad_trace
+stops : (x : Standing) → x.phase ≡ P.Broken → (t : List ℕ) → goes_on x t ≡ bad_trace
 unfolding goes_on
 stops x p t = rw p refl
 
@@ -117,10 +119,10 @@ follows w n (x ∷ rs) r =
     ∙ sym (append_assoc (line_text (n + 1) (said_of w x)) _ _)
 
 -- what is told of an answer
-said : (w : Left) (k : List ℕ) (a : Received) → (step_of w.endpoint w.mem k).answer ≡ a
+said : (w : Left) (k : List ℕ) (a : Result Received Drop) → (step_of w.endpoint w.mem k).answer ≡ a
     → said_of w (packet k) ≡ answered (values_of a).number (values_of a).tenant
 unfolding said_of
-said w k a e = ap (λ (x : Received). answered (values_of x).number (values_of x).tenant) e
+said w k a e = ap (λ (x : Result Received Drop). answered (values_of x).number (values_of x).tenant) e
 
 pub reruns : Reruns
 reruns = record {

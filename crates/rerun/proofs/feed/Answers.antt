@@ -1,14 +1,23 @@
 -- `rerun::feed` meets its contract.
-use Prim.Native.Nat.{◌≤◌}
-use native.Mathlib.Omega.{arith}
-use lib.ListN.{length, take}
-use Rattle.rerun.proofs.Laws.Standing.{ready-any, fed_told}
+use Rattle.std.specs.Prelude.{◌≡◌, ◌≤◌, length, take}
+use Rattle.std.proofs.Common.{refl, arith, length-take}
+use Rattle.rerun.specs.Standing.{standing, Ready}
 use Rattle.rerun.proofs.feed.Goals as goal
+use Rattle.rerun.proofs.feed.Goals.{in-Ok, in-Err}
 
-pub returns-clause-by_index_2 : goal.returns-clause-by_index_2
-returns-clause-by_index_2 g c m = ready-any c.advance-fed.result.run _ _ m c.advance-fed.ensures.fed.ready
+pub returns-then-n-eq0-clause-ready_2 : goal.returns-then-n-eq0-clause-ready_2
+unfolding standing Ready
+returns-then-n-eq0-clause-ready_2 g c m = elim c.match-read_some.branch [ in-Ok b ↦ rw b.run-is (c.requires.ready m) | in-Err b ↦ rw b.run-is tt ]
+
+pub returns-clause-ready_2 : goal.returns-clause-ready_2
+unfolding standing Ready
+returns-clause-ready_2 g c m = c.advance-length.ensures.fed.ready
 
 pub returns-clause-number_bound_2 : goal.returns-clause-number_bound_2
+unfolding standing
 returns-clause-number_bound_2 g c =
-    let few : length (take c.in-Ok.n c.read_some.new.buf) ≤ 32768 = omega (arith, c.in-Ok.ensures.ok, c.requires.piece_len_bound, c.read_some.auto.buf) in
-    omega (arith, fed_told c.args.run c.advance-fed.result.run _ _ _ _ _ _ c.advance-fed.ensures.fed, few)
+    let same : c.match-read_some.run.number ≡ c.args.run.now.number =
+    elim c.match-read_some.branch [ in-Ok b ↦ rw b.run-is refl | in-Err b ↦ rw b.run-is refl ] in
+    let few : length (take c.match-read_some.n c.read_some.new.buf) ≤ 32768 =
+    simp length-take (omega (arith, c.requires.piece_len_bound, c.read_some.auto.buf)) in
+    omega (arith, c.advance-length.ensures.fed.told, same, few)

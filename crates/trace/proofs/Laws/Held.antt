@@ -1,24 +1,21 @@
 -- Bytes taken behind those held: laws for the proofs of the code.
-use Rattle.std.specs.Prelude.{◌≡◌, List, [], ◌++◌, false, ℕ, ◌+◌, ◌-◌, ◌≤◌, ◌<◌, min, ltb, length, get_or, take, drop}
-use Rattle.std.proofs.Common.{sym, ap, ◌∙◌, append_assoc, append-nil, add-zero, arith, length-append, length-take, length-drop, take-append-drop, take_at, take-take, length-take-le}
-use Rattle.std.proofs.Math.Bool.{true}
-use borrow.Author.Tests.{eq-eqb, ne_eqb, ltb-true, ltb-false}
-use Rattle.std.proofs.Math.Seq.{take-length}
+use Rattle.std.specs.Prelude.{◌≡◌, Bool, true, false, List, ◌++◌, Option, Some, None, Result, Ok, Err, ℕ, ◌+◌, ◌-◌, ◌≤◌, ◌<◌, min, length, get_or, take, drop}
+use Rattle.std.proofs.Common.{sym, ap, ◌∙◌, append_assoc, arith, length-append, length-take, length-drop, take-append-drop, drop-drop, take_at, length-take-le}
+use borrow.Author.Tests.{eq-eqb, ne_eqb}
+use Rattle.std.proofs.Math.Seq.{take-add, take-length}
 use Rattle.wire.specs.Bytes.{be_at}
 use Rattle.wire.specs.Field.{field}
-use Rattle.wire.proofs.Laws.Bytes.{case_b, be_one, be-take, be_front}
+use Rattle.wire.proofs.Laws.Bytes.{be_one, be-take, be_front}
 use Rattle.wire.proofs.Laws.Field.{field_in}
-use Rattle.trace.specs.Reader.{headed, header_at, header_end, packet_length, packet_most, record_most, record_at, record_end}
+use Rattle.trace.specs.Reader.{bytes_of, Fed, bad, headed, header_at, header_end, packet_length, packet_most, record_most, record_at, record_end}
 use Rattle.trace.proofs.Laws.Reader.{stands-nothing, stands-tick, stands-other, stands-short, stands-large, stands-cut, stands-packet}
 use Rattle.trace.proofs.Laws.Reader.{header-short, header-stands, header-other}
-use Rattle.trace.specs.declared.reader.Event.{Event}
-use Rattle.trace.specs.declared.reader.Event.TheVariants as E
-use Rattle.trace.specs.declared.reader.Fed.{Fed}
+use Rattle.trace.specs.declared.reader.Broken.{Broken}
+use Rattle.trace.specs.declared.reader.Complete.{Complete}
+use Rattle.trace.specs.declared.reader.Complete.TheVariants as C
+use Rattle.trace.specs.declared.reader.Reader.{Reader}
 
 -- ---- bytes laid behind those held
-
-pub fill_none : (m : List ℕ) (at : ℕ) → take (at + 0) m ≡ take at m ++ []
-fill_none m at = ap (λ (n : ℕ). take n m) (add-zero at) ∙ sym (append-nil (take at m))
 
 pub fill-fits : (m p : List ℕ) (at r : ℕ) → r ≤ length m - at → length (take r p) ≤ length (take (length m - at) (drop at m))
 fill-fits m p at r h = simp (length-take, length-drop) (omega arith)
@@ -38,208 +35,190 @@ filled m p at r ys fits some e =
     ∙ ap (take (at + r)) (ap (λ (l : List ℕ). take at m ++ l) (append_assoc s x y) ∙ sym (append_assoc (take at m) s (x ++ y)))
     ∙ take_at (take at m ++ s) (x ++ y) (at + r) n
 
--- ---- what such a filling says of all the bytes: those held first, and the piece
+-- ---- what `fill` says of all the bytes: those held first, and the piece
 
--- n bytes of the piece are taken behind the first `count` of m, up to `want` in all, which gives m'
-pub record Taken (m piece : List ℕ) (count want : ℕ) (m' : List ℕ) (n : ℕ) : Type 0 where
-  pub is : n ≡ min (want - count) (length piece)
-  pub held : take (count + n) m' ≡ take count m ++ take n piece
+-- until `want` are held, or the piece is used up
+abbrev pub Filled : (want : ℕ) (r : Reader) (piece : List ℕ) (r' : Reader) (piece' : List ℕ) → Type 0
+Filled want r piece r' piece' = Fed (min want (r.count + length piece)) r piece r' piece'
 
-module _ {m piece : List ℕ} {count want : ℕ} {m' : List ℕ} {n : ℕ} (x : Taken m piece count want m' n) (room : want ≤ length m) where
-  all-length : length (take count m ++ piece) ≡ min count (length m) + length piece
-  all-length = length-append (take count m) piece ∙ ap (λ (k : ℕ). k + length piece) (length-take count m)
-
-  part_length : length (take count m ++ take n piece) ≡ min count (length m) + n
-  part_length =
-      length-append (take count m) (take n piece)
-      ∙ omega (arith, length-take count m, length-take-le n piece (omega (arith, x.is)))
-
-  -- too few
-  few : count + n < want → length (take count m ++ piece) < want
-  few h = omega (arith, x.is, all-length)
-
-  few_used : count + n < want → length (take count m ++ piece) - count ≡ n
-  few_used h = omega (arith, x.is, all-length)
-
-  -- enough
-  enough : want ≤ count + n → want ≤ length (take count m ++ piece)
-  enough h = omega (arith, x.is, all-length)
-
-  enough_used : want ≤ count + n → want - count ≡ n
-  enough_used h = omega (arith, x.is)
-
-  -- then the bytes held are the first of all
-  module _ (h : want ≤ count + n) (at k : ℕ) (w : at + k ≤ want) where
-    held_in : at + k ≤ length m'
-    held_in = omega (arith, length-take (count + n) m', ap length x.held, part_length, x.is)
-
-    held_at : be_at m' at k ≡ be_at (take count m ++ piece) at k
-    held_at =
-        let p : List ℕ = take count m ++ take n piece in
-        let all : take count m ++ piece ≡ p ++ drop n piece =
-        ap (λ (l : List ℕ). take count m ++ l) (sym (take-append-drop n piece)) ∙ sym (append_assoc (take count m) (take n piece) (drop n piece)) in
-        sym (be-take m' (count + n) at k (omega arith)) ∙ ap (λ (l : List ℕ). be_at l at k) x.held
-        ∙ sym (be_front p (drop n piece) at k (omega (arith, part_length, x.is))) ∙ ap (λ (l : List ℕ). be_at l at k) (sym all)
-
-    held-field : field m' at k ≡ be_at (take count m ++ piece) at k
-    held-field = field_in m' at k held_in ∙ held_at
-
-  held_first : want ≤ count + n → 1 ≤ want → get_or m' 0 0 ≡ get_or (take count m ++ piece) 0 0
-  held_first h w = sym (be_one m' 0) ∙ held_at h 0 1 w ∙ be_one (take count m ++ piece) 0
-
-  -- and the bytes held before are held
-  kept : take count m' ≡ take count m
-  kept =
-      sym (take-take count (count + n) m' (omega arith)) ∙ ap (take count) x.held
-      ∙ case_b (ltb (length m) count)
-      (λ e.
-      let z : n ≡ 0 = omega (arith, ltb-true (length m) count e, x.is) in
-      rw z (ap (take count) (append-nil (take count m)) ∙ take-take count count m (omega arith)))
-      (λ e. take_at (take count m) (take n piece) count (length-take-le count m (ltb-false (length m) count e)))
+-- to another end that takes as many
+fed_to : {end end' : ℕ} {r : Reader} {piece : List ℕ} {r' : Reader} {piece' : List ℕ} → Fed end r piece r' piece' → end - r.count ≡ end' - r.count
+    → Fed end' r piece r' piece'
+fed_to x e = record { count = rw (← e) x.count; held = rw (← e) x.held; rest = rw (← e) x.rest }
 
 -- filled again, and further
-again : {m piece : List ℕ} {count want : ℕ} {m' : List ℕ} {n : ℕ} → Taken m piece count want m' n → want ≤ length m
-    → {want₂ : ℕ} {m₂ : List ℕ} {n₂ : ℕ} → Taken m' piece count want₂ m₂ n₂ → Taken m piece count want₂ m₂ n₂
-again {piece = piece} x w {n₂ = n₂} y = record { is = y.is; held = y.held ∙ ap (λ (l : List ℕ). l ++ take n₂ piece) (kept x w) }
+again : {want : ℕ} {r : Reader} {piece : List ℕ} {r₁ : Reader} {piece₁ : List ℕ} → Filled want r piece r₁ piece₁
+    → {want₂ : ℕ} {r₂ : Reader} {piece₂ : List ℕ} → want ≤ want₂ → Filled want₂ r₁ piece₁ r₂ piece₂ → Filled want₂ r piece r₂ piece₂
+again {want} {r} {piece} {r₁} {piece₁} x {want₂} w y =
+    let n : ℕ = min want (r.count + length piece) - r.count in
+    let n₂ : ℕ = min want₂ (r₁.count + length piece₁) - r₁.count in
+    let left : length piece₁ ≡ length piece - n = ap length x.rest ∙ length-drop n piece in
+    let sum : min want₂ (r.count + length piece) - r.count ≡ n + n₂ = omega (arith, x.count) in
+    record {
+      count = omega (arith, x.count, y.count);
+      held =
+          y.held ∙ ap (λ (l : List ℕ). l ++ take n₂ piece₁) x.held ∙ ap (λ (l : List ℕ). (bytes_of r ++ take n piece) ++ take n₂ l) x.rest
+          ∙ append_assoc (bytes_of r) (take n piece) (take n₂ (drop n piece))
+          ∙ ap (λ (l : List ℕ). bytes_of r ++ l) (sym (take-add n n₂ piece) ∙ ap (λ (k : ℕ). take k piece) (sym sum));
+      rest = y.rest ∙ ap (drop n₂) x.rest ∙ drop-drop n₂ n piece ∙ ap (λ (k : ℕ). drop k piece) (sym sum);
+    }
 
--- ---- what is returned is what the contract says
+module _ {want : ℕ} {r : Reader} {piece : List ℕ} {r' : Reader} {piece' : List ℕ} (x : Filled want r piece r' piece')
+    (size : length r.held ≡ record_most) (room : want ≤ record_most) where
+  abbrev all : List ℕ
+  all = bytes_of r ++ piece
 
-abbrev pub Says : Fed → Event → ℕ → ℕ → Type 0
-Says r e n count = (r.event ≡ e) × ((r.used ≡ n) × (r.count ≡ count + n))
+  all-length : length all ≡ min r.count record_most + length piece
+  all-length = length-append (bytes_of r) piece ∙ omega (arith, length-take r.count r.held)
 
-abbrev pub Meets : (List ℕ → Event) → (List ℕ → ℕ) → (m piece : List ℕ) → ℕ → List ℕ → Fed → Type 0
-Meets at end m piece count m' r =
-    (r.event ≡ at (take count m ++ piece))
-    × ((r.used ≡ end (take count m ++ piece) - count) × ((r.count ≡ count + r.used) × (take r.count m' ≡ take count m ++ take r.used piece)))
+  -- too few
+  few : r'.count < want → length all < want
+  few h = omega (arith, x.count, all-length)
 
-meets : (at : List ℕ → Event) (end : List ℕ → ℕ) (m piece : List ℕ) (count : ℕ) (m' : List ℕ) (n : ℕ) (e : Event) (k : ℕ) (r : Fed) → Says r e n count
-    → at (take count m ++ piece) ≡ e → end (take count m ++ piece) ≡ k → k - count ≡ n → take (count + n) m' ≡ take count m ++ take n piece
-    → Meets at end m piece count m' r
-meets at end m piece count m' n e k r z a b d h =
-    let u : r.used ≡ n = z.1.0 in
-    let c : r.count ≡ count + n = z.1.1 in
-    (z.0 ∙ sym a, (rw (u, b, d), (rw (u, c), rw (c, u) h)))
+  few_end : r'.count < want → min want (r.count + length piece) - r.count ≡ length all - r.count
+  few_end h = omega (arith, x.count, all-length)
 
-module _ (m piece : List ℕ) (count : ℕ) (size : length m ≡ record_most) where
-  -- the header
-  module _ (m₁ : List ℕ) (n₁ : ℕ) (t : Taken m piece count 5 m₁ n₁) (r : Fed) where
-    room5 : 5 ≤ length m
-    room5 = omega (arith, size)
+  -- enough
+  enough : want ≤ r'.count → want ≤ length all
+  enough h = omega (arith, x.count, all-length)
 
-    pub header_exit_short : count + n₁ < 5 → Says r E.More n₁ count → Meets header_at header_end m piece count m₁ r
-    header_exit_short h z =
-        let x = header-short (take count m ++ piece) (few t room5 h) in
-        meets header_at header_end m piece count m₁ n₁ E.More (length (take count m ++ piece)) r z x.event x.end (few_used t room5 h) t.held
+  enough_end : want ≤ r'.count → min want (r.count + length piece) - r.count ≡ want - r.count
+  enough_end h = omega (arith, x.count)
 
-    module _ (h : 5 ≤ count + n₁) (l : ℕ) (l-is : l ≡ field m₁ 0 3) where
-      letters : l ≡ be_at (take count m ++ piece) 0 3
-      letters = l-is ∙ held-field t room5 h 0 3 (omega arith)
+  -- then the bytes held are the first of all
+  module _ (size' : length r'.held ≡ record_most) (h : want ≤ r'.count) (at k : ℕ) (w : at + k ≤ want) where
+    held_at : be_at r'.held at k ≡ be_at all at k
+    held_at =
+        let n : ℕ = min want (r.count + length piece) - r.count in
+        let p : List ℕ = bytes_of r ++ take n piece in
+        let some : at + k ≤ length p =
+        omega (arith, x.count, length-append (bytes_of r) (take n piece), length-take r.count r.held, length-take n piece) in
+        let e : all ≡ p ++ drop n piece =
+        ap (λ (l : List ℕ). bytes_of r ++ l) (sym (take-append-drop n piece)) ∙ sym (append_assoc (bytes_of r) (take n piece) (drop n piece)) in
+        sym (be-take r'.held r'.count at k (omega arith)) ∙ ap (λ (l : List ℕ). be_at l at k) x.held
+        ∙ sym (be_front p (drop n piece) at k some) ∙ ap (λ (l : List ℕ). be_at l at k) (sym e)
 
-      version : (v : ℕ) → v ≡ field m₁ 3 2 → v ≡ be_at (take count m ++ piece) 3 2
-      version v e = e ∙ held-field t room5 h 3 2 (omega arith)
+    held-field : field r'.held at k ≡ be_at all at k
+    held-field = field_in r'.held at k (omega arith) ∙ held_at
 
-      not_headed : headed (take count m ++ piece) ≡ false → Says r E.Broken n₁ count → Meets header_at header_end m piece count m₁ r
-      not_headed f z =
-          let x = header-other (take count m ++ piece) (enough t room5 h) f in
-          meets header_at header_end m piece count m₁ n₁ E.Broken 5 r z x.event x.end (enough_used t room5 h) t.held
+  held_first : length r'.held ≡ record_most → want ≤ r'.count → 1 ≤ want → get_or r'.held 0 0 ≡ get_or all 0 0
+  held_first size' h w = sym (be_one r'.held 0) ∙ held_at size' h 0 1 w ∙ be_one all 0
 
-      pub header_exit_letters : (l ≡ 0x545250 → ⊥) → Says r E.Broken n₁ count → Meets header_at header_end m piece count m₁ r
+-- ---- each exit is what the contract says
+
+-- the header
+module _ {r : Reader} {piece : List ℕ} {r' : Reader} {piece' : List ℕ} (x : Filled 5 r piece r' piece')
+    (size : length r.held ≡ record_most) where
+  abbrev HeaderSays : Result Bool Broken → Type 0
+  HeaderSays e = (e ≡ header_at (bytes_of r ++ piece)) × Fed (header_end (bytes_of r ++ piece)) r piece r' piece'
+
+  pub header_exit_short : r'.count < 5 → HeaderSays (Ok false)
+  header_exit_short h =
+      let s = header-short (bytes_of r ++ piece) (few x size (omega arith) h) in
+      (sym s.event, fed_to x (few_end x size (omega arith) h ∙ ap (λ (n : ℕ). n - r.count) (sym s.end)))
+
+  module _ (size' : length r'.held ≡ record_most) (h : 5 ≤ r'.count) where
+    letters : field r'.held 0 3 ≡ be_at (bytes_of r ++ piece) 0 3
+    letters = held-field x size (omega arith) size' h 0 3 (omega arith)
+
+    version : field r'.held 3 2 ≡ be_at (bytes_of r ++ piece) 3 2
+    version = held-field x size (omega arith) size' h 3 2 (omega arith)
+
+    not_headed : headed (bytes_of r ++ piece) ≡ false → HeaderSays (Err bad)
+    not_headed f =
+        let s = header-other (bytes_of r ++ piece) (enough x size (omega arith) h) f in
+        (sym s.event, fed_to x (enough_end x size (omega arith) h ∙ ap (λ (n : ℕ). n - r.count) (sym s.end)))
+
+    pub header_exit_letters : (field r'.held 0 3 ≡ 0x545250 → ⊥) → HeaderSays (Err bad)
+    unfolding headed
+    header_exit_letters f = not_headed (rw (ne_eqb (be_at (bytes_of r ++ piece) 0 3) 0x545250 (λ e. f (letters ∙ e))))
+
+    module _ (g : field r'.held 0 3 ≡ 0x545250) where
+      pub header_exit_version : (field r'.held 3 2 ≡ 1 → ⊥) → HeaderSays (Err bad)
       unfolding headed
-      header_exit_letters f z = not_headed (rw (ne_eqb (be_at (take count m ++ piece) 0 3) 0x545250 (λ e. f (letters ∙ e)))) z
+      header_exit_version f =
+          not_headed
+          (rw (
+            eq-eqb (be_at (bytes_of r ++ piece) 0 3) 0x545250 (sym letters ∙ g),
+            ne_eqb (be_at (bytes_of r ++ piece) 3 2) 1 (λ e. f (version ∙ e)),
+          ))
 
-      module _ (g : l ≡ 0x545250) (v : ℕ) (v-is : v ≡ field m₁ 3 2) where
-        pub header_exit_version : (v ≡ 1 → ⊥) → Says r E.Broken n₁ count → Meets header_at header_end m piece count m₁ r
-        unfolding headed
-        header_exit_version f z =
-            not_headed
-            (rw (
-              eq-eqb (be_at (take count m ++ piece) 0 3) 0x545250 (sym letters ∙ g),
-              ne_eqb (be_at (take count m ++ piece) 3 2) 1 (λ e. f (version v v-is ∙ e)),
-            )) z
+      pub header_exit : field r'.held 3 2 ≡ 1 → HeaderSays (Ok true)
+      unfolding headed
+      header_exit f =
+          let y : headed (bytes_of r ++ piece) ≡ true =
+          rw (eq-eqb (be_at (bytes_of r ++ piece) 0 3) 0x545250 (sym letters ∙ g), eq-eqb (be_at (bytes_of r ++ piece) 3 2) 1 (sym version ∙ f)) in
+          let s = header-stands (bytes_of r ++ piece) (enough x size (omega arith) h) y in
+          (sym s.event, fed_to x (enough_end x size (omega arith) h ∙ ap (λ (n : ℕ). n - r.count) (sym s.end)))
 
-        pub header_exit : v ≡ 1 → Says r E.Header n₁ count → Meets header_at header_end m piece count m₁ r
-        unfolding headed
-        header_exit f z =
-            let y : headed (take count m ++ piece) ≡ true =
-            rw (eq-eqb (be_at (take count m ++ piece) 0 3) 0x545250 (sym letters ∙ g), eq-eqb (be_at (take count m ++ piece) 3 2) 1 (sym (version v v-is) ∙ f)) in
-            let x = header-stands (take count m ++ piece) (enough t room5 h) y in
-            meets header_at header_end m piece count m₁ n₁ E.Header 5 r z x.event x.end (enough_used t room5 h) t.held
+-- a record
+module _ {r : Reader} {piece : List ℕ} {r₁ : Reader} {piece₁ : List ℕ} (x : Filled 1 r piece r₁ piece₁)
+    (size : length r.held ≡ record_most) where
+  abbrev Says : Result (Option Complete) Broken → (r' : Reader) (piece' : List ℕ) → Type 0
+  Says e r' piece' = (e ≡ record_at (bytes_of r ++ piece)) × Fed (record_end (bytes_of r ++ piece)) r piece r' piece'
 
-  -- a record
-  module _ (m₁ : List ℕ) (n₁ : ℕ) (t : Taken m piece count 1 m₁ n₁) (r : Fed) where
-    room1 : 1 ≤ length m
-    room1 = omega (arith, size)
+  pub exit_nothing : r₁.count < 1 → Says (Ok None) r₁ piece₁
+  exit_nothing h =
+      let s = stands-nothing (bytes_of r ++ piece) (few x size (omega arith) h) in
+      (sym s.event, fed_to x (omega (arith, x.count, s.end)))
 
-    pub exit_nothing : count + n₁ < 1 → Says r E.More n₁ count → Meets record_at record_end m piece count m₁ r
-    exit_nothing h z =
-        let f : length (take count m ++ piece) < 1 = few t room1 h in
-        let x = stands-nothing (take count m ++ piece) f in
-        meets record_at record_end m piece count m₁ n₁ E.More 0 r z x.event x.end (omega (arith, few_used t room1 h)) t.held
+  module _ (size₁ : length r₁.held ≡ record_most) (h : 1 ≤ r₁.count) where
+    some : 1 ≤ length (bytes_of r ++ piece)
+    some = enough x size (omega arith) h
 
-    module _ (h : 1 ≤ count + n₁) where
-      some : 1 ≤ length (take count m ++ piece)
-      some = enough t room1 h
+    tag : get_or r₁.held 0 0 ≡ get_or (bytes_of r ++ piece) 0 0
+    tag = held_first x size (omega arith) size₁ h (omega arith)
 
-      tag : get_or m₁ 0 0 ≡ get_or (take count m ++ piece) 0 0
-      tag = held_first t room1 h (omega arith)
+    pub exit_tick : get_or r₁.held 0 0 ≡ 1 → Says (Ok (Some C.Tick)) r₁ piece₁
+    exit_tick f =
+        let s = stands-tick (bytes_of r ++ piece) some (sym tag ∙ f) in
+        (sym s.event, fed_to x (enough_end x size (omega arith) h ∙ ap (λ (n : ℕ). n - r.count) (sym s.end)))
 
-      pub exit_tick : get_or m₁ 0 0 ≡ 1 → Says r E.Tick n₁ count → Meets record_at record_end m piece count m₁ r
-      exit_tick f z =
-          let x = stands-tick (take count m ++ piece) some (sym tag ∙ f) in
-          meets record_at record_end m piece count m₁ n₁ E.Tick 1 r z x.event x.end (enough_used t room1 h) t.held
+    pub exit_other : (get_or r₁.held 0 0 ≡ 1 → ⊥) → (get_or r₁.held 0 0 ≡ 2 → ⊥) → Says (Err bad) r₁ piece₁
+    exit_other f g =
+        let s = stands-other (bytes_of r ++ piece) some (λ e. f (tag ∙ e)) (λ e. g (tag ∙ e)) in
+        (sym s.event, fed_to x (enough_end x size (omega arith) h ∙ ap (λ (n : ℕ). n - r.count) (sym s.end)))
 
-      pub exit_other : (get_or m₁ 0 0 ≡ 1 → ⊥) → (get_or m₁ 0 0 ≡ 2 → ⊥) → Says r E.Broken n₁ count → Meets record_at record_end m piece count m₁ r
-      exit_other f g z =
-          let x = stands-other (take count m ++ piece) some (λ e. f (tag ∙ e)) (λ e. g (tag ∙ e)) in
-          meets record_at record_end m piece count m₁ n₁ E.Broken 1 r z x.event x.end (enough_used t room1 h) t.held
+    module _ (g : get_or r₁.held 0 0 ≡ 2) {r₂ : Reader} {piece₂ : List ℕ} (y : Filled 3 r₁ piece₁ r₂ piece₂) where
+      two : get_or (bytes_of r ++ piece) 0 0 ≡ 2
+      two = sym tag ∙ g
 
-      module _ (g : get_or m₁ 0 0 ≡ 2) (m₂ : List ℕ) (n₂ : ℕ) (t₂ : Taken m₁ piece count 3 m₂ n₂) where
-        two : get_or (take count m ++ piece) 0 0 ≡ 2
-        two = sym tag ∙ g
+      head : Filled 3 r piece r₂ piece₂
+      head = again x (omega arith) y
 
-        u₂ : Taken m piece count 3 m₂ n₂
-        u₂ = again t room1 t₂
+      pub exit_short : r₂.count < 3 → Says (Ok None) r₂ piece₂
+      exit_short k =
+          let s = stands-short (bytes_of r ++ piece) some two (few head size (omega arith) k) in
+          (sym s.event, fed_to head (few_end head size (omega arith) k ∙ ap (λ (n : ℕ). n - r.count) (sym s.end)))
 
-        room3 : 3 ≤ length m
-        room3 = omega (arith, size)
+      module _ (size₂ : length r₂.held ≡ record_most) (k : 3 ≤ r₂.count) (v : ℕ) (v-is : v ≡ field r₂.held 1 2) where
+        headed_by : 3 ≤ length (bytes_of r ++ piece)
+        headed_by = enough head size (omega arith) k
 
-        pub exit_short : count + n₂ < 3 → Says r E.More n₂ count → Meets record_at record_end m piece count m₂ r
-        exit_short k z =
-            let x = stands-short (take count m ++ piece) some two (few u₂ room3 k) in
-            meets record_at record_end m piece count m₂ n₂ E.More (length (take count m ++ piece)) r z x.event x.end (few_used u₂ room3 k) u₂.held
+        size_is : v ≡ packet_length (bytes_of r ++ piece)
+        unfolding packet_length
+        size_is = v-is ∙ held-field head size (omega arith) size₂ k 1 2 (omega arith)
 
-        module _ (k : 3 ≤ count + n₂) (v : ℕ) (v-is : v ≡ field m₂ 1 2) where
-          head : 3 ≤ length (take count m ++ piece)
-          head = enough u₂ room3 k
+        pub exit_large : packet_most < v → Says (Err bad) r₂ piece₂
+        exit_large l =
+            let s = stands-large (bytes_of r ++ piece) headed_by two (omega (arith, size_is)) in
+            (sym s.event, fed_to head (enough_end head size (omega arith) k ∙ ap (λ (n : ℕ). n - r.count) (sym s.end)))
 
-          size_is : v ≡ packet_length (take count m ++ piece)
-          unfolding packet_length
-          size_is = v-is ∙ held-field u₂ room3 k 1 2 (omega arith)
+        module _ (l : v ≤ packet_most) {r₃ : Reader} {piece₃ : List ℕ} (z : Filled (3 + v) r₂ piece₂ r₃ piece₃) where
+          small : packet_length (bytes_of r ++ piece) ≤ packet_most
+          small = omega (arith, size_is)
 
-          pub exit_large : packet_most < v → Says r E.Broken n₂ count → Meets record_at record_end m piece count m₂ r
-          exit_large l z =
-              let x = stands-large (take count m ++ piece) head two (rw (← size_is) l) in
-              meets record_at record_end m piece count m₂ n₂ E.Broken 3 r z x.event x.end (enough_used u₂ room3 k) u₂.held
+          whole : Filled (3 + packet_length (bytes_of r ++ piece)) r piece r₃ piece₃
+          whole = rw (← size_is) (again head (omega arith) z)
 
-          module _ (l : v ≤ packet_most) (m₃ : List ℕ) (n₃ : ℕ) (t₃ : Taken m₂ piece count (3 + v) m₃ n₃) where
-            small : packet_length (take count m ++ piece) ≤ packet_most
-            small = rw (← size_is) l
+          pub exit_cut : r₃.count < 3 + v → Says (Ok None) r₃ piece₃
+          exit_cut o =
+              let o' : r₃.count < 3 + packet_length (bytes_of r ++ piece) = omega (arith, size_is) in
+              let s = stands-cut (bytes_of r ++ piece) headed_by two small (few whole size (omega (arith, small)) o') in
+              (sym s.event, fed_to whole (few_end whole size (omega (arith, small)) o' ∙ ap (λ (n : ℕ). n - r.count) (sym s.end)))
 
-            u₃ : Taken m piece count (3 + packet_length (take count m ++ piece)) m₃ n₃
-            u₃ = rw (← size_is) (again u₂ room3 t₃)
-
-            room : 3 + packet_length (take count m ++ piece) ≤ length m
-            room = omega (arith, size, small)
-
-            pub exit_cut : count + n₃ < 3 + v → Says r E.More n₃ count → Meets record_at record_end m piece count m₃ r
-            exit_cut o z =
-                let o' : count + n₃ < 3 + packet_length (take count m ++ piece) = rw (← size_is) o in
-                let x = stands-cut (take count m ++ piece) head two small (few u₃ room o') in
-                meets record_at record_end m piece count m₃ n₃ E.More (length (take count m ++ piece)) r z x.event x.end (few_used u₃ room o') u₃.held
-
-            pub exit_packet : 3 + v ≤ count + n₃ → Says r E.Packet n₃ count → Meets record_at record_end m piece count m₃ r
-            exit_packet o z =
-                let o' : 3 + packet_length (take count m ++ piece) ≤ count + n₃ = rw (← size_is) o in
-                let x = stands-packet (take count m ++ piece) head two small (enough u₃ room o') in
-                meets record_at record_end m piece count m₃ n₃ E.Packet (3 + packet_length (take count m ++ piece)) r z x.event x.end
-                (enough_used u₃ room o') u₃.held
+          pub exit_packet : 3 + v ≤ r₃.count → Says (Ok (Some C.Packet)) r₃ piece₃
+          exit_packet o =
+              let o' : 3 + packet_length (bytes_of r ++ piece) ≤ r₃.count = omega (arith, size_is) in
+              let s = stands-packet (bytes_of r ++ piece) headed_by two small (enough whole size (omega (arith, small)) o') in
+              (sym s.event, fed_to whole (enough_end whole size (omega (arith, small)) o' ∙ ap (λ (n : ℕ). n - r.count) (sym s.end)))

@@ -1,5 +1,6 @@
 -- What bytes held and a piece behind them give, whatever follows: the laws of the reader.
-use Rattle.std.specs.Prelude.{◌≡◌, refl, Bool, true, false, List, [], ◌++◌, ℕ, zero, suc, ◌+◌, ◌-◌, ◌≤◌, ◌<◌, min, ltb, eqb, get_or, take, drop}
+use Rattle.std.specs.Prelude.{◌≡◌, refl, Bool, true, false, List, [], ◌++◌, Option, Some, None, Result, Ok, Err, ℕ, zero, suc, ◌+◌, ◌-◌, ◌≤◌, ◌<◌, min, ltb}
+use Rattle.std.specs.Prelude.{eqb, get_or, take, drop}
 use Rattle.std.proofs.Common.{sym, ap₂, ◌∙◌, append_assoc, arith, length-drop, length-take-le}
 use Rattle.std.proofs.Math.Path.{ap}
 use borrow.Author.Tests.{ltb-true, ltb-false, eqb-true, eqb-false, lt-ltb, le-ltb, le-leb, lt-leb, ne_eqb}
@@ -10,35 +11,36 @@ use Rattle.lookup.proofs.Laws.Cases.{clash}
 use Rattle.wire.specs.Bytes.{part}
 use Rattle.wire.proofs.Laws.Bytes.{case_b, be_front, drop-take, part_is}
 use Rattle.trace.specs.Trace.{tick, packet}
-use Rattle.trace.specs.declared.reader.Event.{Event}
-use Rattle.trace.specs.declared.reader.Event.TheVariants as E
-use Rattle.trace.specs.Reader.{headed, header_at, header_end, begins_trace, packet_length, packet_most, record_most, record_at, record_end}
+use Rattle.trace.specs.declared.reader.Broken.{Broken}
+use Rattle.trace.specs.declared.reader.Complete.{Complete}
+use Rattle.trace.specs.declared.reader.Complete.TheVariants as C
+use Rattle.trace.specs.Reader.{bad, headed, header_at, header_end, begins_trace, packet_length, packet_most, record_most, record_at, record_end}
 use Rattle.trace.specs.Reader.{Reading, behind, stopped, read_next, read_by, read_of, HeaderWaits, Waits}
 
 -- ---- what stands at the front, by cases
 
 -- the event that the front of s gives, and where it ends
-pub record Stands (s : List ℕ) (e : Event) (n : ℕ) : Type 0 where
+pub record Stands (s : List ℕ) (e : Result (Option Complete) Broken) (n : ℕ) : Type 0 where
   pub event : record_at s ≡ e
   pub end : record_end s ≡ n
 
 module _ (s : List ℕ) where
-  pub stands-nothing : length s < 1 → Stands s E.More 0
+  pub stands-nothing : length s < 1 → Stands s (Ok None) 0
   unfolding record_at record_end
   stands-nothing a = record { event = rw (lt-ltb (length s) 1 a); end = rw (lt-ltb (length s) 1 a) }
 
-  pub stands-tick : 1 ≤ length s → get_or s 0 0 ≡ 1 → Stands s E.Tick 1
+  pub stands-tick : 1 ≤ length s → get_or s 0 0 ≡ 1 → Stands s (Ok (Some C.Tick)) 1
   unfolding record_at record_end
   stands-tick a b = record { event = rw (le-ltb (length s) 1 a, b); end = rw (le-ltb (length s) 1 a, b) }
 
-  pub stands-other : 1 ≤ length s → (get_or s 0 0 ≡ 1 → ⊥) → (get_or s 0 0 ≡ 2 → ⊥) → Stands s E.Broken 1
+  pub stands-other : 1 ≤ length s → (get_or s 0 0 ≡ 1 → ⊥) → (get_or s 0 0 ≡ 2 → ⊥) → Stands s (Err bad) 1
   unfolding record_at record_end
   stands-other a b c = record {
     event = rw (le-ltb (length s) 1 a, ne_eqb (get_or s 0 0) 1 b, ne_eqb (get_or s 0 0) 2 c);
     end = rw (le-ltb (length s) 1 a, ne_eqb (get_or s 0 0) 2 c);
   }
 
-  pub stands-short : 1 ≤ length s → get_or s 0 0 ≡ 2 → length s < 3 → Stands s E.More (length s)
+  pub stands-short : 1 ≤ length s → get_or s 0 0 ≡ 2 → length s < 3 → Stands s (Ok None) (length s)
   unfolding record_at record_end
   stands-short a b c = record {
     event = rw (le-ltb (length s) 1 a, b, lt-ltb (length s) 3 c);
@@ -46,7 +48,7 @@ module _ (s : List ℕ) where
   }
 
   module _ (a : 3 ≤ length s) (b : get_or s 0 0 ≡ 2) where
-    pub stands-large : packet_most < packet_length s → Stands s E.Broken 3
+    pub stands-large : packet_most < packet_length s → Stands s (Err bad) 3
     unfolding record_at record_end
     stands-large c = record {
       event = rw (le-ltb (length s) 1 (omega arith), b, le-ltb (length s) 3 a, lt-ltb packet_most (packet_length s) c);
@@ -54,7 +56,7 @@ module _ (s : List ℕ) where
     }
 
     module _ (c : packet_length s ≤ packet_most) where
-      pub stands-cut : length s < 3 + packet_length s → Stands s E.More (length s)
+      pub stands-cut : length s < 3 + packet_length s → Stands s (Ok None) (length s)
       unfolding record_at record_end
       stands-cut d = record {
         event = rw (
@@ -67,7 +69,7 @@ module _ (s : List ℕ) where
         end = rw (le-ltb (length s) 1 (omega arith), b, le-ltb (length s) 3 a, le-ltb packet_most (packet_length s) c, lt-ltb (length s) (3 + packet_length s) d);
       }
 
-      pub stands-packet : 3 + packet_length s ≤ length s → Stands s E.Packet (3 + packet_length s)
+      pub stands-packet : 3 + packet_length s ≤ length s → Stands s (Ok (Some C.Packet)) (3 + packet_length s)
       unfolding record_at record_end
       stands-packet d = record {
         event = rw (
@@ -108,14 +110,14 @@ front s =
 pub record IsTick (s : List ℕ) : Type 0 where
   pub some : 1 ≤ length s
   pub tag : get_or s 0 0 ≡ 1
-  pub is : Stands s E.Tick 1
+  pub is : Stands s (Ok (Some C.Tick)) 1
 
 pub record IsPacket (s : List ℕ) : Type 0 where
   pub head : 3 ≤ length s
   pub tag : get_or s 0 0 ≡ 2
   pub small : packet_length s ≤ packet_most
   pub complete : 3 + packet_length s ≤ length s
-  pub is : Stands s E.Packet (3 + packet_length s)
+  pub is : Stands s (Ok (Some C.Packet)) (3 + packet_length s)
 
 pub data IsBroken (s : List ℕ) : Type 0 where
   no_tag : 1 ≤ length s → (get_or s 0 0 ≡ 1 → ⊥) → (get_or s 0 0 ≡ 2 → ⊥) → IsBroken s
@@ -126,14 +128,13 @@ pub data Lacks (s : List ℕ) : Type 0 where
   its_length : 1 ≤ length s → get_or s 0 0 ≡ 2 → length s < 3 → Lacks s
   its_bytes : 3 ≤ length s → get_or s 0 0 ≡ 2 → packet_length s ≤ packet_most → length s < 3 + packet_length s → Lacks s
 
-abbrev pub Told : Event → List ℕ → Type 0
-Told E.More s = Lacks s
-Told E.Header s = ⊥
-Told E.Tick s = IsTick s
-Told E.Packet s = IsPacket s
-Told E.Broken s = IsBroken s
+abbrev pub Told : Result (Option Complete) Broken → List ℕ → Type 0
+Told (Ok None) s = Lacks s
+Told (Ok (Some C.Tick)) s = IsTick s
+Told (Ok (Some C.Packet)) s = IsPacket s
+Told (Err e) s = IsBroken s
 
-pub told : (s : List ℕ) (e : Event) → record_at s ≡ e → Told e s
+pub told : (s : List ℕ) (e : Result (Option Complete) Broken) → record_at s ≡ e → Told e s
 told s e r = rw (← r) (by (front s))
   where
     by : Front s → Told (record_at s) s
@@ -146,11 +147,8 @@ told s e r = rw (← r) (by (front s))
     by (all a b c d) =
         rw (stands-packet s a b c d).event (record { head = a; tag = b; small = c; complete = d; is = stands-packet s a b c d })
 
-pub never_header : (s : List ℕ) → record_at s ≡ E.Header → ⊥
-never_header s r = told s E.Header r
-
 lacks : (h : List ℕ) → Waits h → Lacks h
-lacks h w = told h E.More w
+lacks h w = told h (Ok None) w
 
 -- ---- what more bytes behind them change
 
@@ -163,7 +161,7 @@ unfolding packet_length
 length_stays s t a = be_front s t 1 2 a
 
 -- what is given stays, and ends where it did
-pub stays : (s t : List ℕ) (e : Event) → record_at s ≡ e → (e ≡ E.More → ⊥) → Stands (s ++ t) e (record_end s)
+pub stays : (s t : List ℕ) (e : Result (Option Complete) Broken) → record_at s ≡ e → (e ≡ (Ok None) → ⊥) → Stands (s ++ t) e (record_end s)
 stays s t e r m = by (front s)
   where
     n : length (s ++ t) ≡ length s + length t
@@ -333,48 +331,48 @@ module _ (h piece : List ℕ) (c : ℕ) (l : length h ≡ c) (w : Waits h) where
     all_of : h ++ (piece ++ t) ≡ (h ++ piece) ++ t
     all_of = sym (append_assoc h piece t)
 
-    pub tick-read : record_at (h ++ piece) ≡ E.Tick → read_of (h ++ (piece ++ t)) ≡ behind tick (read_of (drop (record_end (h ++ piece) - c) piece ++ t))
+    pub tick-read : record_at (h ++ piece) ≡ Ok (Some C.Tick) → read_of (h ++ (piece ++ t)) ≡ behind tick (read_of (drop (record_end (h ++ piece) - c) piece ++ t))
     tick-read r =
-        let x : Stands (h ++ piece ++ t) E.Tick (record_end (h ++ piece)) = stays (h ++ piece) t E.Tick r (λ e. clash (cc)) in
-        let y : record_at (h ++ (piece ++ t)) ≡ E.Tick = ap record_at all_of ∙ x.event in
-        let z : record_end (h ++ piece) ≡ 1 = (told (h ++ piece) E.Tick r).is.end in
+        let x : Stands (h ++ piece ++ t) (Ok (Some C.Tick)) (record_end (h ++ piece)) = stays (h ++ piece) t (Ok (Some C.Tick)) r (λ e. clash (cc)) in
+        let y : record_at (h ++ (piece ++ t)) ≡ Ok (Some C.Tick) = ap record_at all_of ∙ x.event in
+        let z : record_end (h ++ piece) ≡ 1 = (told (h ++ piece) (Ok (Some C.Tick)) r).is.end in
         read_next_lem (h ++ (piece ++ t)) ∙ rw y (ap (λ (u : List ℕ). behind tick (read_of u)) (ap (λ (n : ℕ). drop n (h ++ (piece ++ t))) (sym z) ∙ left t))
 
-    pub packet-read : record_at (h ++ piece) ≡ E.Packet
+    pub packet-read : record_at (h ++ piece) ≡ Ok (Some C.Packet)
         → read_of (h ++ (piece ++ t))
         ≡ behind (packet (drop 3 (h ++ take (record_end (h ++ piece) - c) piece))) (read_of (drop (record_end (h ++ piece) - c) piece ++ t))
     packet-read r =
         let e : ℕ = record_end (h ++ piece) in
         let u : List ℕ = h ++ (piece ++ t) in
-        let x : Stands (h ++ piece ++ t) E.Packet e = stays (h ++ piece) t E.Packet r (λ e. clash (cc)) in
-        let y : record_at u ≡ E.Packet = ap record_at all_of ∙ x.event in
-        let z : 3 + packet_length u ≡ e = sym (told u E.Packet y).is.end ∙ ap record_end all_of ∙ x.end in
+        let x : Stands (h ++ piece ++ t) (Ok (Some C.Packet)) e = stays (h ++ piece) t (Ok (Some C.Packet)) r (λ e. clash (cc)) in
+        let y : record_at u ≡ Ok (Some C.Packet) = ap record_at all_of ∙ x.event in
+        let z : 3 + packet_length u ≡ e = sym (told u (Ok (Some C.Packet)) y).is.end ∙ ap record_end all_of ∙ x.end in
         let k : packet_length u ≡ e - 3 = omega arith in
         let p : part u 3 (3 + packet_length u) ≡ drop 3 (h ++ take (e - c) piece) =
         ap (part u 3) z ∙ part_is u 3 e ∙ sym (drop-take 3 e u)
         ∙ ap (drop 3) (ap (take e) all_of ∙ take-append-le e (h ++ piece) t (ends_within (h ++ piece)) ∙ sym held) in
         read_next_lem u ∙ rw y (ap₂ (λ (a b : List ℕ). behind (packet a) (read_of b)) p (ap (λ (n : ℕ). drop n u) z ∙ left t))
 
-    pub broken-read : record_at (h ++ piece) ≡ E.Broken → read_of (h ++ (piece ++ t)) ≡ stopped (h ++ (piece ++ t))
+    pub broken-read : record_at (h ++ piece) ≡ Err bad → read_of (h ++ (piece ++ t)) ≡ stopped (h ++ (piece ++ t))
     broken-read r =
-        let x : Stands (h ++ piece ++ t) E.Broken (record_end (h ++ piece)) = stays (h ++ piece) t E.Broken r (λ e. clash (cc)) in
-        let y : record_at (h ++ (piece ++ t)) ≡ E.Broken = ap record_at all_of ∙ x.event in
+        let x : Stands (h ++ piece ++ t) (Err bad) (record_end (h ++ piece)) = stays (h ++ piece) t (Err bad) r (λ e. clash (cc)) in
+        let y : record_at (h ++ (piece ++ t)) ≡ Err bad = ap record_at all_of ∙ x.event in
         read_next_lem (h ++ (piece ++ t)) ∙ rw y
 
-    pub broken-some : record_at (h ++ piece) ≡ E.Broken → 0 < length (h ++ (piece ++ t))
-    broken-some r = omega (arith, broken-length (told (h ++ piece) E.Broken r), ap length all_of, length-append (h ++ piece) t)
+    pub broken-some : record_at (h ++ piece) ≡ Err bad → 0 < length (h ++ (piece ++ t))
+    broken-some r = omega (arith, broken-length (told (h ++ piece) (Err bad) r), ap length all_of, length-append (h ++ piece) t)
 
   -- the bytes of a packet are held, behind tag and length
-  pub packet-held : record_at (h ++ piece) ≡ E.Packet
+  pub packet-held : record_at (h ++ piece) ≡ Ok (Some C.Packet)
       → (3 ≤ length (h ++ take (record_end (h ++ piece) - c) piece)) × (length (h ++ take (record_end (h ++ piece) - c) piece) ≤ record_most)
   packet-held r =
       let n : length (h ++ take (record_end (h ++ piece) - c) piece) ≡ record_end (h ++ piece) =
       ap length held ∙ length-take-le (record_end (h ++ piece)) (h ++ piece) (ends_within (h ++ piece)) in
-      let b : IsPacket (h ++ piece) = told (h ++ piece) E.Packet r in
+      let b : IsPacket (h ++ piece) = told (h ++ piece) (Ok (Some C.Packet)) r in
       (omega arith, omega arith)
 
   -- where more is asked for, all of the piece is taken, and what is held waits again
-  module _ (r : record_at (h ++ piece) ≡ E.More) where
+  module _ (r : record_at (h ++ piece) ≡ Ok None) where
     pub more_used : record_end (h ++ piece) - c ≡ length piece
     more_used = omega (arith, waits-all (h ++ piece) r, length-append h piece)
 
@@ -386,21 +384,21 @@ module _ (h piece : List ℕ) (c : ℕ) (l : length h ≡ c) (w : Waits h) where
 
 -- ---- the header likewise
 
-pub record HeaderStands (s : List ℕ) (e : Event) (n : ℕ) : Type 0 where
+pub record HeaderStands (s : List ℕ) (e : Result Bool Broken) (n : ℕ) : Type 0 where
   pub event : header_at s ≡ e
   pub end : header_end s ≡ n
 
 module _ (s : List ℕ) where
-  pub header-short : length s < 5 → HeaderStands s E.More (length s)
+  pub header-short : length s < 5 → HeaderStands s (Ok false) (length s)
   unfolding header_at header_end
   header-short a = record { event = rw (lt-ltb (length s) 5 a); end = rw (lt-ltb (length s) 5 a) }
 
   module _ (a : 5 ≤ length s) where
-    pub header-stands : headed s ≡ true → HeaderStands s E.Header 5
+    pub header-stands : headed s ≡ true → HeaderStands s (Ok true) 5
     unfolding header_at header_end
     header-stands b = record { event = rw (le-ltb (length s) 5 a, b); end = rw (le-ltb (length s) 5 a) }
 
-    pub header-other : headed s ≡ false → HeaderStands s E.Broken 5
+    pub header-other : headed s ≡ false → HeaderStands s (Err bad) 5
     unfolding header_at header_end
     header-other b = record { event = rw (le-ltb (length s) 5 a, b); end = rw (le-ltb (length s) 5 a) }
 
@@ -413,14 +411,12 @@ record Fewer (s : List ℕ) : Type 0 where
   few : length s < 5
   end : header_end s ≡ length s
 
-abbrev HeaderTold : Event → List ℕ → Type 0
-HeaderTold E.More s = Fewer s
-HeaderTold E.Header s = Five s true
-HeaderTold E.Tick s = ⊥
-HeaderTold E.Packet s = ⊥
-HeaderTold E.Broken s = Five s false
+abbrev HeaderTold : Result Bool Broken → List ℕ → Type 0
+HeaderTold (Ok false) s = Fewer s
+HeaderTold (Ok true) s = Five s true
+HeaderTold (Err e) s = Five s false
 
-header-told : (s : List ℕ) (e : Event) → header_at s ≡ e → HeaderTold e s
+header-told : (s : List ℕ) (e : Result Bool Broken) → header_at s ≡ e → HeaderTold e s
 header-told s e r =
     rw (← r) (
     case_b (ltb (length s) 5)
@@ -438,7 +434,7 @@ unfolding headed
 headed_stays s t a = rw (be_front s t 0 3 (omega arith), be_front s t 3 2 (omega arith))
 
 pub header-waits-short : (h : List ℕ) → HeaderWaits h → length h < 5
-header-waits-short h w = (header-told h E.More w).few
+header-waits-short h w = (header-told h (Ok false) w).few
 
 -- bytes too few for a header begin no trace
 pub header-waits-read : (h : List ℕ) → HeaderWaits h → begins_trace h ≡ false
@@ -476,30 +472,24 @@ module _ (h piece : List ℕ) (c : ℕ) (l : length h ≡ c) (w : HeaderWaits h)
         let n : length (h ++ (piece ++ t)) ≡ length (h ++ piece) + length t = ap length all_is ∙ length-append (h ++ piece) t in
         rw (le-leb 5 (length (h ++ (piece ++ t))) (omega (arith, x.some))) (ap headed all_is ∙ headed_stays (h ++ piece) t x.some ∙ x.is)
 
-    pub header_read : header_at (h ++ piece) ≡ E.Header → begins_trace (h ++ (piece ++ t)) ≡ true
-    header_read r = begins_so true (header-told (h ++ piece) E.Header r)
+    pub header_read : header_at (h ++ piece) ≡ Ok true → begins_trace (h ++ (piece ++ t)) ≡ true
+    header_read r = begins_so true (header-told (h ++ piece) (Ok true) r)
 
-    pub header-behind : header_at (h ++ piece) ≡ E.Header → drop 5 (h ++ (piece ++ t)) ≡ drop (header_end (h ++ piece) - c) piece ++ t
+    pub header-behind : header_at (h ++ piece) ≡ Ok true → drop 5 (h ++ (piece ++ t)) ≡ drop (header_end (h ++ piece) - c) piece ++ t
     header-behind r =
-        let z : header_end (h ++ piece) ≡ 5 = (header-told (h ++ piece) E.Header r).end in
+        let z : header_end (h ++ piece) ≡ 5 = (header-told (h ++ piece) (Ok true) r).end in
         ap (λ (n : ℕ). drop n (h ++ (piece ++ t))) (sym z)
         ∙ cut_left h piece c (header_end (h ++ piece)) l header-from (header_ends_within (h ++ piece)) t
 
-    pub header-broken : header_at (h ++ piece) ≡ E.Broken → begins_trace (h ++ (piece ++ t)) ≡ false
-    header-broken r = begins_so false (header-told (h ++ piece) E.Broken r)
+    pub header-broken : header_at (h ++ piece) ≡ Err bad → begins_trace (h ++ (piece ++ t)) ≡ false
+    header-broken r = begins_so false (header-told (h ++ piece) (Err bad) r)
 
-  module _ (r : header_at (h ++ piece) ≡ E.More) where
+  module _ (r : header_at (h ++ piece) ≡ Ok false) where
     pub header-more_used : header_end (h ++ piece) - c ≡ length piece
-    header-more_used = omega (arith, (header-told (h ++ piece) E.More r).end, length-append h piece)
+    header-more_used = omega (arith, (header-told (h ++ piece) (Ok false) r).end, length-append h piece)
 
     pub header-more-held : h ++ take (header_end (h ++ piece) - c) piece ≡ h ++ piece
     header-more-held = ap (λ (l : List ℕ). h ++ l) (ap (λ (n : ℕ). take n piece) header-more_used ∙ take-length piece)
 
     pub header-more-left : drop (header_end (h ++ piece) - c) piece ≡ []
     header-more-left = ap (λ (n : ℕ). drop n piece) header-more_used ∙ drop-length piece
-
-pub never_tick : (s : List ℕ) → header_at s ≡ E.Tick → ⊥
-never_tick s r = header-told s E.Tick r
-
-pub never_packet : (s : List ℕ) → header_at s ≡ E.Packet → ⊥
-never_packet s r = header-told s E.Packet r

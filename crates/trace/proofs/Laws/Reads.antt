@@ -1,5 +1,5 @@
 -- The records that are read are those of the form, and no others.
-use Rattle.std.specs.Prelude.{◌≡◌, refl, true, ◌↔◌, leb, eqb, get_or, drop}
+use Rattle.std.specs.Prelude.{◌≡◌, refl, true, ◌↔◌, Option, Some, None, Result, Ok, Err, leb, eqb, get_or, drop}
 use Rattle.std.proofs.Math.Path.{sym, ap}
 use Rattle.std.proofs.Common.{ap₂, ◌∙◌, arith, eqb-true, leb-true, le-leb, length-drop, drop_at}
 use mathlib.Core.List.{List, [], ◌∷◌, ◌++◌, append_assoc}
@@ -12,8 +12,9 @@ use Rattle.wire.proofs.Laws.Bytes.{be-length, be_one, be_front, be-behind, be_va
 use Rattle.trace.specs.Trace.{Record, tick, packet, record_bytes, Allowed, records_bytes, AllAllowed, header, NoRecord, Reads}
 use Rattle.trace.specs.Reader.{headed, begins_trace, packet_length, packet_most, record_at, behind, stopped, read_next, read_of}
 use Rattle.trace.proofs.Laws.Reader.{told, IsTick, IsPacket, stands-tick, stands-packet, read_next_lem}
-use Rattle.trace.specs.declared.reader.Event.{Event}
-use Rattle.trace.specs.declared.reader.Event.TheVariants as E
+use Rattle.trace.specs.declared.reader.Broken.{Broken}
+use Rattle.trace.specs.declared.reader.Complete.{Complete}
+use Rattle.trace.specs.declared.reader.Complete.TheVariants as C
 
 -- ---- what stands at the front is a record of the form
 
@@ -109,17 +110,16 @@ read_record (packet k) w t =
 none_read : (s : List ℕ) → Bytes s → NoRecord s → read_of s ≡ stopped s
 none_read s b none = read_next_lem s ∙ by (record_at s) refl
   where
-    by : (e : Event) → record_at s ≡ e → read_next e s read_of ≡ stopped s
-    by E.More r = refl
-    by E.Header r = refl
-    by E.Tick r = absurd (none tick (drop 1 s) tt (tick_form s b (told s E.Tick r)))
-    by E.Packet r =
-        let x : IsPacket s = told s E.Packet r in
+    by : (e : Result (Option Complete) Broken) → record_at s ≡ e → read_next e s read_of ≡ stopped s
+    by (Ok None) r = refl
+    by (Ok (Some C.Tick)) r = absurd (none tick (drop 1 s) tt (tick_form s b (told s (Ok (Some C.Tick)) r)))
+    by (Ok (Some C.Packet)) r =
+        let x : IsPacket s = told s (Ok (Some C.Packet)) r in
         absurd (none (packet (part s 3 (3 + packet_length s))) (drop (3 + packet_length s) s) (packet_allowed s x) (packet_form s b x))
-    by E.Broken r = refl
+    by (Err e) r = refl
 
 -- and where none is given, none stands
-none-stands : (s : List ℕ) (e : Event) → record_at s ≡ e → (e ≡ E.Tick → ⊥) → (e ≡ E.Packet → ⊥) → NoRecord s
+none-stands : (s : List ℕ) (e : Result (Option Complete) Broken) → record_at s ≡ e → (e ≡ (Ok (Some C.Tick)) → ⊥) → (e ≡ (Ok (Some C.Packet)) → ⊥) → NoRecord s
 none-stands s e r f g tick t w q = f (sym r ∙ ap record_at q ∙ (tick-stands t).is.event)
 none-stands s e r f g (packet k) t w q = g (sym r ∙ ap record_at q ∙ (packet-stands k t w).is.event)
 
@@ -137,21 +137,20 @@ unfolding records_bytes
 nothing_read s none = record { is = refl; allowed = tt; stops = none }
 
 module _ (s : List ℕ) (b : Bytes s) (shorter : (t : List ℕ) → length t < length s → Bytes t → Reads t (read_of t).records (read_of t).rest) where
-  reads-step : (e : Event) → record_at s ≡ e → Reads s (read_next e s read_of).records (read_next e s read_of).rest
-  reads-step E.More r = nothing_read s (none-stands s E.More r (λ q. clash (cc)) (λ q. clash (cc)))
-  reads-step E.Header r = nothing_read s (none-stands s E.Header r (λ q. clash (cc)) (λ q. clash (cc)))
-  reads-step E.Tick r =
-      let x : IsTick s = told s E.Tick r in
+  reads-step : (e : Result (Option Complete) Broken) → record_at s ≡ e → Reads s (read_next e s read_of).records (read_next e s read_of).rest
+  reads-step (Ok None) r = nothing_read s (none-stands s (Ok None) r (λ q. clash (cc)) (λ q. clash (cc)))
+  reads-step (Ok (Some C.Tick)) r =
+      let x : IsTick s = told s (Ok (Some C.Tick)) r in
       let t : List ℕ = drop 1 s in
       one_more s t tick (read_of t).records (read_of t).rest tt (tick_form s b x)
       (shorter t (omega (arith, length-drop 1 s, x.some)) (bytes_drop s b 1))
-  reads-step E.Packet r =
-      let x : IsPacket s = told s E.Packet r in
+  reads-step (Ok (Some C.Packet)) r =
+      let x : IsPacket s = told s (Ok (Some C.Packet)) r in
       let n : ℕ = 3 + packet_length s in
       let t : List ℕ = drop n s in
       one_more s t (packet (part s 3 n)) (read_of t).records (read_of t).rest (packet_allowed s x) (packet_form s b x)
       (shorter t (omega (arith, length-drop n s, x.head)) (bytes_drop s b n))
-  reads-step E.Broken r = nothing_read s (none-stands s E.Broken r (λ q. clash (cc)) (λ q. clash (cc)))
+  reads-step (Err e) r = nothing_read s (none-stands s (Err e) r (λ q. clash (cc)) (λ q. clash (cc)))
 
 reads_by : (n : ℕ) (s : List ℕ) → length s < n → Bytes s → Reads s (read_of s).records (read_of s).rest
 reads_by zero s l b = absurd (omega arith)

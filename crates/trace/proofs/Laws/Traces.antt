@@ -1,5 +1,5 @@
 -- `traces`: reading a trace does what THE STATEMENT (Traces.antt) says.
-use Rattle.std.specs.Prelude.{◌≡◌, refl, true, false, List, [], ◌∷◌, ◌++◌, ℕ, zero, suc, ◌+◌, ◌-◌, ◌<◌, length, drop}
+use Rattle.std.specs.Prelude.{◌≡◌, refl, Bool, true, false, List, [], ◌∷◌, ◌++◌, Option, Some, None, Result, Ok, Err, ℕ, zero, suc, ◌+◌, ◌-◌, ◌<◌, length, drop}
 use Rattle.std.proofs.Common.{sym, ap, ap₂, ◌∙◌, append_assoc, append-nil, arith, length-drop, drop-drop}
 use Rattle.std.proofs.Math.Seq.{drop-append_seam}
 use Rattle.lookup.proofs.Laws.Cases.{clash}
@@ -9,13 +9,14 @@ use Rattle.trace.specs.Trace.{Record, tick, packet, records_bytes, Reads, Outcom
 use Rattle.trace.specs.Reader.{header_at, header_end, begins_trace, record_at, record_end, Reading, behind, read_of, HeaderWaits, Waits}
 use Rattle.trace.specs.Traces.{kept, left, Gives, joined, Records, done, next, more, given, broken}
 use Rattle.trace.specs.Traces.{Run, too_short, next-piece, more-header, header-given, no_header, Traces}
-use Rattle.trace.proofs.Laws.Reader.{empty-waits, waits-read, tick-read, packet-read, broken-read, more-held, more_left, used_some, never_header}
+use Rattle.trace.proofs.Laws.Reader.{empty-waits, waits-read, tick-read, packet-read, broken-read, more-held, more_left, used_some}
 use Rattle.trace.proofs.Laws.Reader.{empty-header-waits, header-waits-read, header_read, header-behind, header-broken, header-more-held, header-more-left}
-use Rattle.trace.proofs.Laws.Reader.{header_used_some, never_tick, never_packet}
+use Rattle.trace.proofs.Laws.Reader.{header_used_some}
 use Rattle.trace.proofs.Laws.Reads.{reads, only, begins, header_body}
 use Rattle.trace.proofs.Laws.WorkedTrace.{worked_trace}
-use Rattle.trace.specs.declared.reader.Event.{Event}
-use Rattle.trace.specs.declared.reader.Event.TheVariants as E
+use Rattle.trace.specs.declared.reader.Broken.{Broken}
+use Rattle.trace.specs.declared.reader.Complete.{Complete}
+use Rattle.trace.specs.declared.reader.Complete.TheVariants as C
 
 -- ---- what is given call by call is what all the pieces read as
 
@@ -76,16 +77,15 @@ abbrev Ended : List ℕ → List (List ℕ) → Type 0
 Ended h ps = (rs : List Record) × (rest : List ℕ) × Records h ps rs rest
 
 module _ (h p : List ℕ) (ps : List (List ℕ)) (w : Waits h) (on : (k : List ℕ) → Waits k → Ended k (left record_end h p ∷ ps)) where
-  step : (e : Event) → record_at (h ++ p) ≡ e → Ended h (p ∷ ps)
-  step E.More r =
+  step : (e : Result (Option Complete) Broken) → record_at (h ++ p) ≡ e → Ended h (p ∷ ps)
+  step (Ok None) r =
       let x = on (kept record_end h p) (ap record_at (more-held h p (length h) refl w r) ∙ r) in
       (x.0, x.1, more r x.2)
-  step E.Header r = absurd (never_header (h ++ p) r)
-  step E.Tick r = let x = on [] empty-waits in (tick ∷ x.0, x.1, given {r = tick} r x.2)
-  step E.Packet r =
+  step (Ok (Some C.Tick)) r = let x = on [] empty-waits in (tick ∷ x.0, x.1, given {r = tick} r x.2)
+  step (Ok (Some C.Packet)) r =
       let x = on [] empty-waits in
       (packet (drop 3 (kept record_end h p)) ∷ x.0, x.1, given {r = packet (drop 3 (kept record_end h p))} (r, refl) x.2)
-  step E.Broken r = ([], h ++ (p ++ joined ps), broken r)
+  step (Err e) r = ([], h ++ (p ++ joined ps), broken r)
 
 piece_ends : (n : ℕ) (h p : List ℕ) (ps : List (List ℕ)) → Waits h → length p < n → ((k : List ℕ) → Waits k → Ended k ps) → Ended h (p ∷ ps)
 piece_ends zero h p ps w l on = absurd (omega arith)
@@ -103,16 +103,14 @@ abbrev RunEnded : List ℕ → List (List ℕ) → Type 0
 RunEnded h ps = (o : Outcome) × Run h ps o
 
 module _ (h p : List ℕ) (ps : List (List ℕ)) (w : HeaderWaits h) (on : (k : List ℕ) → HeaderWaits k → RunEnded k (left header_end h p ∷ ps)) where
-  header-step : (e : Event) → header_at (h ++ p) ≡ e → RunEnded h (p ∷ ps)
-  header-step E.More r =
+  header-step : (e : Result Bool Broken) → header_at (h ++ p) ≡ e → RunEnded h (p ∷ ps)
+  header-step (Ok false) r =
       let x = on (kept header_end h p) (ap header_at (header-more-held h p (length h) refl w r) ∙ r) in
       (x.0, more-header r x.1)
-  header-step E.Header r =
+  header-step (Ok true) r =
       let x = records_end (left header_end h p ∷ ps) [] empty-waits in
       (read x.0 x.1, header-given r x.2)
-  header-step E.Tick r = absurd (never_tick (h ++ p) r)
-  header-step E.Packet r = absurd (never_packet (h ++ p) r)
-  header-step E.Broken r = (no_trace, no_header r)
+  header-step (Err e) r = (no_trace, no_header r)
 
 header-piece_ends : (n : ℕ) (h p : List ℕ) (ps : List (List ℕ)) → HeaderWaits h → length p < n
     → ((k : List ℕ) → HeaderWaits k → RunEnded k ps) → RunEnded h (p ∷ ps)

@@ -1,5 +1,5 @@
 -- Laws of ordered checks.
-use Rattle.std.specs.Prelude.{◌≡◌, ℕ, zero, suc, Bool, true, false, not, ◌||◌, List, [], ◌∷◌, ◌==◌, ◌≢◌, refl}
+use Rattle.std.specs.Prelude.{◌≡◌, ℕ, zero, suc, Bool, true, false, not, ◌||◌, List, [], ◌∷◌, ◌==◌, ◌≢◌, refl, Result, Ok, Err}
 use Rattle.std.proofs.Common.{ltb-true, ltb-false, leb-true, leb-false, eqb-true, eq-eqb, lt-ltb, le-ltb, le-leb, ne_eqb}
 use Rattle.std.proofs.lemmas.Bool.{not-false, lt-leb}
 use Rattle.wire.specs.Checks.{Check, ◌⇒◌, pick, first, Passed}
@@ -36,6 +36,10 @@ passed refused ((true ⇒ r) ∷ checks) accepted x n e = absurd (n r e)
 passed refused ((false ⇒ r) ∷ checks) accepted x n e =
     let p = passed refused checks accepted x n e in
     ((refl, p.0), p.1)
+
+-- of a reader: what it gives passed every check
+pub through : {R A : Type 0} (checks : List (Check R)) (accepted : Result A R) (x : A) → first Err checks accepted ≡ Ok x → Passed checks × (accepted ≡ Ok x)
+through checks accepted x e = passed Err checks accepted (Ok x) (λ r q. cc) e
 
 -- what holds of every refusal, and of what is accepted where no check is met, holds of the answer
 pub cases : {R A : Type 0} (P : A → Type 0) (refused : R → A) (checks : List (Check R)) (accepted : A)

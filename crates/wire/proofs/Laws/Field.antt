@@ -1,23 +1,13 @@
 -- A field that lies in the bytes is read and written as any other; and it has its width.
-use Rattle.std.specs.Prelude.{◌≡◌, ℕ, ◌+◌, ◌-◌, ◌^◌, ◌<◌, ◌≤◌, Bool, true, false, List, length, nat_le}
-use Rattle.std.proofs.Common.{sym, ap, ◌∙◌, arith, le-leb, leb-true, leb-false}
+use Rattle.std.specs.Prelude.{◌≡◌, ℕ, ◌+◌, ◌^◌, ◌<◌, ◌≤◌, Bool, true, false, List, length, nat_le}
+use Rattle.std.proofs.Common.{sym, ap, arith, le-leb}
 use Rattle.std.proofs.Math.Nat.{one-le-pow}
-use Rattle.std.proofs.lemmas.Bool.{lt-leb}
 use Rattle.wire.specs.Bytes.{Bytes, be_at, laid}
 use Rattle.wire.specs.Checks.{pick}
 use Rattle.wire.specs.Field.{field, entered}
-use Rattle.wire.proofs.Laws.Bytes.{case_b, be-lt}
+use Rattle.wire.proofs.Laws.Bytes.{be-lt}
 
 -- ---- as the functions come to it
-
-pub lies_no : (at n size : ℕ) → size < n → false ≡ nat_le (at + n) size
-lies_no at n size h = sym (lt-leb (at + n) size (omega arith))
-
-pub lies_is : (at n size : ℕ) → n ≤ size → nat_le at (size - n) ≡ nat_le (at + n) size
-lies_is at n size h =
-    case_b (nat_le (at + n) size)
-    (λ e. let l : at + n ≤ size = leb-true (at + n) size e in le-leb at (size - n) (omega arith) ∙ sym e)
-    (λ e. let l : size < at + n = leb-false (at + n) size e in lt-leb at (size - n) (omega arith) ∙ sym e)
 
 pub field_no : (s : List ℕ) (at n : ℕ) → nat_le (at + n) (length s) ≡ false → 0 ≡ field s at n
 unfolding field

@@ -1,5 +1,6 @@
 -- What is found in an inner frame is what it carries.
-use Rattle.std.specs.Prelude.{◌≡◌, ℕ, ◌+◌, ◌-◌, ◌*◌, ◌/◌, ◌%◌, ◌^◌, ◌<◌, ◌≤◌, Bool, true, false, ◌&&◌, ◌||◌, ◌⊎◌, List, [], ◌∷◌, ◌++◌, length, drop, ◌==◌, ◌≢◌, nat_le, refl}
+use Rattle.std.specs.Prelude.{◌≡◌, ℕ, ◌+◌, ◌-◌, ◌*◌, ◌/◌, ◌%◌, ◌^◌, ◌<◌, ◌≤◌, Bool, true, false, ◌&&◌, ◌||◌, ◌⊎◌, List, [], ◌∷◌, ◌++◌, length, drop, ◌==◌}
+use Rattle.std.specs.Prelude.{nat_le, refl, Option, Some, None, is_some}
 use Rattle.std.proofs.Common.{sym, ap, ◌∙◌, inl, inr, ⊎_elim, true≢false, arith, eqb-true, leb-true, eq-eqb, ne_eqb, le-leb, length-append, length-drop}
 use Rattle.wire.specs.Bytes.{Bytes, be, be_at}
 use Rattle.wire.proofs.Laws.Bytes.{case_b, be-length, be-lt, be_one, be_split, be_front, be-behind, be-drop, be_value, as_fields, bytes_drop}
@@ -8,8 +9,6 @@ use Rattle.wire.proofs.Laws.Ipv4 as IL
 use Rattle.wire.specs.Inner.{CarriesIpv4, CarriesIpv6, OverIpv4, OverIpv6, FoundHints, CarriesTransport, WrittenHints, carries_ipv4, carries_ipv6}
 use Rattle.wire.specs.Inner.{carries_transport, transport_by, over_ipv4, transport_of, hints_by, hints_of, Ipv4Frame, Ipv6Frame, Pictures, Looks}
 use Rattle.wire.specs.declared.inner.Hints.{Hints}
-use Rattle.wire.specs.declared.inner.Transport.{Transport}
-use Rattle.wire.specs.declared.inner.Transport.TheVariants as T
 
 -- ---- an IP header: four tests, or three
 
@@ -55,12 +54,16 @@ ipv6_says frame e =
     let m = all4 true (be_at frame 12 2 == 0x86DD) (be_at frame 14 1 / 16 == 6) (nat_le 54 (length frame)) e in
     record { type_is = eqb-true _ _ m.1; version_is = eqb-true _ _ m.2; inside = leb-true _ _ m.3 }
 
--- what the code cites where it finds none
+-- what the code cites: the bytes that it reads behind the header are there
+pub ipv4_room : (frame : List ℕ) → carries_ipv4 frame ≡ true → 34 ≤ length frame
+ipv4_room frame e = let w = ipv4_says frame e in omega (arith, w.least, w.inside)
+
+pub ipv6_room : (frame : List ℕ) → carries_ipv6 frame ≡ true → 54 ≤ length frame
+ipv6_room frame e = (ipv6_says frame e).inside
+
+-- where it finds none
 pub no_ipv4 : (frame : List ℕ) → (CarriesIpv4 (be_at frame 14 1 % 16) frame → ⊥) → false ≡ carries_ipv4 frame
 no_ipv4 frame n = case_b (carries_ipv4 frame) (λ e. absurd (n (ipv4_says frame e))) (λ e. sym e)
-
-pub no_ipv6 : (frame : List ℕ) → (CarriesIpv6 frame → ⊥) → false ≡ carries_ipv6 frame
-no_ipv6 frame n = case_b (carries_ipv6 frame) (λ e. absurd (n (ipv6_says frame e))) (λ e. sym e)
 
 -- a frame does not carry both
 one_ip : (frame : List ℕ) → CarriesIpv6 frame → carries_ipv4 frame ≡ false
@@ -68,35 +71,22 @@ one_ip frame w = sym (no_ipv4 frame (λ v. omega (arith, v.type_is, w.type_is)))
 
 -- ---- the transport header
 
--- what the code cites
-pub by_tcp : (protocol flags l4 sum : ℕ) → protocol ≡ 6 → sum ≡ flags + 8 → T.Found (record { flags = sum; l4 = l4 }) ≡ transport_by protocol flags l4
+pub by_tcp : (protocol flags l4 sum : ℕ) → protocol ≡ 6 → sum ≡ flags + 8 → Some (record { flags = sum; l4 = l4 }) ≡ transport_by protocol flags l4
 unfolding transport_by
 by_tcp protocol flags l4 sum p s = rw (eq-eqb protocol 6 p, s)
 
-pub by_udp : (protocol flags l4 : ℕ) → protocol ≡ 17 → T.Found (record { flags = flags; l4 = l4 }) ≡ transport_by protocol flags l4
+pub by_udp : (protocol flags l4 : ℕ) → protocol ≡ 17 → Some (record { flags = flags; l4 = l4 }) ≡ transport_by protocol flags l4
 unfolding transport_by
 by_udp protocol flags l4 p = rw (ne_eqb protocol 6 (λ e. omega arith), eq-eqb protocol 17 p)
 
-pub by_other : (protocol flags l4 : ℕ) → (protocol ≢ 6) → (protocol ≢ 17) → T.Nothing ≡ transport_by protocol flags l4
-unfolding transport_by
-by_other protocol flags l4 a b = rw (ne_eqb protocol 6 a, ne_eqb protocol 17 b)
-
--- a fragment offset is told by two bytes, without the flags in the first
-pub first_fragment : (frame : List ℕ) (high low : ℕ) → high ≡ be_at frame 20 1 → low ≡ be_at frame 21 1 → high % 32 ≡ 0 → low ≡ 0 → be_at frame 20 2 % 2 ^ 13 ≡ 0
-first_fragment frame high low h l a b = omega (arith, be_split frame 20 1 1)
-
-pub later_fragment : (frame : List ℕ) (high low : ℕ) → high ≡ be_at frame 20 1 → low ≡ be_at frame 21 1 → low < 256 → (high % 32 ≡ 0 → low ≢ 0)
-    → be_at frame 20 2 % 2 ^ 13 ≢ 0
-later_fragment frame high low h l f n e = n (omega (arith, be_split frame 20 1 1)) (omega (arith, be_split frame 20 1 1))
+-- a fragment offset is told by two bytes, without the flags in the first: what the code cites
+pub fragment_offset : (frame : List ℕ) → be_at frame 20 2 ≡ be_at frame 20 1 * 256 + be_at frame 21 1
+fragment_offset frame = omega (arith, be_split frame 20 1 1)
 
 pub over_first : (frame : List ℕ) (protocol l4 : ℕ) → be_at frame 20 2 % 2 ^ 13 ≡ 0 → protocol ≡ be_at frame 23 1 → l4 ≡ 14 + 4 * (be_at frame 14 1 % 16)
     → transport_by protocol 4 l4 ≡ over_ipv4 frame
 unfolding over_ipv4
 over_first frame protocol l4 z e l = rw (eq-eqb (be_at frame 20 2 % 2 ^ 13) 0 z, e, l)
-
-pub over-later : (frame : List ℕ) → (be_at frame 20 2 % 2 ^ 13 ≢ 0) → T.Nothing ≡ over_ipv4 frame
-unfolding over_ipv4
-over-later frame h = rw (ne_eqb (be_at frame 20 2 % 2 ^ 13) 0 h)
 
 pub by_ipv4_lem : (frame : List ℕ) → carries_ipv4 frame ≡ true → over_ipv4 frame ≡ transport_of frame
 unfolding transport_of
@@ -106,14 +96,6 @@ pub by_ipv6 : (frame : List ℕ) (next : ℕ) → carries_ipv4 frame ≡ false �
     → transport_by next 0 54 ≡ transport_of frame
 unfolding transport_of
 by_ipv6 frame next a b e = rw (a, b, e)
-
-pub by_none : (frame : List ℕ) → carries_ipv4 frame ≡ false → carries_ipv6 frame ≡ false → T.Nothing ≡ transport_of frame
-unfolding transport_of
-by_none frame a b = rw (a, b)
-
-pub hints_by_lem : (frame : List ℕ) (x : Transport) → x ≡ transport_of frame → hints_by x ≡ hints_of frame
-unfolding hints_of
-hints_by_lem frame x e = ap hints_by e
 
 -- ---- found exactly where the frame carries it
 
@@ -126,42 +108,38 @@ over_ipv6_is : (protocol l4 : ℕ) (frame : List ℕ) → OverIpv6 protocol l4 f
 over_ipv6_is protocol l4 frame w =
     sym (by_ipv6 frame protocol (one_ip frame w.ip) (ipv6_is frame w.ip) (sym w.next_header)) ∙ rw w.l4_is
 
-pub transport_is : (flags l4 : ℕ) (frame : List ℕ) → FoundHints flags l4 frame → transport_of frame ≡ T.Found (record { flags = flags; l4 = l4 })
+pub transport_is : (flags l4 : ℕ) (frame : List ℕ) → FoundHints flags l4 frame → transport_of frame ≡ Some (record { flags = flags; l4 = l4 })
 transport_is flags l4 frame (inl w) = over_ipv4_is 6 l4 frame w.1 ∙ sym (by_tcp 6 4 l4 flags refl w.0)
 transport_is flags l4 frame (inr (inl w)) = over_ipv4_is 17 l4 frame w.1 ∙ rw w.0 (sym (by_udp 17 4 l4 refl))
 transport_is flags l4 frame (inr (inr (inl w))) = over_ipv6_is 6 l4 frame w.1 ∙ sym (by_tcp 6 0 l4 flags refl w.0)
 transport_is flags l4 frame (inr (inr (inr w))) = over_ipv6_is 17 l4 frame w.1 ∙ rw w.0 (sym (by_udp 17 0 l4 refl))
 
--- what is found is not nothing
-never : {C : Type 0} (h : Hints) → T.Nothing ≡ T.Found h → C
-never h e = let z : ◌≡◌ {A = ℕ} 0 1 = cc in absurd (omega arith)
-
 -- what a protocol number says, taken apart
-by_found : (protocol flags l4 : ℕ) (h : Hints) → transport_by protocol flags l4 ≡ T.Found h
+by_found : (protocol flags l4 : ℕ) (h : Hints) → transport_by protocol flags l4 ≡ Some h
     → ((protocol ≡ 6) × (h.flags ≡ flags + 8) × (h.l4 ≡ l4)) ⊎ ((protocol ≡ 17) × (h.flags ≡ flags) × (h.l4 ≡ l4))
 unfolding transport_by
 by_found protocol flags l4 h e =
     case_b (protocol == 6)
     (λ a.
-    let q : T.Found (record { flags = flags + 8; l4 = l4 }) ≡ T.Found h = rw a at e in
+    let q : Some (record { flags = flags + 8; l4 = l4 }) ≡ Some h = rw a at e in
     let k : record { flags = flags + 8; l4 = l4 } ≡ h = cc in
     inl (eqb-true _ _ a, ap (λ (x : Hints). x.flags) (sym k), ap (λ (x : Hints). x.l4) (sym k)))
     (λ a. case_b (protocol == 17)
     (λ b.
-    let q : T.Found (record { flags = flags; l4 = l4 }) ≡ T.Found h = rw (a, b) at e in
+    let q : Some (record { flags = flags; l4 = l4 }) ≡ Some h = rw (a, b) at e in
     let k : record { flags = flags; l4 = l4 } ≡ h = cc in
     inr (eqb-true _ _ b, ap (λ (x : Hints). x.flags) (sym k), ap (λ (x : Hints). x.l4) (sym k)))
-    (λ b. never h (rw (a, b) at e)))
+    (λ b. let q : None ≡ Some h = rw (a, b) at e in cc))
 
-over-found : (frame : List ℕ) (h : Hints) → over_ipv4 frame ≡ T.Found h
-    → (be_at frame 20 2 % 2 ^ 13 ≡ 0) × (transport_by (be_at frame 23 1) 4 (14 + 4 * (be_at frame 14 1 % 16)) ≡ T.Found h)
+over-found : (frame : List ℕ) (h : Hints) → over_ipv4 frame ≡ Some h
+    → (be_at frame 20 2 % 2 ^ 13 ≡ 0) × (transport_by (be_at frame 23 1) 4 (14 + 4 * (be_at frame 14 1 % 16)) ≡ Some h)
 unfolding over_ipv4
 over-found frame h e =
     case_b (be_at frame 20 2 % 2 ^ 13 == 0)
     (λ a. (eqb-true _ _ a, rw a at e))
-    (λ a. never h (rw a at e))
+    (λ a. let q : None ≡ Some h = rw a at e in cc)
 
-pub transport_found : (h : Hints) (frame : List ℕ) → transport_of frame ≡ T.Found h → FoundHints h.flags h.l4 frame
+pub transport_found : (h : Hints) (frame : List ℕ) → transport_of frame ≡ Some h → FoundHints h.flags h.l4 frame
 unfolding transport_of
 transport_found h frame e =
     case_b (carries_ipv4 frame)
@@ -178,40 +156,35 @@ transport_found h frame e =
     (λ k. inr (inr (inl (k.1, record { ip = w; next_header = k.0; l4_is = k.2 }))))
     (λ k. inr (inr (inr (k.1, record { ip = w; next_header = k.0; l4_is = k.2 }))))
     (by_found (be_at frame 20 1) 0 54 h (rw (a, b) at e)))
-    (λ b. never h (rw (a, b) at e)))
+    (λ b. let q : None ≡ Some h = rw (a, b) at e in cc))
 
 -- ---- the test
-
-abbrev found : Transport → Bool
-found (T.Found h) = true
-found T.Nothing = false
 
 or_none_lem : (a : Bool) → (a || false) ≡ a
 or_none_lem true = refl
 or_none_lem false = refl
 
-by_tested : (protocol flags l4 : ℕ) → found (transport_by protocol flags l4) ≡ (protocol == 6 || protocol == 17)
+by_tested : (protocol flags l4 : ℕ) → is_some (transport_by protocol flags l4) ≡ (protocol == 6 || protocol == 17)
 unfolding transport_by
 by_tested protocol flags l4 = case_b (protocol == 6) (λ a. rw a) (λ a. case_b (protocol == 17) (λ b. rw (a, b)) (λ b. rw (a, b)))
 
-over_tested : (frame : List ℕ) → found (over_ipv4 frame) ≡ (be_at frame 20 2 % 2 ^ 13 == 0 && (be_at frame 23 1 == 6 || be_at frame 23 1 == 17))
+over_tested : (frame : List ℕ) → is_some (over_ipv4 frame) ≡ (be_at frame 20 2 % 2 ^ 13 == 0 && (be_at frame 23 1 == 6 || be_at frame 23 1 == 17))
 unfolding over_ipv4
 over_tested frame =
     case_b (be_at frame 20 2 % 2 ^ 13 == 0) (λ a. rw a (by_tested (be_at frame 23 1) 4 (14 + 4 * (be_at frame 14 1 % 16)))) (λ a. rw a)
 
-tested : (frame : List ℕ) → found (transport_of frame) ≡ carries_transport frame
+pub tested : (frame : List ℕ) → is_some (transport_of frame) ≡ carries_transport frame
 unfolding transport_of carries_transport
 tested frame =
     case_b (carries_ipv6 frame)
     (λ b. rw (one_ip frame (ipv6_says frame b), b) (by_tested (be_at frame 20 1) 0 54))
     (λ b. case_b (carries_ipv4 frame) (λ a. rw (a, b) (over_tested frame ∙ sym (or_none_lem _))) (λ a. rw (a, b)))
 
--- what the code cites
-pub test-found : (frame : List ℕ) (h : Hints) → transport_of frame ≡ T.Found h → true ≡ carries_transport frame
-test-found frame h e = ap found (sym e) ∙ tested frame
+pub test-found : (frame : List ℕ) (h : Hints) → transport_of frame ≡ Some h → true ≡ carries_transport frame
+test-found frame h e = ap is_some (sym e) ∙ tested frame
 
-pub test-none : (frame : List ℕ) → transport_of frame ≡ T.Nothing → false ≡ carries_transport frame
-test-none frame e = ap found (sym e) ∙ tested frame
+pub test-none : (frame : List ℕ) → transport_of frame ≡ None → false ≡ carries_transport frame
+test-none frame e = ap is_some (sym e) ∙ tested frame
 
 pub test_is : (frame : List ℕ) → CarriesTransport frame → carries_transport frame ≡ true
 test_is frame w = sym (test-found frame _ (transport_is w.flags w.l4 frame w.hints))
@@ -219,9 +192,9 @@ test_is frame w = sym (test-found frame _ (transport_is w.flags w.l4 frame w.hin
 pub test_says : (frame : List ℕ) → carries_transport frame ≡ true → CarriesTransport frame
 test_says frame e = by (transport_of frame) refl
   where
-    by : (x : Transport) → transport_of frame ≡ x → CarriesTransport frame
-    by (T.Found h) q = record { flags = h.flags; l4 = h.l4; hints = transport_found h frame q }
-    by T.Nothing q = absurd (true≢false (sym (test-none frame q ∙ e)))
+    by : (x : Option Hints) → transport_of frame ≡ x → CarriesTransport frame
+    by (Some h) q = record { flags = h.flags; l4 = h.l4; hints = transport_found h frame q }
+    by None q = absurd (true≢false (sym (test-none frame q ∙ e)))
 
 -- ---- the hints that are written
 
@@ -229,10 +202,10 @@ pub hints_are : (frame : List ℕ) → WrittenHints (hints_of frame).flags (hint
 unfolding hints_of
 hints_are frame = by (transport_of frame) refl
   where
-    by : (x : Transport) → transport_of frame ≡ x → WrittenHints (hints_by x).flags (hints_by x).l4 frame
-    by (T.Found h) q = inl (transport_found h frame q)
-    by T.Nothing q =
-        inr (λ w. never (record { flags = w.flags; l4 = w.l4 }) (sym q ∙ transport_is w.flags w.l4 frame w.hints), refl, refl)
+    by : (x : Option Hints) → transport_of frame ≡ x → WrittenHints (hints_by x).flags (hints_by x).l4 frame
+    by (Some h) q = inl (transport_found h frame q)
+    by None q =
+        inr (λ w. let k : None ≡ Some (record { flags = w.flags; l4 = w.l4 }) = sym q ∙ transport_is w.flags w.l4 frame w.hints in cc, refl, refl)
 
 -- they fit their fields, and flags 0x01 and 0x02 are not among them
 pub record HintsFit (h : Hints) : Type 0 where

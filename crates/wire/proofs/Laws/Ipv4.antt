@@ -1,15 +1,14 @@
 -- The reader of IPv4 is sound and complete for the format.
-use Rattle.std.specs.Prelude.{◌≡◌, ℕ, ◌+◌, ◌-◌, ◌*◌, ◌/◌, ◌%◌, ◌^◌, ◌≤◌, false, ltb, List, [], ◌∷◌, ◌++◌, length, take, drop, nat_lt, refl}
+use Rattle.std.specs.Prelude.{◌≡◌, ℕ, ◌+◌, ◌-◌, ◌*◌, ◌/◌, ◌%◌, ◌^◌, ◌≤◌, false, ltb, List, [], ◌∷◌, ◌++◌, length, take, drop, nat_lt, refl, Ok, Err}
 use Rattle.std.proofs.Common.{sym, ap, subst, ◌∙◌, arith, length-append, take_at, take-take}
 use borrow.Author.Tests.{le-ltb, ltb-false}
 use Rattle.wire.specs.Bytes.{Bytes, be, be_at, part}
 use Rattle.wire.proofs.Laws.Bytes.{as_fields, be_value, be-lt, be-take, part_cut, part_mid, part_length, case_b}
 use Rattle.wire.specs.Sum.{total, ones}
 use Rattle.wire.specs.Checks.{first, Passed}
-use Rattle.wire.proofs.Laws.Checks.{pass, passed, tests, passing, At, given, decided}
+use Rattle.wire.proofs.Laws.Checks.{pass, through, tests, passing}
 use Rattle.wire.specs.Ipv4.{Header, header, Fits, version_at, ihl_at, size_at, offset_at, ipv4_at, IsIpv4, ipv4_checks, ipv4_of, ReadsIpv4}
 use Rattle.wire.specs.declared.ipv4.Ipv4.{Ipv4}
-use Rattle.wire.specs.declared.ipv4.Ipv4Read.TheVariants as I
 
 pub header-length : (f : Header) → length (header f) ≡ 20 + length f.options
 unfolding header be
@@ -93,7 +92,7 @@ ends_within {source} {destination} {protocol} {payload} {s} w = rw w.whole (simp
 
 pub complete : {source destination protocol : ℕ} {payload s : List ℕ} (w : IsIpv4 source destination protocol payload s)
     → let n = length (header w.f) in
-    (ipv4_of s ≡ I.Packet (record { start = n; end = n + length payload; source = source; destination = destination; protocol = protocol }))
+    (ipv4_of s ≡ Ok (record { start = n; end = n + length payload; source = source; destination = destination; protocol = protocol }))
     × (part s n (n + length payload) ≡ payload)
 unfolding ipv4_of ipv4_checks ipv4_at
 complete {source} {destination} {protocol} {payload} {s} w =
@@ -106,7 +105,7 @@ complete {source} {destination} {protocol} {payload} {s} w =
     let end : be_at s 2 2 ≡ length h + length payload = r.size ∙ w.size in
     let t : take (length h) s ≡ h = ap (take (length h)) w.whole ∙ take_at h rest (length h) refl in
     let c : ones (total (take (4 * ihl_at s) s)) ≡ 65535 = rw (start, t) w.checksum in (
-      pass I.Refused (ipv4_checks s) _ (omega (arith, passing, r.first, r.fragment, w.fits.option_words, w.fits.offset, w.last, w.offset))
+      pass Err (ipv4_checks s) _ (omega (arith, passing, r.first, r.fragment, w.fits.option_words, w.fits.offset, w.last, w.offset))
           ∙ rw (start, end, r.source, r.destination, r.protocol, w.source_is, w.destination_is, w.protocol_is),
       rw w.whole (part_mid h payload w.trailing (length h) (length h + length payload) refl refl),
     )
@@ -150,10 +149,10 @@ sound_at s b p =
       within = within;
     }
 
-pub sound : (s : List ℕ) → Bytes s → (h : Ipv4) → ipv4_of s ≡ I.Packet h → Accepted s h
+pub sound : (s : List ℕ) → Bytes s → (h : Ipv4) → ipv4_of s ≡ Ok h → Accepted s h
 unfolding ipv4_of
 sound s b h eq =
-    let p = passed I.Refused (ipv4_checks s) (I.Packet (ipv4_at s)) (I.Packet h) (λ r e. let z : ◌≡◌ {A = ℕ} 0 1 = cc in omega arith) eq in
+    let p = through (ipv4_checks s) (Ok (ipv4_at s)) h eq in
     subst (Accepted s) (cc p.1) (sound_at s b p.0)
 
 -- ---- what is ignored: bytes past the total length. Two lists that agree up to a length n which covers the total length give the same answer
@@ -186,33 +185,20 @@ module _ (s t : List ℕ) (n : ℕ) (same : take n s ≡ take n t) where
       rw (e0, e2, e6, e9, e12, e16, s20, t20, sn, tn, front))
 
 -- ---- where the payload of what is accepted lies, for any list
-pub ipv4_bounds : (s : List ℕ) (h : Ipv4) → ipv4_of s ≡ I.Packet h → (h.start ≤ h.end) × (h.end ≤ length s)
+pub ipv4_bounds : (s : List ℕ) (h : Ipv4) → ipv4_of s ≡ Ok h → (h.start ≤ h.end) × (h.end ≤ length s)
 unfolding ipv4_of ipv4_checks ipv4_at
 ipv4_bounds s h eq =
-    let p = passed I.Refused (ipv4_checks s) (I.Packet (ipv4_at s)) (I.Packet h) (λ r e. let z : ◌≡◌ {A = ℕ} 0 1 = cc in omega arith) eq in
+    let p = through (ipv4_checks s) (Ok (ipv4_at s)) h eq in
     let e : ipv4_at s ≡ h = cc p.1 in
     rw (← e) (omega (arith, tests), omega (arith, tests))
 
 -- fifteen words at most
-pub ipv4_start : (s : List ℕ) (h : Ipv4) → ipv4_of s ≡ I.Packet h → h.start ≤ 60
+pub ipv4_start : (s : List ℕ) (h : Ipv4) → ipv4_of s ≡ Ok h → h.start ≤ 60
 unfolding ipv4_of ipv4_at
 ipv4_start s h eq =
-    let p = passed I.Refused (ipv4_checks s) (I.Packet (ipv4_at s)) (I.Packet h) (λ r e. let z : ◌≡◌ {A = ℕ} 0 1 = cc in omega arith) eq in
+    let p = through (ipv4_checks s) (Ok (ipv4_at s)) h eq in
     let e : ipv4_at s ≡ h = cc p.1 in
     rw (← e) (omega arith)
-
--- ---- what the code cites: its exit number n, and what it accepts
-
-pub ipv4_exit : (s : List ℕ) (n : ℕ) → At (ipv4_checks s) n → ipv4_of s ≡ given I.Refused (ipv4_checks s) (I.Packet (ipv4_at s)) n
-unfolding ipv4_of
-ipv4_exit s n p = decided I.Refused (ipv4_checks s) (I.Packet (ipv4_at s)) n p
-
-pub ipv4_accepts : (s : List ℕ) (start end source destination protocol : ℕ) → Passed (ipv4_checks s)
-    → start ≡ 4 * (be_at s 0 1 % 16) → end ≡ be_at s 2 2 → source ≡ be_at s 12 4 → destination ≡ be_at s 16 4 → protocol ≡ be_at s 9 1
-    → I.Packet (record { start = start; end = end; source = source; destination = destination; protocol = protocol }) ≡ ipv4_of s
-unfolding ipv4_of ipv4_at
-ipv4_accepts s start end source destination protocol p e1 e2 e3 e4 e5 =
-    rw (e1, e2, e3, e4, e5) (sym (pass I.Refused (ipv4_checks s) (I.Packet (ipv4_at s)) p))
 
 pub reads_ipv4 : ReadsIpv4
 reads_ipv4 = record {

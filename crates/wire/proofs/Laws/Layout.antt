@@ -15,7 +15,8 @@ use Rattle.wire.specs.Inner.{hints_of}
 use Rattle.wire.proofs.Laws.Inner.{hints_are, hints_fit}
 use Rattle.wire.specs.Stt.{stt}
 use Rattle.wire.specs.Segment as S
-use Rattle.wire.specs.Write.{ipv4_with, outer, ipv4_head, packet, source_port_of, vxlan_body, nvgre_body, stt_frame, flags_of, tcp_with, segment_header, segment_bytes}
+use Rattle.wire.specs.Write.{ipv4_with, outer, ipv4_head, packet, source_port_of, vxlan_body, nvgre_body, stt_frame, flags_of, tcp_with, segment_header}
+use Rattle.wire.specs.Write.{segment_bytes}
 use Rattle.wire.specs.Write.{segment_body, vxlan_packet, nvgre_packet, segment_packet}
 use Rattle.wire.proofs.Laws.Write.{port_is, segment-bytes-length, segment-bytes_is, stt-length}
 use Rattle.wire.specs.Layout.{Field, field, LaidOut, port_of, vxlan_fields, nvgre_fields, segment_fields, stt_fields, VxlanLaidOut, NvgreLaidOut, SttLaidOut}

@@ -1,8 +1,10 @@
 -- Laws of the little-endian number that bytes spell: it folds to their sum with its bytes exchanged, and words may be cut from it.
 use Rattle.std.specs.Prelude.{◌≡◌, ℕ, zero, suc, ◌+◌, ◌-◌, ◌*◌, ◌%◌, ◌^◌, ◌<◌, ◌≤◌, List, [], ◌∷◌, length, drop, slice_index, refl}
 use Rattle.std.proofs.Common.{◌∙◌, sym, ap, arith, one-mul, add-zero, zero-add, mul-zero, add_comm, mod-eq_of_lt, mod-lt, drop_of_length-le}
-use Rattle.std.proofs.Math.Nat.{pow-zero, add_right_comm, mod-mod_of_dvd, mod-eq-sub-mod, mod-le, dvd-mul_left}
+use Rattle.std.proofs.Math.Nat.{pow-zero, pow-succ', add_right_comm, mod-mod_of_dvd, mod-eq-sub-mod, mod-le, dvd-mul_left}
 use Rattle.std.proofs.Math.Seq.{drop-nil}
+use Rattle.wire.specs.Bytes.{Bytes}
+use Rattle.wire.proofs.Laws.Bytes.{byte_up}
 use Rattle.wire.specs.Sum.{total, ones, end_around, swapped, le, le_at, with_rest, blocks}
 use Rattle.wire.proofs.Laws.Sum.{ones_shift, ones_plus, ones-swapped}
 use Rattle.wire.proofs.Laws.Ones.{higher, ones_high, ones_around}
@@ -48,6 +50,18 @@ pub le_one : (s : List ℕ) (at : ℕ) → le_at s at 1 ≡ slice_index s at
 unfolding le_at
 le_one s at = omega arith
 
+-- a number of n bytes is below 256 ^ n
+pub le-lt : (s : List ℕ) → Bytes s → (at n : ℕ) → le_at s at n < 256 ^ n
+unfolding le_at
+le-lt s b at zero = rw pow-zero (omega arith)
+le-lt s b at (suc n) = rw pow-succ' (omega (arith, le-lt s b (suc at) n, b at))
+
+-- a number's first i bytes, and the byte behind them
+pub le_upward : (s : List ℕ) → Bytes s → (at i x : ℕ) → i < 8 → x ≡ le_at s at i
+    → x + (slice_index s (at + i) * 2 ^ (8 * i)) % 2 ^ 64 ≡ le_at s at (i + 1)
+le_upward s b at i x h e =
+    rw (byte_up (slice_index s (at + i)) i (b (at + i)) h, le_split s at i 1, le_one s (at + i), e) (omega arith)
+
 -- ---- what is added, with the rest that is still to be added
 
 -- what is carried around
@@ -78,10 +92,6 @@ rest_around k x w r s i e f = rest-carried (x + w) r s (i + 2 * k) e ∙ rw f (r
 pub rest_around_last : (n x w r : ℕ) (s : List ℕ) (i : ℕ) → length s ≤ i + n → r ≡ end_around (2 ^ 64) (x + w) → w ≡ le_at s i n
     → with_rest r s (i + n) ≡ with_rest x s i
 rest_around_last n x w r s i h e f = rest-carried (x + w) r s (i + n) e ∙ rw f (rest-last n x s i h)
-
--- in an accumulator that is opened before and closed after
-pub rest-opened : (x o c r : ℕ) (s : List ℕ) (i j : ℕ) → o ≡ x → with_rest c s j ≡ with_rest o s i → r ≡ c → with_rest r s j ≡ with_rest x s i
-rest-opened x o c r s i j e f g = ap (λ (z : ℕ). with_rest z s j) g ∙ f ∙ ap (λ (z : ℕ). with_rest z s i) e
 
 -- n bytes, and n more
 pub rest_twice : (n x y z : ℕ) (s : List ℕ) (i : ℕ) → with_rest y s (i + n) ≡ with_rest x s i → with_rest z s (i + n + n) ≡ with_rest y s (i + n)

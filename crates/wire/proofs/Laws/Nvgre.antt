@@ -1,15 +1,12 @@
 -- The reader of NVGRE is sound and complete for the format, and blind to what document 01 ignores.
-use Rattle.std.specs.Prelude.{◌≡◌, ℕ, ◌+◌, ◌-◌, ◌*◌, ◌/◌, ◌%◌, ◌^◌, ◌<◌, ◌≤◌, ltb, List, [], ◌∷◌, length, drop, ◌≢◌, nat_lt, refl}
-use Rattle.std.proofs.Common.{sym, subst, ◌∙◌, arith, lt-ltb, le-ltb, ltb-true, ltb-false}
+use Rattle.std.specs.Prelude.{◌≡◌, ℕ, ◌+◌, ◌-◌, ◌*◌, ◌/◌, ◌%◌, ◌^◌, ◌<◌, ◌≤◌, ltb, List, [], ◌∷◌, length, drop, nat_lt, refl, Ok, Err}
+use Rattle.std.proofs.Common.{subst, ◌∙◌, arith, lt-ltb, le-ltb, ltb-true, ltb-false}
 use Rattle.wire.specs.Bytes.{Bytes, be, be_at}
 use Rattle.wire.proofs.Laws.Bytes.{as_fields, be_value, be-lt, be_split, case_b}
 use Rattle.wire.specs.Checks.{Passed}
-use Rattle.wire.proofs.Laws.Checks.{pass, passed, tests, passing, At, given, decided}
+use Rattle.wire.proofs.Laws.Checks.{pass, through, tests, passing}
 use Rattle.wire.specs.Nvgre.{gre, IsNvgre, nvgre_checks, nvgre_at, nvgre_of}
-use Rattle.wire.specs.declared.refusal.Refusal.TheVariants as R
 use Rattle.wire.specs.declared.carriage.Tunnel.{Tunnel}
-use Rattle.wire.specs.declared.carriage.Carried.TheVariants as C
-use Rattle.wire.specs.declared.segment.Segment.{Segment}
 
 record ReadsBack (high low vsid : ℕ) (frame s : List ℕ) : Type 0 where
   first : be_at s 0 1 ≡ 2 * 16 + high
@@ -33,12 +30,12 @@ reads_back high low vsid flow frame h1 h2 h3 = record {
 }
 
 pub complete : {vsid : ℕ} {frame s : List ℕ} → IsNvgre vsid frame s
-    → (nvgre_of s ≡ C.Tunnel (record { start = 8; network = vsid; kind = 2 })) × (drop 8 s ≡ frame) × (length s ≡ 8 + length frame)
+    → (nvgre_of s ≡ Ok (record { start = 8; network = vsid; kind = 2 })) × (drop 8 s ≡ frame) × (length s ≡ 8 + length frame)
 unfolding nvgre_of nvgre_checks nvgre_at
 complete {vsid} {frame} {s} w =
     let r : ReadsBack w.high w.low vsid frame s =
     rw w.whole (reads_back w.high w.low vsid w.flow frame w.high_fits w.low_fits w.vsid_fits) in (
-      pass C.Refused (nvgre_checks s) (C.Tunnel (nvgre_at s)) (omega (arith, passing, r.first, r.second, r.type_high, r.type_low, r.long, w.high_fits))
+      pass Err (nvgre_checks s) (Ok (nvgre_at s)) (omega (arith, passing, r.first, r.second, r.type_high, r.type_low, r.long, w.high_fits))
           ∙ rw r.vsid_is,
       r.frame_is,
       r.long,
@@ -72,10 +69,10 @@ sound_at s b p =
       within = h;
     }
 
-pub sound : (s : List ℕ) → Bytes s → (t : Tunnel) → nvgre_of s ≡ C.Tunnel t → Accepted s t
+pub sound : (s : List ℕ) → Bytes s → (t : Tunnel) → nvgre_of s ≡ Ok t → Accepted s t
 unfolding nvgre_of
 sound s b t eq =
-    let p = passed C.Refused (nvgre_checks s) (C.Tunnel (nvgre_at s)) (C.Tunnel t) (λ r e. let z : ◌≡◌ {A = ℕ} 0 1 = cc in omega arith) eq in
+    let p = through (nvgre_checks s) (Ok (nvgre_at s)) t eq in
     subst (Accepted s) (cc p.1) (sound_at s b p.0)
 
 -- ---- what is ignored: the answer depends on the length, bits 0 to 5 and 13 to 15, the protocol type and the VSID alone, not on the other seven reserved bits
@@ -95,38 +92,10 @@ ignores s t l f v h w k =
     (λ e. rw e (le-ltb 35 (be_at s 0 1) (omega (arith, ltb-false 35 (be_at t 0 1) e)))) in
     rw (l, e1, e2, v, h, w, k)
 
-pub no_segment : (s : List ℕ) (g : Segment) → nvgre_of s ≢ C.Segment g
-unfolding nvgre_of
-no_segment s g eq =
-    let p = passed C.Refused (nvgre_checks s) (C.Tunnel (nvgre_at s)) (C.Segment g) (λ r e. let z : ◌≡◌ {A = ℕ} 0 1 = cc in omega arith) eq in
-    let e : C.Tunnel (nvgre_at s) ≡ C.Segment g = p.1 in
-    let z : ◌≡◌ {A = ℕ} 0 1 = cc in omega arith
-
 -- where the frame of what is accepted starts, for any list
-pub nvgre-room : (s : List ℕ) (t : Tunnel) → nvgre_of s ≡ C.Tunnel t → t.start ≤ length s
+pub nvgre-room : (s : List ℕ) (t : Tunnel) → nvgre_of s ≡ Ok t → t.start ≤ length s
 unfolding nvgre_of nvgre_checks nvgre_at
 nvgre-room s t eq =
-    let p = passed C.Refused (nvgre_checks s) (C.Tunnel (nvgre_at s)) (C.Tunnel t) (λ r e. let z : ◌≡◌ {A = ℕ} 0 1 = cc in omega arith) eq in
+    let p = through (nvgre_checks s) (Ok (nvgre_at s)) t eq in
     let e : nvgre_at s ≡ t = cc p.1 in
     rw (← e) (omega (arith, tests))
-
--- ---- what the code cites: its exit number n, and what it accepts
-
-pub nvgre_exit : (s : List ℕ) (n : ℕ) → At (nvgre_checks s) n → nvgre_of s ≡ given C.Refused (nvgre_checks s) (C.Tunnel (nvgre_at s)) n
-unfolding nvgre_of
-nvgre_exit s n p = decided C.Refused (nvgre_checks s) (C.Tunnel (nvgre_at s)) n p
-
-pub nvgre_accepts : (s : List ℕ) (vsid : ℕ) → Passed (nvgre_checks s) → vsid ≡ be_at s 4 3 → C.Tunnel (record { start = 8; network = vsid; kind = 2 }) ≡ nvgre_of s
-unfolding nvgre_of nvgre_at
-nvgre_accepts s vsid p e = rw e (sym (pass C.Refused (nvgre_checks s) (C.Tunnel (nvgre_at s)) p))
-
--- the first byte is 0x20 to 0x23 exactly when its six highest bits are those of 0x20
-pub nvgre-flags : (s : List ℕ) → 8 ≤ length s → (be_at s 0 1 / 4 * 4 ≢ 0x20) → C.Refused R.GreFlags ≡ nvgre_of s
-unfolding nvgre_checks
-nvgre-flags s long n =
-    case_b (nat_lt (be_at s 0 1) 0x20)
-    (λ e. sym (nvgre_exit s 1 (le-ltb (length s) 8 long, e)))
-    (λ e. sym (nvgre_exit s 2 (le-ltb (length s) 8 long, (e, lt-ltb 0x23 (be_at s 0 1) (past (be_at s 0 1) n (ltb-false (be_at s 0 1) 0x20 e))))))
-  where
-    past : (x : ℕ) → (x / 4 * 4 ≢ 0x20) → 0x20 ≤ x → 0x23 < x
-    past x f l = case_b (nat_lt 0x23 x) (λ e. ltb-true 0x23 x e) (λ e. absurd (f (omega (arith, ltb-false 0x23 x e))))

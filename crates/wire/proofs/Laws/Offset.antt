@@ -1,5 +1,6 @@
 -- The byte that a row names is the first that breaks its rule (Offset.antt).
-use Rattle.std.specs.Prelude.{◌≡◌, ℕ, ◌+◌, ◌-◌, ◌*◌, ◌/◌, ◌%◌, ◌<◌, ◌≤◌, Bool, true, false, not, ◌&&◌, ◌||◌, ltb, List, [], ◌∷◌, length, drop, ◌==◌, nat_lt, slice_index, slice_index_or}
+use Rattle.std.specs.Prelude.{◌≡◌, ℕ, ◌+◌, ◌-◌, ◌*◌, ◌/◌, ◌%◌, ◌<◌, ◌≤◌, Bool, true, false, not, ◌&&◌, ◌||◌, ltb, List, [], ◌∷◌, length, drop, ◌==◌, nat_lt}
+use Rattle.std.specs.Prelude.{slice_index, slice_index_or}
 use Rattle.std.proofs.Math.Path.{refl, ap}
 use Rattle.std.proofs.Common.{◌∙◌}
 use native.Mathlib.Omega.{arith}
@@ -10,7 +11,8 @@ use Rattle.wire.specs.Checks.{◌⇒◌, first, Passed}
 use Rattle.wire.proofs.Laws.Checks.{Each, by_each, neither, or_false-l, or_false_r}
 use Rattle.wire.specs.Inner.{carries_transport}
 use Rattle.wire.specs.Refusal.{Finding, only}
-use Rattle.wire.specs.Table.{Rows, ◌and_then◌, ◌otherwise◌, told, header_length_of, total_length_of, protocol_of, source_of, destination_of, payload_of, ipv4_rows}
+use Rattle.wire.specs.Table.{Rows, ◌and_then◌, ◌otherwise◌, told, header_length_of, total_length_of, protocol_of, source_of, destination_of, payload_of}
+use Rattle.wire.specs.Table.{ipv4_rows}
 use Rattle.wire.specs.Table.{payload_rows, vxlan_rows, nvgre_rows, stt_rows}
 use Rattle.wire.proofs.Laws.Table.{payload_is}
 use Rattle.wire.specs.Offset.{breaks_vxlan, breaks_nvgre, breaks_stt, FirstOf}

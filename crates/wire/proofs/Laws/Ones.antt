@@ -3,7 +3,8 @@ use Rattle.std.specs.Prelude.{◌≡◌, ℕ, zero, suc, ◌+◌, ◌-◌, ◌*�
 use Rattle.std.proofs.Common.{◌∙◌, sym, ap, arith, mul_assoc, one-mul, add_comm, mod-eq_of_lt, ltb-true, ltb-false, lt-ltb, le-ltb}
 use Rattle.std.proofs.Math.Nat.{pow-zero, pow-succ', div-add-mod, mod-eq-sub-mod, div-eq_of_lt, div-eq_of_lt-le}
 use Rattle.std.specs.Int.Bits.{or_add_and}
-use Rattle.std.proofs.lemmas.Nat.{and_le_l, and_le_r}
+use Rattle.std.specs.Int.{w32, w64, rotate_left}
+use Rattle.std.proofs.lemmas.Nat.{and_le_l, and_le_r, or_shifted}
 use Rattle.std.proofs.Math.Arith.{digits_div, digits_mod}
 use mir.Val.{bool_byte}
 use Rattle.wire.specs.Sum.{ones, end_around}
@@ -68,9 +69,31 @@ add_carry acc carry word first low next h k e f g =
     let d : low + next ≡ end_around w (acc + carry + word) = rw (c, sym s, digits_mod (x + y) l, digits_div (x + y) l) in
     rw d ((carry_is w (acc + carry) word k h).1, refl)
 
+-- a number of two halves, and the same with its halves exchanged: in the upper half of their sum the halves are added, and the carry comes around
+halves_64 : (n a : ℕ) → n < 2 ^ 64 → a ≡ rotate_left w64 n 32 → (n + a) % 2 ^ 64 / 2 ^ 32 ≡ end_around (2 ^ 32) (n % 2 ^ 32 + n / 2 ^ 32)
+unfolding end_around
+halves_64 n a h e =
+    let m : (n * 2 ^ 32) % 2 ^ 64 ≡ n % 2 ^ 32 * 2 ^ 32 = omega arith in
+    let o : a ≡ n % 2 ^ 32 * 2 ^ 32 + n / 2 ^ 32 = e ∙ ap (λ (x : ℕ). bit_or x (n / 2 ^ 32)) m ∙ or_shifted (n % 2 ^ 32) 32 (n / 2 ^ 32) (omega arith) in
+    omega arith
+
+halves_32 : (n a : ℕ) → n < 2 ^ 32 → a ≡ rotate_left w32 n 16 → (n + a) % 2 ^ 32 / 2 ^ 16 ≡ end_around (2 ^ 16) (n % 2 ^ 16 + n / 2 ^ 16)
+unfolding end_around
+halves_32 n a h e =
+    let m : (n * 2 ^ 16) % 2 ^ 32 ≡ n % 2 ^ 16 * 2 ^ 16 = omega arith in
+    let o : a ≡ n % 2 ^ 16 * 2 ^ 16 + n / 2 ^ 16 = e ∙ ap (λ (x : ℕ). bit_or x (n / 2 ^ 16)) m ∙ or_shifted (n % 2 ^ 16) 16 (n / 2 ^ 16) (omega arith) in
+    omega arith
+
 -- the halves of 64 bits added, and the halves of that
 pub fold_is : (n x r : ℕ) → r < 2 ^ 16 → x ≡ end_around (2 ^ 32) (n % 2 ^ 32 + n / 2 ^ 32) → r ≡ end_around (2 ^ 16) (x % 2 ^ 16 + x / 2 ^ 16) → r ≡ ones n
 unfolding end_around
 fold_is n x r h e f =
     sym (ones_small r h) ∙ ap ones f ∙ ones_around 1 (x % 2 ^ 16 + x / 2 ^ 16) ∙ ones_around 1 x ∙ ap ones e ∙ ones_around 2 (n % 2 ^ 32 + n / 2 ^ 32)
     ∙ ones_around 2 n
+
+-- the same by a number and itself with its halves exchanged
+pub fold_rotated : (n a x b r : ℕ) → n < 2 ^ 64 → a ≡ rotate_left w64 n 32 → x ≡ (n + a) % 2 ^ 64 / 2 ^ 32
+    → b ≡ rotate_left w32 x 16 → r ≡ (x + b) % 2 ^ 32 / 2 ^ 16 → r ≡ ones n
+fold_rotated n a x b r h ea e eb f =
+    let k : x < 2 ^ 32 = omega arith in
+    fold_is n x r (omega arith) (e ∙ halves_64 n a h ea) (f ∙ halves_32 x b k eb)

@@ -1,5 +1,5 @@
 -- What refusals tell: 3 to 10, 13, and 25 to 29 with a byte.
-use Rattle.std.specs.Prelude.{◌≡◌, ℕ, ◌+◌, ◌≤◌, not, ◌⊎◌, List, [], ◌∷◌, length, ◌==◌, refl}
+use Rattle.std.specs.Prelude.{◌≡◌, ℕ, ◌+◌, ◌≤◌, not, ◌⊎◌, List, [], ◌∷◌, length, ◌==◌, refl, Result, Ok, Err}
 use Rattle.std.proofs.Common.{subst, inl, inr, arith, le-ltb}
 use Rattle.wire.specs.Bytes.{be_at}
 use Rattle.wire.specs.Checks.{Check, ◌⇒◌, first}
@@ -10,12 +10,7 @@ use Rattle.wire.specs.Stt.{contradicts, stt_checks, stt_of}
 use Rattle.wire.specs.Frame.{frame_checks, frame_of}
 use Rattle.wire.specs.declared.refusal.Refusal.{Refusal}
 use Rattle.wire.specs.declared.refusal.Refusal.TheVariants as R
-use Rattle.wire.specs.declared.ipv4.Ipv4Read.{Ipv4Read}
-use Rattle.wire.specs.declared.ipv4.Ipv4Read.TheVariants as I
-use Rattle.wire.specs.declared.stt.SttRead.{SttRead}
-use Rattle.wire.specs.declared.stt.SttRead.TheVariants as T
-use Rattle.wire.specs.declared.frame.FrameRead.{FrameRead}
-use Rattle.wire.specs.declared.frame.FrameRead.TheVariants as F
+use Rattle.wire.specs.declared.ipv4.Ipv4.{Ipv4}
 
 -- the number is the same wherever the payload begins
 pub refusal-number : (start : ℕ) (r : Refusal) → (finding_of start r).number ≡ code_of r
@@ -87,36 +82,36 @@ offset_most start r = by (refusal-told start r)
 -- ---- by reader
 
 -- an IPv4 header's names no byte
-abbrev Ipv4Plain : Ipv4Read → Type 0
-Ipv4Plain (I.Packet h) = Unit {0}
-Ipv4Plain (I.Refused r) = (start : ℕ) → finding_of start r ≡ only (code_of r)
+abbrev Ipv4Plain : Result Ipv4 Refusal → Type 0
+Ipv4Plain (Ok h) = Unit {0}
+Ipv4Plain (Err r) = (start : ℕ) → finding_of start r ≡ only (code_of r)
 
-pub ipv4_plain : (s : List ℕ) (r : Refusal) (start : ℕ) → ipv4_of s ≡ I.Refused r → finding_of start r ≡ only (code_of r)
+pub ipv4_plain : (s : List ℕ) (r : Refusal) (start : ℕ) → ipv4_of s ≡ Err r → finding_of start r ≡ only (code_of r)
 unfolding ipv4_of ipv4_checks finding_of
 ipv4_plain s r start e =
     let none : (start : ℕ) → only 3 ≡ only 3 = λ start. refl in
-    subst Ipv4Plain e (by_each Ipv4Plain I.Refused (ipv4_checks s) (I.Packet (ipv4_at s))
+    subst Ipv4Plain e (by_each Ipv4Plain Err (ipv4_checks s) (Ok (ipv4_at s))
     (none, (none, (none, (none, (none, (λ start. refl, (λ start. refl, tt))))))) tt) start
 
 -- a complete STT frame's number
-abbrev SttCode : SttRead → Type 0
-SttCode (T.Header context) = Unit {0}
-SttCode (T.Refused r) = (code_of r ≡ 28) ⊎ (code_of r ≡ 29)
+abbrev SttCode : Result ℕ Refusal → Type 0
+SttCode (Ok context) = Unit {0}
+SttCode (Err r) = (code_of r ≡ 28) ⊎ (code_of r ≡ 29)
 
-pub stt_code : (s : List ℕ) (r : Refusal) → 18 ≤ length s → stt_of s ≡ T.Refused r → (code_of r ≡ 28) ⊎ (code_of r ≡ 29)
+pub stt_code : (s : List ℕ) (r : Refusal) → 18 ≤ length s → stt_of s ≡ Err r → (code_of r ≡ 28) ⊎ (code_of r ≡ 29)
 unfolding stt_of stt_checks first finding_of
 stt_code s r l e =
     let two : List (Check Refusal) = (not (be_at s 0 1 == 0) ⇒ R.SttVersion) ∷ (contradicts s ⇒ R.SttFlags) ∷ [] in
-    let z : first T.Refused two (T.Header (be_at s 8 8)) ≡ T.Refused r = rw (le-ltb (length s) 18 l) at e in
-    subst SttCode z (by_each SttCode T.Refused two (T.Header (be_at s 8 8)) (inl refl, (inr refl, tt)) tt)
+    let z : first Err two (Ok (be_at s 8 8)) ≡ Err r = rw (le-ltb (length s) 18 l) at e in
+    subst SttCode z (by_each SttCode Err two (Ok (be_at s 8 8)) (inl refl, (inr refl, tt)) tt)
 
 -- an inner frame's is 13, and names no byte
-abbrev FramePlain : FrameRead → Type 0
-FramePlain F.Good = Unit {0}
-FramePlain (F.Refused r) = (start : ℕ) → finding_of start r ≡ only 13
+abbrev FramePlain : Result (Unit {0}) Refusal → Type 0
+FramePlain (Ok tt) = Unit {0}
+FramePlain (Err r) = (start : ℕ) → finding_of start r ≡ only 13
 
-pub frame-plain : (s : List ℕ) (r : Refusal) (start : ℕ) → frame_of s ≡ F.Refused r → finding_of start r ≡ only 13
+pub frame-plain : (s : List ℕ) (r : Refusal) (start : ℕ) → frame_of s ≡ Err r → finding_of start r ≡ only 13
 unfolding frame_of frame_checks finding_of
 frame-plain s r start e =
     let none : (start : ℕ) → only 13 ≡ only 13 = λ start. refl in
-    subst FramePlain e (by_each FramePlain F.Refused (frame_checks s) F.Good (none, (none, (none, (none, tt)))) tt) start
+    subst FramePlain e (by_each FramePlain Err (frame_checks s) (Ok tt) (none, (none, (none, (none, tt)))) tt) start

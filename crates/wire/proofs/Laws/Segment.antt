@@ -1,15 +1,13 @@
 -- The reader of STT segments is sound and complete for the format, and blind to what document 01 ignores.
-use Rattle.std.specs.Prelude.{◌≡◌, ℕ, ◌+◌, ◌-◌, ◌*◌, ◌/◌, ◌%◌, ◌≤◌, List, [], ◌∷◌, ◌++◌, length, drop, ◌≢◌, refl}
-use Rattle.std.proofs.Common.{sym, ap, subst, ◌∙◌, arith, length-append, drop_at}
+use Rattle.std.specs.Prelude.{◌≡◌, ℕ, ◌+◌, ◌-◌, ◌*◌, ◌/◌, ◌%◌, ◌≤◌, List, [], ◌∷◌, ◌++◌, length, drop, refl, Ok, Err}
+use Rattle.std.proofs.Common.{ap, subst, ◌∙◌, arith, length-append, drop_at}
 use Rattle.wire.specs.Bytes.{Bytes, be, be_at, part}
 use Rattle.wire.proofs.Laws.Bytes.{as_fields, be_value, be-lt, part_cut, part_length}
 use Rattle.wire.specs.Sum.{total, ones, pseudo}
 use Rattle.wire.specs.Checks.{Passed}
-use Rattle.wire.proofs.Laws.Checks.{pass, passed, tests, passing, At, given, decided}
+use Rattle.wire.proofs.Laws.Checks.{pass, through, tests, passing}
 use Rattle.wire.specs.Segment.{Header, header, Fits, IsSegment, data_offset_at, segment_checks, segment_at, segment_of}
 use Rattle.wire.specs.declared.segment.Segment.{Segment}
-use Rattle.wire.specs.declared.carriage.Tunnel.{Tunnel}
-use Rattle.wire.specs.declared.carriage.Carried.TheVariants as C
 
 pub header-length : (f : Header) → length (header f) ≡ 20 + length f.options
 unfolding header be
@@ -37,7 +35,7 @@ reads_back f w rest = record {
 pub complete : {source destination port frame_length_at offset identifier : ℕ} {bytes s : List ℕ}
     (w : IsSegment source destination port frame_length_at offset identifier bytes s)
     → let n = length (header w.f) in
-    (segment_of source destination port s ≡ C.Segment (record { start = n; identifier = identifier; frame_length = frame_length_at; offset = offset }))
+    (segment_of source destination port s ≡ Ok (record { start = n; identifier = identifier; frame_length = frame_length_at; offset = offset }))
     × (drop n s ≡ bytes)
 unfolding segment_of segment_checks segment_at
 complete {source} {destination} {port} {frame_length_at} {offset} {identifier} {bytes} {s} w =
@@ -46,7 +44,7 @@ complete {source} {destination} {port} {frame_length_at} {offset} {identifier} {
     let n : length h ≡ 20 + length w.f.options = header-length w.f in
     let l : length s ≡ length h + length bytes = ap length w.whole ∙ length-append h bytes in
     let skip : 4 * data_offset_at s ≡ length h = omega (arith, r.option_words, w.fits.option_words, w.fits.reserved, w.fits.options) in (
-      pass C.Refused (segment_checks source destination port s) _ (omega (arith, passing, r.destination_port, w.port_is, w.checksum, w.short))
+      pass Err (segment_checks source destination port s) _ (omega (arith, passing, r.destination_port, w.port_is, w.checksum, w.short))
           ∙ rw (skip, r.frame_length, r.offset, r.identifier, w.frame_length_is, w.offset_is, w.identifier_is),
       rw w.whole (drop_at h bytes (length h) refl),
     )
@@ -111,21 +109,12 @@ sound_at source destination port s b p =
       within = within;
     }
 
-pub sound : (source destination port : ℕ) (s : List ℕ) → Bytes s → (g : Segment) → segment_of source destination port s ≡ C.Segment g
+pub sound : (source destination port : ℕ) (s : List ℕ) → Bytes s → (g : Segment) → segment_of source destination port s ≡ Ok g
     → Accepted source destination port s g
 unfolding segment_of
 sound source destination port s b g eq =
-    let p = passed C.Refused (segment_checks source destination port s) (C.Segment (segment_at s)) (C.Segment g)
-    (λ r e. let z : ◌≡◌ {A = ℕ} 0 1 = cc in omega arith) eq in
+    let p = through (segment_checks source destination port s) (Ok (segment_at s)) g eq in
     subst (Accepted source destination port s) (cc p.1) (sound_at source destination port s b p.0)
-
-pub no_tunnel : (source destination port : ℕ) (s : List ℕ) (t : Tunnel) → segment_of source destination port s ≢ C.Tunnel t
-unfolding segment_of
-no_tunnel source destination port s t eq =
-    let p = passed C.Refused (segment_checks source destination port s) (C.Segment (segment_at s)) (C.Tunnel t)
-    (λ r e. let z : ◌≡◌ {A = ℕ} 0 1 = cc in omega arith) eq in
-    let e : C.Segment (segment_at s) ≡ C.Tunnel t = p.1 in
-    let z : ◌≡◌ {A = ℕ} 0 1 = cc in omega arith
 
 -- ---- what is ignored: the answer depends on the length, the port, the data offset, the checksum being right, and the three numbers of the segment;
 -- not on the source port, the reserved bits, the flags, the window, the urgent pointer or the options (but through the checksum, which is over all of them)
@@ -137,24 +126,9 @@ unfolding segment_of segment_checks segment_at
 ignores source destination port s t l p w c e1 e2 e3 = rw (c, l, p, w, e1, e2, e3)
 
 -- where the bytes of what is accepted start, for any list
-pub segment-room : (source destination port : ℕ) (s : List ℕ) (g : Segment) → segment_of source destination port s ≡ C.Segment g → g.start ≤ length s
+pub segment-room : (source destination port : ℕ) (s : List ℕ) (g : Segment) → segment_of source destination port s ≡ Ok g → g.start ≤ length s
 unfolding segment_of segment_checks segment_at
 segment-room source destination port s g eq =
-    let p = passed C.Refused (segment_checks source destination port s) (C.Segment (segment_at s)) (C.Segment g)
-    (λ r e. let z : ◌≡◌ {A = ℕ} 0 1 = cc in omega arith) eq in
+    let p = through (segment_checks source destination port s) (Ok (segment_at s)) g eq in
     let e : segment_at s ≡ g = cc p.1 in
     rw (← e) (omega (arith, tests))
-
--- ---- what the code cites: its exit number n, and what it accepts
-
-pub segment_exit : (source destination port : ℕ) (s : List ℕ) (n : ℕ) → At (segment_checks source destination port s) n
-    → segment_of source destination port s ≡ given C.Refused (segment_checks source destination port s) (C.Segment (segment_at s)) n
-unfolding segment_of
-segment_exit source destination port s n p = decided C.Refused (segment_checks source destination port s) (C.Segment (segment_at s)) n p
-
-pub segment_accepts : (source destination port : ℕ) (s : List ℕ) (start identifier frame_length_at offset : ℕ) → Passed (segment_checks source destination port s)
-    → start ≡ 4 * data_offset_at s → identifier ≡ be_at s 8 4 → frame_length_at ≡ be_at s 4 2 → offset ≡ be_at s 6 2
-    → C.Segment (record { start = start; identifier = identifier; frame_length = frame_length_at; offset = offset }) ≡ segment_of source destination port s
-unfolding segment_of segment_at
-segment_accepts source destination port s start identifier frame_length_at offset p e1 e2 e3 e4 =
-    rw (e1, e2, e3, e4) (sym (pass C.Refused (segment_checks source destination port s) (C.Segment (segment_at s)) p))

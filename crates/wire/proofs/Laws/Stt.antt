@@ -1,14 +1,12 @@
 -- The reader of STT frames is sound and complete for the format, and blind to what document 01 ignores.
-use Rattle.std.specs.Prelude.{◌≡◌, ℕ, ◌+◌, ◌%◌, ◌^◌, ◌<◌, ◌≤◌, true, false, ◌&&◌, ◌≢◌, List, [], ◌∷◌, length, drop, ◌==◌, refl}
+use Rattle.std.specs.Prelude.{◌≡◌, ℕ, ◌+◌, ◌%◌, ◌^◌, ◌<◌, ◌≤◌, true, false, ◌&&◌, ◌≢◌, List, [], ◌∷◌, length, drop, ◌==◌, refl, Ok, Err}
 use Rattle.std.proofs.Common.{sym, ap, ◌∙◌, true≢false, arith, le-ltb, eq-eqb, ne_eqb}
 use Rattle.wire.specs.Bytes.{Bytes, be, be_at, ◌then◌}
 use Rattle.wire.proofs.Laws.Bytes.{case_b, as_fields, be_value, be-lt}
-use Rattle.wire.specs.Checks.{Passed}
-use Rattle.wire.proofs.Laws.Checks.{pass, passed, tests, is_not, At, given, decided}
+use Rattle.wire.proofs.Laws.Checks.{pass, through, tests, is_not}
 use Rattle.wire.specs.Inner.{CarriesTransport, carries_transport}
 use Rattle.wire.proofs.Laws.Inner.{test_is, test_says}
 use Rattle.wire.specs.Stt.{stt, IsStt, contradicts, stt_checks, stt_of, ReadsStt}
-use Rattle.wire.specs.declared.stt.SttRead.TheVariants as T
 
 record ReadsBack (flags context : ℕ) (frame s : List ℕ) : Type 0 where
   version_is : be_at s 0 1 ≡ 0
@@ -30,14 +28,6 @@ reads_back flags l4 reserved mss tag context padding frame h1 h2 = record {
 
 -- ---- flags 0x01 and 0x02: both set, of an inner frame that carries TCP or UDP over IP
 
-pub contradicts_not : (s : List ℕ) → (be_at s 1 1 % 4 ≢ 3) → false ≡ contradicts s
-unfolding contradicts
-contradicts_not s n = rw (ne_eqb (be_at s 1 1 % 4) 3 n)
-
-pub contradicts_by : (s : List ℕ) → be_at s 1 1 % 4 ≡ 3 → carries_transport (drop 18 s) ≡ contradicts s
-unfolding contradicts
-contradicts_by s e = rw (eq-eqb (be_at s 1 1 % 4) 3 e)
-
 -- they are not, where they need not agree or do
 agrees : (s : List ℕ) → (CarriesTransport (drop 18 s) → be_at s 1 1 % 4 ≢ 3) → contradicts s ≡ false
 unfolding contradicts
@@ -52,13 +42,13 @@ agreed s e w q =
     let t : (be_at s 1 1 % 4 == 3 && carries_transport (drop 18 s)) ≡ true = rw (eq-eqb (be_at s 1 1 % 4) 3 q, test_is (drop 18 s) w) in
     true≢false (sym t ∙ e)
 
-pub complete : {context : ℕ} {frame s : List ℕ} → IsStt context frame s → (stt_of s ≡ T.Header context) × (drop 18 s ≡ frame) × (length s ≡ 18 + length frame)
+pub complete : {context : ℕ} {frame s : List ℕ} → IsStt context frame s → (stt_of s ≡ Ok context) × (drop 18 s ≡ frame) × (length s ≡ 18 + length frame)
 unfolding stt_of stt_checks
 complete {context} {frame} {s} w =
     let r : ReadsBack w.flags context frame s =
     rw w.is (reads_back w.flags w.l4 w.reserved w.mss w.tag context w.padding frame w.flags_fit w.context_fits) in
     let n : contradicts s ≡ false = agrees s (λ t. rw r.flags_is (w.not_both (rw r.frame_is at t))) in (
-      pass T.Refused (stt_checks s) _ (le-ltb (length s) 18 (omega (arith, r.long)), (is_not (be_at s 0 1) 0 r.version_is, (n, tt))) ∙ rw r.context_is,
+      pass Err (stt_checks s) _ (le-ltb (length s) 18 (omega (arith, r.long)), (is_not (be_at s 0 1) 0 r.version_is, (n, tt))) ∙ rw r.context_is,
       r.frame_is,
       r.long,
     )
@@ -75,10 +65,10 @@ pub record Accepted (s : List ℕ) (context : ℕ) : Type 0 where
   pub is : IsStt context (drop 18 s) s
   pub within : 18 ≤ length s
 
-pub sound : (s : List ℕ) → Bytes s → (context : ℕ) → stt_of s ≡ T.Header context → Accepted s context
+pub sound : (s : List ℕ) → Bytes s → (context : ℕ) → stt_of s ≡ Ok context → Accepted s context
 unfolding stt_of stt_checks stt
 sound s b context eq =
-    let p = passed T.Refused (stt_checks s) (T.Header (be_at s 8 8)) (T.Header context) (λ r e. let z : ◌≡◌ {A = ℕ} 0 1 = cc in omega arith) eq in
+    let p = through (stt_checks s) (Ok (be_at s 8 8)) context eq in
     let e : be_at s 8 8 ≡ context = cc p.1 in
     let h : 18 ≤ length s = omega (arith, tests) in
     let v : be_at s 0 1 ≡ 0 = omega (arith, tests) in
@@ -106,21 +96,11 @@ unfolding stt_of stt_checks
 ignores s t l v c f = rw (l, v, f, c)
 
 -- what is read as a header is one, for any list
-pub stt-room : (s : List ℕ) (context : ℕ) → stt_of s ≡ T.Header context → 18 ≤ length s
+pub stt_room : (s : List ℕ) (context : ℕ) → stt_of s ≡ Ok context → 18 ≤ length s
 unfolding stt_of stt_checks
-stt-room s context eq =
-    let p = passed T.Refused (stt_checks s) (T.Header (be_at s 8 8)) (T.Header context) (λ r e. let z : ◌≡◌ {A = ℕ} 0 1 = cc in omega arith) eq in
+stt_room s context eq =
+    let p = through (stt_checks s) (Ok (be_at s 8 8)) context eq in
     omega (arith, tests)
-
--- ---- what the code cites: its exit number n, and what it accepts
-
-pub stt_exit : (s : List ℕ) (n : ℕ) → At (stt_checks s) n → stt_of s ≡ given T.Refused (stt_checks s) (T.Header (be_at s 8 8)) n
-unfolding stt_of
-stt_exit s n p = decided T.Refused (stt_checks s) (T.Header (be_at s 8 8)) n p
-
-pub stt_accepts : (s : List ℕ) (context : ℕ) → Passed (stt_checks s) → context ≡ be_at s 8 8 → T.Header context ≡ stt_of s
-unfolding stt_of
-stt_accepts s context p e = rw e (sym (pass T.Refused (stt_checks s) (T.Header (be_at s 8 8)) p))
 
 pub reads-stt : ReadsStt
 reads-stt = record {

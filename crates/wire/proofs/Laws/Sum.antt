@@ -1,10 +1,11 @@
 -- Laws of the ones' complement sum.
-use Rattle.std.specs.Prelude.{◌≡◌, ℕ, zero, suc, ◌+◌, ◌-◌, ◌*◌, ◌/◌, ◌%◌, ◌^◌, ◌<◌, ◌≤◌, List, [], ◌∷◌, ◌++◌, length, drop, nat_lt, slice_index, refl}
+use Rattle.std.specs.Prelude.{◌≡◌, ℕ, zero, suc, ◌+◌, ◌-◌, ◌*◌, ◌/◌, ◌%◌, ◌^◌, ◌<◌, ◌≤◌, List, [], ◌∷◌, ◌++◌, length, drop, nat_lt, slice_index, slice_index_or}
+use Rattle.std.specs.Prelude.{refl}
 use Rattle.std.proofs.Common.{◌∙◌, sym, ap, append_assoc, arith, add_comm, zero-add, add-zero, drop-cons, ltb-true, ltb-false}
 use Rattle.std.proofs.Math.Nat.{add-mul-mod_self_right}
 use Rattle.std.proofs.Math.Seq.{drop-length}
 use Rattle.wire.specs.Bytes.{Bytes, be, be_at}
-use Rattle.wire.proofs.Laws.Bytes.{be_one, be-two, be_split, case_b}
+use Rattle.wire.proofs.Laws.Bytes.{be-two, be_split, case_b}
 use Rattle.wire.specs.Checks.{pick}
 use Rattle.wire.specs.Sum.{total, ones, pseudo, complement, swapped}
 
@@ -111,12 +112,14 @@ total-two s i h =
     let q : i + 2 ≡ suc (suc i) = omega arith in
     rw (be-two s i, p, q, e, f)
 
-pub total_one : (s : List ℕ) (i : ℕ) → i + 1 ≡ length s → total (drop i s) ≡ 256 * be_at s i 1
+-- of fewer than four bytes, the first and the third stand a byte higher
+pub total_few : (s : List ℕ) → length s < 4 → total s ≡ 256 * (slice_index_or s 0 0 + slice_index_or s 2 0) + slice_index_or s 1 0
 unfolding total
-total_one s i h =
-    let e : drop i s ≡ slice_index s i ∷ drop (suc i) s = drop-cons s i 0 (omega arith) in
-    let p : suc i ≡ length s = omega arith in
-    rw (be_one s i, e, p, drop-length) (omega arith)
+total_few [] h = refl
+total_few (a ∷ []) h = omega arith
+total_few (a ∷ b ∷ []) h = omega arith
+total_few (a ∷ b ∷ c ∷ []) h = omega arith
+total_few (a ∷ b ∷ c ∷ d ∷ s) h = absurd (omega arith)
 
 pub total-none : (s : List ℕ) (i : ℕ) → i ≡ length s → total (drop i s) ≡ 0
 unfolding total

@@ -1,5 +1,6 @@
 -- What each reader answers, by document 01's rows (Table.antt).
-use Rattle.std.specs.Prelude.{◌≡◌, ℕ, ◌*◌, ◌/◌, ◌%◌, ◌^◌, ◌<◌, ◌≤◌, Bool, true, false, cond, not, ◌&&◌, ◌||◌, List, [], ◌∷◌, ◌++◌, length, drop, ◌==◌, nat_eq, nat_lt, refl}
+use Rattle.std.specs.Prelude.{◌≡◌, ℕ, ◌*◌, ◌/◌, ◌%◌, ◌^◌, ◌<◌, ◌≤◌, Bool, true, false, cond, not, ◌&&◌, ◌||◌, List, [], ◌∷◌, ◌++◌, length, drop, ◌==◌, nat_eq}
+use Rattle.std.specs.Prelude.{nat_lt, refl, Result, Ok, Err}
 use Rattle.std.proofs.Math.Path.{sym, ap}
 use Rattle.std.proofs.Common.{◌∙◌, arith, length-drop}
 use borrow.Author.Tests.{ltb-false, eqb-true, le-ltb}
@@ -16,19 +17,19 @@ use Rattle.wire.specs.Nvgre.{nvgre_checks, nvgre_at, nvgre_of}
 use Rattle.wire.specs.Segment.{segment_checks, segment_at, segment_of}
 use Rattle.wire.specs.Stt.{contradicts, stt_checks, stt_of}
 use Rattle.wire.specs.Frame.{frame_checks, frame_of}
-use Rattle.wire.specs.Carriage.{carriage_of}
-use Rattle.wire.specs.declared.carriage.Carried.TheVariants as C
+use Rattle.wire.specs.Carriage.{carried, carriage_of}
 use Rattle.wire.specs.declared.ipv4.Ipv4.{Ipv4}
-use Rattle.wire.specs.declared.ipv4.Ipv4Read.TheVariants as I
 use Rattle.wire.specs.declared.segment.Segment.{Segment}
-use Rattle.wire.specs.declared.stt.SttRead.TheVariants as H
-use Rattle.wire.specs.declared.frame.FrameRead.TheVariants as F
 use Rattle.wire.specs.declared.carriage.Tunnel.{Tunnel}
-use Rattle.wire.specs.Table.{Rows, ◌and_then◌, ◌otherwise◌, ipv4_rows, payload_rows, vxlan_rows, nvgre_rows, stt_rows, bad_frame, ipv4_tells, carried_tells}
-use Rattle.wire.specs.Table.{total_length_of, header_length_of, data_words_of, source_of, destination_of, protocol_of, vni_of, vsid_of, frame_length_of, offset_of}
+use Rattle.wire.specs.Table.{Rows, ◌and_then◌, ◌otherwise◌, ipv4_rows, payload_rows, vxlan_rows, nvgre_rows, stt_rows, bad_frame, tells, carried_tells}
+use Rattle.wire.specs.Table.{total_length_of, header_length_of, data_words_of, source_of, destination_of, protocol_of, vni_of, vsid_of, frame_length_of}
+use Rattle.wire.specs.Table.{offset_of}
 use Rattle.wire.specs.Table.{identifier_of, context_of}
 use Rattle.wire.specs.Table.{payload_of, segment_bytes_of}
-use Rattle.wire.specs.Table.{stt_tells, frame_tells, Table}
+use Rattle.wire.specs.Table.{Table}
+use Rattle.wire.specs.declared.carriage.Carried.{Carried}
+use Rattle.wire.specs.declared.carriage.Carried.TheVariants as C
+use Rattle.wire.specs.declared.refusal.Refusal.{Refusal}
 
 -- ---- rows
 
@@ -74,10 +75,10 @@ row6 n a b c d f g x = row5 n a b c d f (pick g n x) ∙ row2 n (a || b || c || 
 
 -- ---- the outer header: 3, 4, 5
 
-ipv4_told : (start : ℕ) (f : Ipv4 → Finding) (k : List ℕ) → ipv4_tells start f (ipv4_of k) ≡ (ipv4_rows k otherwise f (ipv4_at k))
+ipv4_told : (start : ℕ) (f : Ipv4 → Finding) (k : List ℕ) → tells start f (ipv4_of k) ≡ (ipv4_rows k otherwise f (ipv4_at k))
 unfolding ipv4_of ipv4_checks ipv4_rows first finding_of total_length_of header_length_of
 ipv4_told start f k =
-    pull (ipv4_tells start f) I.Refused (ipv4_checks k) (I.Packet (ipv4_at k))
+    pull (tells start f) Err (ipv4_checks k) (Ok (ipv4_at k))
     ∙ row5 (only 3) (nat_lt (length k) 20) (not (be_at k 0 1 / 16 == 4)) (nat_lt (be_at k 0 1 % 16) 5) (nat_lt (be_at k 2 2) (4 * (be_at k 0 1 % 16)))
     (nat_lt (length k) (be_at k 2 2)) _
 
@@ -110,26 +111,32 @@ gre-row : (start : ℕ) (s : List ℕ) → 8 ≤ length s → (x : Finding) → 
 unfolding nvgre_checks nvgre_rows finding_of first
 gre-row start s l x = rw (le-ltb (length s) 8 l) (row2 (26 at_byte start) (nat_lt (be_at s 0 1) 32) (nat_lt 35 (be_at s 0 1)) _)
 
+-- one reader's answer, as one of what a payload carries, tells the same
+carried-tells : {A : Type 0} (kind : A → Carried) (start : ℕ) (h : Carried → Finding) (x : Result A Refusal)
+    → tells start h (carried kind x) ≡ tells start (λ y. h (kind y)) x
+carried-tells kind start h (Ok y) = refl
+carried-tells kind start h (Err r) = refl
+
 module _ (f : Tunnel → Finding) (g : Segment → Finding) (start protocol source destination port : ℕ) (s : List ℕ) where
   -- what is made of the answer of each reader
-  vxlan-read : (t : List ℕ) → carried_tells start f g (vxlan_of t)
+  vxlan-read : (t : List ℕ) → tells start f (vxlan_of t)
       ≡ first (finding_of start) (vxlan_checks t) (f (record { start = 16; network = be_at t 4 3; kind = 1 }))
   unfolding vxlan_of vxlan_at
-  vxlan-read t = pull (carried_tells start f g) C.Refused (vxlan_checks t) (C.Tunnel (vxlan_at t))
+  vxlan-read t = pull (tells start f) Err (vxlan_checks t) (Ok (vxlan_at t))
 
-  udp-read : carried_tells start f g (udp_of source destination s)
-      ≡ first (finding_of start) (udp_checks source destination s) (carried_tells start f g (vxlan_of (drop 8 s)))
+  udp-read : tells start f (udp_of source destination s)
+      ≡ first (finding_of start) (udp_checks source destination s) (tells start f (vxlan_of (drop 8 s)))
   unfolding udp_of
-  udp-read = pull (carried_tells start f g) C.Refused (udp_checks source destination s) (vxlan_of (drop 8 s))
+  udp-read = pull (tells start f) Err (udp_checks source destination s) (vxlan_of (drop 8 s))
 
-  nvgre-read : carried_tells start f g (nvgre_of s) ≡ first (finding_of start) (nvgre_checks s) (f (record { start = 8; network = be_at s 4 3; kind = 2 }))
+  nvgre-read : tells start f (nvgre_of s) ≡ first (finding_of start) (nvgre_checks s) (f (record { start = 8; network = be_at s 4 3; kind = 2 }))
   unfolding nvgre_of nvgre_at
-  nvgre-read = pull (carried_tells start f g) C.Refused (nvgre_checks s) (C.Tunnel (nvgre_at s))
+  nvgre-read = pull (tells start f) Err (nvgre_checks s) (Ok (nvgre_at s))
 
-  segment-read : carried_tells start f g (segment_of source destination port s)
+  segment-read : tells start g (segment_of source destination port s)
       ≡ first (finding_of start) (segment_checks source destination port s) (g (segment_at s))
   unfolding segment_of
-  segment-read = pull (carried_tells start f g) C.Refused (segment_checks source destination port s) (C.Segment (segment_at s))
+  segment-read = pull (tells start g) Err (segment_checks source destination port s) (Ok (segment_at s))
 
   abbrev rows : Rows
   rows = payload_rows protocol source destination port s
@@ -164,17 +171,17 @@ module _ (f : Tunnel → Finding) (g : Segment → Finding) (start protocol sour
   abbrev nvgre_next : Finding
   nvgre_next = nvgre_rows start s otherwise f (record { start = 8; network = be_at s 4 3; kind = 2 })
 
-  by_vxlan : protocol ≡ 17 → carried_tells start f g (udp_of source destination s) ≡ (rows otherwise vxlan_next)
+  by_vxlan : protocol ≡ 17 → tells start f (udp_of source destination s) ≡ (rows otherwise vxlan_next)
   unfolding udp_checks
   by_vxlan q =
       udp-read
-      ∙ under (finding_of start) (udp_checks source destination s) (carried_tells start f g (vxlan_of (drop 8 s))) vxlan_next (λ p.
+      ∙ under (finding_of start) (udp_checks source destination s) (tells start f (vxlan_of (drop 8 s))) vxlan_next (λ p.
       vxlan-read (drop 8 s)
       ∙ flag_row start s (omega (arith, tests, p.1.1.1.0)) _
       ∙ ap (λ (n : ℕ). vxlan_rows start s otherwise f (record { start = 16; network = n; kind = 1 })) (be-drop s 8 4 3))
       ∙ udp-rows q vxlan_next
 
-  by_nvgre : protocol ≡ 47 → carried_tells start f g (nvgre_of s) ≡ (rows otherwise nvgre_next)
+  by_nvgre : protocol ≡ 47 → tells start f (nvgre_of s) ≡ (rows otherwise nvgre_next)
   unfolding nvgre_checks first finding_of
   by_nvgre q = nvgre-read ∙ short-first ∙ nvgre-rows q nvgre_next
     where
@@ -185,34 +192,34 @@ module _ (f : Tunnel → Finding) (g : Segment → Finding) (start protocol sour
           (λ b. rw b)
           (λ b. gre-row start s (ltb-false (length s) 8 b) _ ∙ sym (rw b))
 
-  by_segment : length s ≤ 65535 → protocol ≡ 6 → carried_tells start f g (segment_of source destination port s) ≡ (rows otherwise g (segment_at s))
+  by_segment : length s ≤ 65535 → protocol ≡ 6 → tells start g (segment_of source destination port s) ≡ (rows otherwise g (segment_at s))
   by_segment l q = segment-read ∙ segment-rows q l (g (segment_at s))
 
   payload-told : length s ≤ 65535
-      → carried_tells start f g (carriage_of protocol source destination port s)
+      → tells start (carried_tells f g) (carriage_of protocol source destination port s)
       ≡ (rows otherwise cond (protocol == 17) vxlan_next (cond (protocol == 47) nvgre_next (g (segment_at s))))
   unfolding carriage_of finding_of
   payload-told l =
       case_b (protocol == 17)
-      (λ a. rw a (by_vxlan (eqb-true protocol 17 a)))
+      (λ a. rw a (carried-tells C.Tunnel start (carried_tells f g) (udp_of source destination s) ∙ by_vxlan (eqb-true protocol 17 a)))
       (λ a. case_b (protocol == 47)
-      (λ b. rw (a, b) (by_nvgre (eqb-true protocol 47 b)))
+      (λ b. rw (a, b) (carried-tells C.Tunnel start (carried_tells f g) (nvgre_of s) ∙ by_nvgre (eqb-true protocol 47 b)))
       (λ b. case_b (protocol == 6)
-      (λ c. rw (a, b, c) (by_segment l (eqb-true protocol 6 c)))
+      (λ c. rw (a, b, c) (carried-tells C.Segment start (carried_tells f g) (segment_of source destination port s) ∙ by_segment l (eqb-true protocol 6 c)))
       (λ c. rw (a, b, c) (none_rows a b c (g (segment_at s))))))
 
 -- ---- a complete STT frame: 28, 29
 
-stt-told : (start : ℕ) (f : ℕ → Finding) (frame : List ℕ) → 18 ≤ length frame → stt_tells start f (stt_of frame) ≡ (stt_rows frame otherwise f (be_at frame 8 8))
+stt-told : (start : ℕ) (f : ℕ → Finding) (frame : List ℕ) → 18 ≤ length frame → tells start f (stt_of frame) ≡ (stt_rows frame otherwise f (be_at frame 8 8))
 unfolding contradicts stt_of stt_checks stt_rows first finding_of
-stt-told start f frame l = pull (stt_tells start f) H.Refused (stt_checks frame) (H.Header (be_at frame 8 8)) ∙ rw (le-ltb (length frame) 18 l)
+stt-told start f frame l = pull (tells start f) Err (stt_checks frame) (Ok (be_at frame 8 8)) ∙ rw (le-ltb (length frame) 18 l)
 
 -- ---- the inner frame: 13
 
-frame-told : (start : ℕ) (x : Finding) (frame : List ℕ) → frame_tells start x (frame_of frame) ≡ ((bad_frame frame ⇒ only 13) ∷ [] otherwise x)
+frame-told : (start : ℕ) (x : Finding) (frame : List ℕ) → tells start (λ u. x) (frame_of frame) ≡ ((bad_frame frame ⇒ only 13) ∷ [] otherwise x)
 unfolding frame_of frame_checks bad_frame first finding_of
 frame-told start x frame =
-    pull (frame_tells start x) F.Refused (frame_checks frame) F.Good
+    pull (tells start (λ u. x)) Err (frame_checks frame) (Ok tt)
     ∙ row4 (only 13) (nat_lt (length frame) 14) (nat_lt 1514 (length frame)) (be_at frame 12 2 == 33024) (be_at frame 12 2 == 34984) x
 
 -- ---- the fields: what a reader of the page needs of their places

@@ -1,16 +1,14 @@
 -- Laws of UDP.
-use Rattle.std.specs.Prelude.{◌≡◌, ℕ, ◌+◌, ◌-◌, ◌^◌, ◌<◌, ◌≤◌, ◌⊎◌, List, [], ◌∷◌, ◌++◌, length, drop, ◌==◌, ◌≢◌, refl}
-use Rattle.std.proofs.Common.{sym, ap, ◌∙◌, inl, inr, ⊎_elim, arith, eqb-true, eq-eqb, ne_eqb, length-drop}
+use Rattle.std.specs.Prelude.{◌≡◌, ℕ, ◌+◌, ◌-◌, ◌^◌, ◌<◌, ◌≤◌, ◌⊎◌, List, [], ◌∷◌, ◌++◌, length, drop, ◌==◌, refl, Ok, Err}
+use Rattle.std.proofs.Common.{ap, ◌∙◌, inl, inr, ⊎_elim, arith, eqb-true, eq-eqb, length-drop}
 use Rattle.wire.specs.Bytes.{Bytes, be, be_at}
 use Rattle.wire.proofs.Laws.Bytes.{as_fields, be_value, be-lt, case_b}
 use Rattle.wire.specs.Sum.{total, ones, pseudo}
 use Rattle.wire.specs.Checks.{Passed}
-use Rattle.wire.proofs.Laws.Checks.{pass, passed, tests, passing, At, given, decided}
+use Rattle.wire.proofs.Laws.Checks.{pass, through, tests, passing}
 use Rattle.wire.specs.Udp.{udp, IsUdp, udp_sum, udp_checks, udp_of}
 use Rattle.wire.specs.Vxlan.{vxlan_of}
-use Rattle.wire.specs.declared.refusal.Refusal.{Refusal}
-use Rattle.wire.specs.declared.carriage.Carried.{Carried}
-use Rattle.wire.specs.declared.carriage.Carried.TheVariants as C
+use Rattle.wire.specs.declared.carriage.Tunnel.{Tunnel}
 
 -- ---- written, then read
 
@@ -49,16 +47,6 @@ unfolding udp_sum
 judge source destination s e =
     case_b (be_at s 6 2 == 0) (λ q. inl (eqb-true (be_at s 6 2) 0 q)) (λ q. inr (rw q at e))
 
--- what it is, by the field
-pub sum-none : (source destination : ℕ) (s : List ℕ) → be_at s 6 2 ≡ 0 → 65535 ≡ udp_sum source destination s
-unfolding udp_sum
-sum-none source destination s e = rw (eq-eqb (be_at s 6 2) 0 e)
-
-pub sum-some : (source destination : ℕ) (s : List ℕ) → (be_at s 6 2 ≢ 0)
-    → ones (total (pseudo source destination 17 (length s) ++ s)) ≡ udp_sum source destination s
-unfolding udp_sum
-sum-some source destination s e = rw (ne_eqb (be_at s 6 2) 0 e)
-
 -- ---- read, then written
 
 pub as_udp : (source destination port : ℕ) (s : List ℕ) → Bytes s → 8 ≤ length s
@@ -90,7 +78,7 @@ complete {source} {destination} {payload} {s} u h =
     rw u.whole (reads_back u.from 4789 (8 + length payload) u.checksum payload u.port_fits u.size_fits u.checksum_fits) in
     let sum : udp_sum source destination s ≡ 65535 = judged source destination s (⊎_elim (λ z. inl (a.checksum_is ∙ z)) inr u.right) in
     let behind : drop 8 s ≡ payload = rw u.whole (udp-payload u.from 4789 (8 + length payload) u.checksum payload) in (
-      pass C.Refused (udp_checks source destination s) (vxlan_of (drop 8 s)) (omega (arith, passing, a.port, a.length_is)) ∙ ap vxlan_of behind,
+      pass Err (udp_checks source destination s) (vxlan_of (drop 8 s)) (omega (arith, passing, a.port, a.length_is)) ∙ ap vxlan_of behind,
       behind,
       size,
     )
@@ -109,26 +97,15 @@ sound_at source destination s b p =
       room = omega (arith, tests);
     }
 
-module _ (source destination : ℕ) (s : List ℕ) (x : Carried) (good : (r : Refusal) → C.Refused r ≢ x) (eq : udp_of source destination s ≡ x) where
-  opened : Passed (udp_checks source destination s) × (vxlan_of (drop 8 s) ≡ x)
+module _ (source destination : ℕ) (s : List ℕ) (t : Tunnel) (eq : udp_of source destination s ≡ Ok t) where
+  opened : Passed (udp_checks source destination s) × (vxlan_of (drop 8 s) ≡ Ok t)
   unfolding udp_of
-  opened = passed C.Refused (udp_checks source destination s) (vxlan_of (drop 8 s)) x good eq
+  opened = through (udp_checks source destination s) (vxlan_of (drop 8 s)) t eq
 
-  pub sound : Bytes s → Accepted source destination s × (vxlan_of (drop 8 s) ≡ x)
+  pub sound : Bytes s → Accepted source destination s × (vxlan_of (drop 8 s) ≡ Ok t)
   sound b = (sound_at source destination s b opened.0, opened.1)
 
   -- the same of any list
-  pub udp-room : (16 ≤ length s) × (vxlan_of (drop 8 s) ≡ x)
+  pub udp-room : (16 ≤ length s) × (vxlan_of (drop 8 s) ≡ Ok t)
   unfolding udp_checks
   udp-room = let p = opened in (omega (arith, tests), p.1)
-
--- ---- what the code cites: its exit number n, and what it accepts
-
-pub udp_exit : (source destination : ℕ) (s : List ℕ) (n : ℕ) → At (udp_checks source destination s) n
-    → udp_of source destination s ≡ given C.Refused (udp_checks source destination s) (vxlan_of (drop 8 s)) n
-unfolding udp_of
-udp_exit source destination s n p = decided C.Refused (udp_checks source destination s) (vxlan_of (drop 8 s)) n p
-
-pub udp_accepts : (source destination : ℕ) (s : List ℕ) → Passed (udp_checks source destination s) → vxlan_of (drop 8 s) ≡ udp_of source destination s
-unfolding udp_of
-udp_accepts source destination s p = sym (pass C.Refused (udp_checks source destination s) (vxlan_of (drop 8 s)) p)

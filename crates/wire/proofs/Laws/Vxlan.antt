@@ -1,14 +1,12 @@
 -- The reader of VXLAN is sound and complete for the format, and blind to what document 01 ignores.
-use Rattle.std.specs.Prelude.{◌≡◌, ℕ, ◌+◌, ◌/◌, ◌%◌, ◌^◌, ◌<◌, ◌≤◌, List, [], ◌∷◌, length, drop, ◌≢◌, refl}
-use Rattle.std.proofs.Common.{sym, ap, subst, ◌∙◌, arith}
+use Rattle.std.specs.Prelude.{◌≡◌, ℕ, ◌+◌, ◌/◌, ◌%◌, ◌^◌, ◌<◌, ◌≤◌, List, [], ◌∷◌, length, drop, refl, Ok, Err}
+use Rattle.std.proofs.Common.{ap, subst, ◌∙◌, arith}
 use Rattle.wire.specs.Bytes.{Bytes, be, be_at}
 use Rattle.wire.proofs.Laws.Bytes.{as_fields, be_value, be-lt}
 use Rattle.wire.specs.Checks.{Passed}
-use Rattle.wire.proofs.Laws.Checks.{pass, passed, tests, passing, At, given, decided}
-use Rattle.wire.specs.Vxlan.{vxlan, IsVxlan, vni_at, vxlan_checks, vxlan_at, vxlan_of}
+use Rattle.wire.proofs.Laws.Checks.{pass, through, tests, passing}
+use Rattle.wire.specs.Vxlan.{vxlan, IsVxlan, vxlan_checks, vxlan_at, vxlan_of}
 use Rattle.wire.specs.declared.carriage.Tunnel.{Tunnel}
-use Rattle.wire.specs.declared.carriage.Carried.TheVariants as C
-use Rattle.wire.specs.declared.segment.Segment.{Segment}
 
 pub vxlan-length : (flags reserved vni last : ℕ) (frame : List ℕ) → length (vxlan flags reserved vni last frame) ≡ 8 + length frame
 unfolding vxlan be
@@ -31,13 +29,13 @@ reads_back flags reserved vni last frame h1 h2 = record {
 }
 
 pub complete : {vni : ℕ} {frame s : List ℕ} → IsVxlan vni frame s
-    → (vxlan_of s ≡ C.Tunnel (record { start = 16; network = vni; kind = 1 })) × (drop 8 s ≡ frame) × (length s ≡ 8 + length frame)
+    → (vxlan_of s ≡ Ok (record { start = 16; network = vni; kind = 1 })) × (drop 8 s ≡ frame) × (length s ≡ 8 + length frame)
 unfolding vxlan_of vxlan_checks vxlan_at
 complete {vni} {frame} {s} v =
     let n : length s ≡ 8 + length frame = ap length v.whole ∙ vxlan-length v.flags v.reserved vni v.last frame in
     let r : ReadsBack v.flags vni frame s = rw v.whole (reads_back v.flags v.reserved vni v.last frame v.flags_fit v.vni_fits) in
     let flag : be_at s 0 1 / 8 % 2 ≡ 1 = rw r.flags_is v.flag in (
-      pass C.Refused (vxlan_checks s) (C.Tunnel (vxlan_at s)) (omega (arith, passing)) ∙ rw r.vni_is,
+      pass Err (vxlan_checks s) (Ok (vxlan_at s)) (omega (arith, passing)) ∙ rw r.vni_is,
       r.frame_is,
       n,
     )
@@ -69,24 +67,17 @@ sound_at s b p =
       within = h;
     }
 
-pub sound : (s : List ℕ) → Bytes s → (t : Tunnel) → vxlan_of s ≡ C.Tunnel t → Accepted s t
+pub sound : (s : List ℕ) → Bytes s → (t : Tunnel) → vxlan_of s ≡ Ok t → Accepted s t
 unfolding vxlan_of
 sound s b t eq =
-    let p = passed C.Refused (vxlan_checks s) (C.Tunnel (vxlan_at s)) (C.Tunnel t) (λ r e. let z : ◌≡◌ {A = ℕ} 0 1 = cc in omega arith) eq in
+    let p = through (vxlan_checks s) (Ok (vxlan_at s)) t eq in
     subst (Accepted s) (cc p.1) (sound_at s b p.0)
 
-pub no_segment : (s : List ℕ) (g : Segment) → vxlan_of s ≢ C.Segment g
-unfolding vxlan_of
-no_segment s g eq =
-    let p = passed C.Refused (vxlan_checks s) (C.Tunnel (vxlan_at s)) (C.Segment g) (λ r e. let z : ◌≡◌ {A = ℕ} 0 1 = cc in omega arith) eq in
-    let e : C.Tunnel (vxlan_at s) ≡ C.Segment g = p.1 in
-    let z : ◌≡◌ {A = ℕ} 0 1 = cc in omega arith
-
 -- where the frame of what is accepted starts, for any list
-pub vxlan-start : (s : List ℕ) (t : Tunnel) → vxlan_of s ≡ C.Tunnel t → t.start ≡ 16
+pub vxlan-start : (s : List ℕ) (t : Tunnel) → vxlan_of s ≡ Ok t → t.start ≡ 16
 unfolding vxlan_of vxlan_at
 vxlan-start s t eq =
-    let p = passed C.Refused (vxlan_checks s) (C.Tunnel (vxlan_at s)) (C.Tunnel t) (λ r e. let z : ◌≡◌ {A = ℕ} 0 1 = cc in omega arith) eq in
+    let p = through (vxlan_checks s) (Ok (vxlan_at s)) t eq in
     let e : vxlan_at s ≡ t = cc p.1 in
     rw (← e)
 
@@ -95,13 +86,3 @@ vxlan-start s t eq =
 pub ignores : (s t : List ℕ) → length s ≡ length t → be_at s 0 1 / 8 % 2 ≡ be_at t 0 1 / 8 % 2 → be_at s 4 3 ≡ be_at t 4 3 → vxlan_of s ≡ vxlan_of t
 unfolding vxlan_of vxlan_checks vxlan_at
 ignores s t l f v = rw (l, f, v)
-
--- ---- what the code cites: its exit number n, and what it accepts
-
-pub vxlan_exit : (s : List ℕ) (n : ℕ) → At (vxlan_checks s) n → vxlan_of s ≡ given C.Refused (vxlan_checks s) (C.Tunnel (vxlan_at s)) n
-unfolding vxlan_of
-vxlan_exit s n p = decided C.Refused (vxlan_checks s) (C.Tunnel (vxlan_at s)) n p
-
-pub vxlan_accepts : (s : List ℕ) (vni : ℕ) → Passed (vxlan_checks s) → vni ≡ vni_at s → C.Tunnel (record { start = 16; network = vni; kind = 1 }) ≡ vxlan_of s
-unfolding vxlan_of vxlan_at
-vxlan_accepts s vni p e = rw e (sym (pass C.Refused (vxlan_checks s) (C.Tunnel (vxlan_at s)) p))

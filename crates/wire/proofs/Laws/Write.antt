@@ -1,12 +1,13 @@
 -- What is written is, by the formats, what it is meant to be: an IPv4 packet from source to destination that carries the frame, or a segment of the STT frame
 -- that carries it.
-use Rattle.std.specs.Prelude.{◌≡◌, ℕ, ◌+◌, ◌-◌, ◌%◌, ◌^◌, ◌<◌, ◌≤◌, Bool, true, false, List, [], ◌++◌, length, take, drop, refl}
+use Rattle.std.specs.Prelude.{◌≡◌, ℕ, ◌+◌, ◌-◌, ◌%◌, ◌^◌, ◌<◌, ◌≤◌, Bool, true, false, List, [], ◌++◌, length, take, drop, nat_le, Some, None, refl}
 use Rattle.std.proofs.Common.{sym, ap, ap₂, ◌∙◌, inl, inr, append_assoc, arith, length-append, length-drop, length-take-le, take_at, drop_at, drop-drop}
+use Rattle.std.proofs.Common.{leb-true, leb-false}
 use Rattle.wire.specs.Bytes.{be, be_at, part, laid, wrote, ◌then◌}
-use Rattle.wire.proofs.Laws.Bytes.{be-take, wrote-first, wrote-more, wrote-length, wrote-all, laid_more, part_length, part-append}
+use Rattle.wire.proofs.Laws.Bytes.{case_b, be-take, wrote-first, wrote-more, wrote-length, wrote-all, laid_more, part_length, part-append}
 use Rattle.wire.specs.Sum.{total, ones, pseudo, complement}
 use Rattle.wire.proofs.Laws.Sum.{complement-fits, sealed, total_first, total-two, total-none, pseudo-total}
-use Rattle.wire.proofs.Laws.Checks.{pass, passed, At, given, decided, tests, passing}
+use Rattle.wire.proofs.Laws.Checks.{pass, passed, tests, passing}
 use Rattle.wire.specs.Ipv4 as I
 use Rattle.wire.proofs.Laws.Ipv4 as IL
 use Rattle.wire.specs.Udp.{udp}
@@ -20,7 +21,8 @@ use Rattle.wire.specs.declared.inner.Hints.{Hints}
 use Rattle.wire.specs.Stt.{stt, IsStt}
 use Rattle.wire.specs.Segment as S
 use Rattle.wire.specs.Carriage.{IsVxlanUdp, Tunnels}
-use Rattle.wire.specs.Write.{ipv4_with, outer, ipv4_head, packet, source_port_of, vxlan_body, nvgre_body, stt_frame, flags_of, tcp_with, segment_header, segment_bytes}
+use Rattle.wire.specs.Write.{ipv4_with, outer, ipv4_head, packet, source_port_of, vxlan_body, nvgre_body, stt_frame, flags_of, tcp_with, segment_header}
+use Rattle.wire.specs.Write.{segment_bytes}
 use Rattle.wire.specs.Write.{segment_body, vxlan_packet, nvgre_packet, segment_packet, fit_checks, fits, segment_fit_checks, segment_fits, Written}
 
 -- ---- the outer header
@@ -267,15 +269,6 @@ segment-fits_met n offset count room h1 h2 h3 h4 h5 = pass (λ _. false) (segmen
 
 -- ---- what the code cites
 
-pub fits_exit : (headers n room k : ℕ) → At (fit_checks headers n room) k → fits headers n room ≡ given (λ _. false) (fit_checks headers n room) true k
-unfolding fits
-fits_exit headers n room k p = decided (λ _. false) (fit_checks headers n room) true k p
-
-pub segment-fits_exit : (n offset count room k : ℕ) → At (segment_fit_checks n offset count room) k
-    → segment_fits n offset count room ≡ given (λ _. false) (segment_fit_checks n offset count room) true k
-unfolding segment_fits
-segment-fits_exit n offset count room k p = decided (λ _. false) (segment_fit_checks n offset count room) true k p
-
 pub record Fitting (headers n room : ℕ) : Type 0 where
   pub least : 14 ≤ n
   pub short : headers + n ≤ 65535
@@ -306,6 +299,32 @@ segment-fits_facts answer n offset count room a e =
       short = omega (arith, tests);
       room_is = omega (arith, tests);
     }
+
+-- what fits is told by its facts
+pub fits_not : (headers n room : ℕ) → (Fitting headers n room → 1 ≤ 0) → false ≡ fits headers n room
+fits_not headers n room k =
+    case_b (fits headers n room)
+    (λ e. absurd (omega (arith, k (fits_facts (fits headers n room) headers n room refl e))))
+    (λ e. sym e)
+
+pub fits_room : (headers n room : ℕ) → 14 ≤ n → headers + n ≤ 65535 → nat_le (headers + n) room ≡ fits headers n room
+fits_room headers n room h k =
+    case_b (nat_le (headers + n) room)
+    (λ e. e ∙ sym (fits_met headers n room h k (leb-true (headers + n) room e)))
+    (λ e. let l : room < headers + n = leb-false (headers + n) room e in e ∙ fits_not headers n room (λ g. omega arith))
+
+pub segment-fits_not : (n offset count room : ℕ) → (SegmentFitting n offset count room → 1 ≤ 0) → false ≡ segment_fits n offset count room
+segment-fits_not n offset count room k =
+    case_b (segment_fits n offset count room)
+    (λ e. absurd (omega (arith, k (segment-fits_facts (segment_fits n offset count room) n offset count room refl e))))
+    (λ e. sym e)
+
+pub segment-fits_room : (n offset count room : ℕ) → 14 ≤ n → 18 + n ≤ 65535 → offset + count ≤ 18 + n → 40 + count ≤ 65535
+    → nat_le (40 + count) room ≡ segment_fits n offset count room
+segment-fits_room n offset count room h1 h2 h3 h4 =
+    case_b (nat_le (40 + count) room)
+    (λ e. e ∙ sym (segment-fits_met n offset count room h1 h2 h3 h4 (leb-true (40 + count) room e)))
+    (λ e. let l : room < 40 + count = leb-false (40 + count) room e in e ∙ segment-fits_not n offset count room (λ g. omega arith))
 
 pub ipv4_head-from : (protocol size source destination k : ℕ) → k ≡ ones (total (ipv4_with protocol size source destination 0))
     → ipv4_with protocol size source destination (65535 - k) ≡ ipv4_head protocol size source destination
@@ -344,38 +363,28 @@ pub port_from : (s : List ℕ) (x : ℕ) → 14 ≤ length s
 port_from s x h e = rw e (sym (port_is s h))
 
 -- the pieces of a packet were laid one behind the other: `ip`, the m bytes `mid`, and the frame
-packet-written : (protocol source destination m : ℕ) (frame ip mid payload out o1 o2 o3 : List ℕ)
-    → length mid ≡ m → mid ++ frame ≡ payload → ip ≡ ipv4_head protocol (20 + m + length frame) source destination
+pub packet-written : (protocol source destination m : ℕ) (frame ip mid out o1 o2 o3 : List ℕ)
+    → length mid ≡ m → ip ≡ ipv4_head protocol (20 + m + length frame) source destination
     → o1 ≡ laid out 0 ip → o2 ≡ laid o1 20 mid → o3 ≡ laid o2 (20 + m) frame
-    → o3 ≡ wrote out (packet protocol source destination payload)
+    → o3 ≡ wrote out (packet protocol source destination (mid ++ frame))
 unfolding packet
-packet-written protocol source destination m frame ip mid payload out o1 o2 o3 k b e p1 p2 p3 =
+packet-written protocol source destination m frame ip mid out o1 o2 o3 k e p1 p2 p3 =
     let n : length ip ≡ 20 = ap length e ∙ ipv4_length protocol (20 + m + length frame) source destination in
     let l : length (ip ++ mid) ≡ 20 + m = length-append ip mid ∙ omega arith in
-    let size : 20 + m + length frame ≡ 20 + length payload = omega (arith, length-append mid frame, ap length b) in
+    let size : 20 + m + length frame ≡ 20 + length (mid ++ frame) = omega (arith, length-append mid frame) in
     let w1 : o1 ≡ wrote out ip = p1 ∙ wrote-first out ip in
     let w2 : o2 ≡ wrote out (ip ++ mid) = p2 ∙ ap (λ (x : List ℕ). laid x 20 mid) w1 ∙ wrote-more out ip mid 20 n in
     let w3 : o3 ≡ wrote out ((ip ++ mid) ++ frame) = p3 ∙ ap (λ (x : List ℕ). laid x (20 + m) frame) w2 ∙ wrote-more out (ip ++ mid) frame (20 + m) l in
-    w3 ∙ ap (wrote out) (append_assoc ip mid frame ∙ ap₂ (λ (x y : List ℕ). x ++ y) (e ∙ ap (λ (j : ℕ). ipv4_head protocol j source destination) size) b)
+    w3 ∙ ap (wrote out) (append_assoc ip mid frame ∙ ap (λ (x : List ℕ). x ++ (mid ++ frame)) (e ∙ ap (λ (j : ℕ). ipv4_head protocol j source destination) size))
 
-pub vxlan-written : (source destination vni port : ℕ) (frame ip mid out o1 o2 o3 : List ℕ)
-    → ip ≡ ipv4_head 17 (36 + length frame) source destination → port ≡ source_port_of frame
-    → mid ≡ udp port 4789 (16 + length frame) 0 (vxlan 8 0 vni 0 [])
-    → o1 ≡ laid out 0 ip → o2 ≡ laid o1 20 mid → o3 ≡ laid o2 36 frame
-    → o3 ≡ wrote out (vxlan_packet source destination vni frame)
-unfolding vxlan_packet vxlan_body udp vxlan be
-vxlan-written source destination vni port frame ip mid out o1 o2 o3 e q f p1 p2 p3 =
-    let n : 8 + length (vxlan 8 0 vni 0 frame) ≡ 16 + length frame = omega arith in
-    let b : mid ++ frame ≡ vxlan_body vni frame = rw (f, q, n) in
-    packet-written 17 source destination 16 frame ip mid (vxlan_body vni frame) out o1 o2 o3 (ap length f) b e p1 p2 p3
+vxlan-carried : (vni port : ℕ) (frame mid : List ℕ) → port ≡ source_port_of frame → mid ≡ udp port 4789 (16 + length frame) 0 (vxlan 8 0 vni 0 [])
+    → mid ++ frame ≡ vxlan_body vni frame
+unfolding vxlan_body udp vxlan be
+vxlan-carried vni port frame mid q f = let n : 8 + length (vxlan 8 0 vni 0 frame) ≡ 16 + length frame = omega arith in rw (f, q, n)
 
-pub nvgre-written : (source destination vsid : ℕ) (frame ip mid out o1 o2 o3 : List ℕ)
-    → ip ≡ ipv4_head 47 (28 + length frame) source destination → mid ≡ gre 0 0 vsid 0 []
-    → o1 ≡ laid out 0 ip → o2 ≡ laid o1 20 mid → o3 ≡ laid o2 28 frame
-    → o3 ≡ wrote out (nvgre_packet source destination vsid frame)
-unfolding nvgre_packet nvgre_body gre be
-nvgre-written source destination vsid frame ip mid out o1 o2 o3 e f p1 p2 p3 =
-    packet-written 47 source destination 8 frame ip mid (nvgre_body vsid frame) out o1 o2 o3 (ap length f) (ap (λ (x : List ℕ). x ++ frame) f) e p1 p2 p3
+nvgre-carried : (vsid : ℕ) (frame mid : List ℕ) → mid ≡ gre 0 0 vsid 0 [] → mid ++ frame ≡ nvgre_body vsid frame
+unfolding nvgre_body gre be
+nvgre-carried vsid frame mid f = ap (λ (x : List ℕ). x ++ frame) f
 
 -- the two pieces of a segment's bytes: of the STT frame's header, and of the inner frame
 pub segment-pieces : (context offset count a e b f : ℕ) (hints : Hints) (frame header s s1 s2 : List ℕ)
@@ -414,22 +423,19 @@ segment_sealed source destination port context identifier offset count from flag
     p3 ∙ rw (m, v)
 
 -- the segment's part of the output was lent behind the IPv4 header, and came back filled
-pub segment_landed : (source destination port context identifier offset count end n : ℕ) (last : Bool) (frame ip out out1 ys : List ℕ)
+pub segment_landed : (source destination port context identifier offset count end : ℕ) (last : Bool) (frame ip out out1 ys : List ℕ)
     → end ≡ 40 + count → end ≤ length out → offset + count ≤ 18 + length frame
-    → ip ≡ ipv4_head 6 end source destination → out1 ≡ laid out 0 ip → n ≡ length (take (end - 20) (drop 20 out1)) - 20
-    → ys ≡ segment_body source destination port context identifier offset n last frame
+    → ip ≡ ipv4_head 6 end source destination → out1 ≡ laid out 0 ip
+    → ys ≡ segment_body source destination port context identifier offset count last frame
     → take 20 out1 ++ (ys ++ drop (end - 20) (drop 20 out1)) ≡ wrote out (segment_packet source destination port context identifier offset count last frame)
 unfolding segment_packet packet wrote
-segment_landed source destination port context identifier offset count end n last frame ip out out1 ys ee room within ei eo en ey =
+segment_landed source destination port context identifier offset count end last frame ip out out1 ys ee room within ei eo ey =
     let body : List ℕ = segment_body source destination port context identifier offset count last frame in
     let nb : length body ≡ 20 + count = segment_body-length source destination port context identifier offset count last frame within in
     let ni : length ip ≡ 20 = ap length ei ∙ ipv4_length 6 end source destination in
     let o1 : out1 ≡ ip ++ drop (length ip) out = eo ∙ wrote-first out ip in
     let no : length out1 ≡ length out = ap length o1 ∙ wrote-length out ip (omega arith) in
     let nd : length (drop 20 out1) ≡ length out1 - 20 = length-drop 20 out1 in
-    let nt : length (take (end - 20) (drop 20 out1)) ≡ end - 20 = length-take-le (end - 20) (drop 20 out1) (omega arith) in
-    let nn : n ≡ count = omega arith in
-    let yb : ys ≡ body = ey ∙ ap (λ (k : ℕ). segment_body source destination port context identifier offset k last frame) nn in
     let front : take 20 out1 ≡ ip = ap (take 20) o1 ∙ take_at ip (drop (length ip) out) 20 ni in
     let rest : drop 20 out1 ≡ drop 20 out = ap (drop 20) o1 ∙ drop_at ip (drop (length ip) out) 20 ni ∙ ap (λ (k : ℕ). drop k out) ni in
     let size : end ≡ 20 + length body = omega arith in
@@ -437,37 +443,43 @@ segment_landed source destination port context identifier offset count end n las
     let back : drop (end - 20) (drop 20 out1) ≡ drop (length (ip ++ body)) out =
     ap (drop (end - 20)) rest ∙ drop-drop (end - 20) 20 out ∙ ap (λ (k : ℕ). drop k out) all in
     let head : ip ≡ ipv4_head 6 (20 + length body) source destination = ei ∙ ap (λ (k : ℕ). ipv4_head 6 k source destination) size in
-    ap₂ (λ (x y : List ℕ). x ++ y) front (ap₂ (λ (x y : List ℕ). x ++ y) yb back)
+    ap₂ (λ (x y : List ℕ). x ++ y) front (ap₂ (λ (x y : List ℕ). x ++ y) ey back)
     ∙ sym (append_assoc ip body (drop (length (ip ++ body)) out))
     ∙ ap (λ (l : List ℕ). (l ++ body) ++ drop (length (l ++ body)) out) head
 
 -- the two ways out of a writer; that the frame fits is what its test answered
-pub refused : (may answer : Bool) (packet old : List ℕ) → answer ≡ may → answer ≡ false → Written may packet old old 0
+pub refused : (may answer : Bool) (packet old : List ℕ) → answer ≡ may → answer ≡ false → Written may packet old old None
 refused may answer packet old q e = rw (sym q ∙ e) (record { length_is = refl; output_is = refl })
 
 written : (may answer : Bool) (packet old new : List ℕ) (r : ℕ) → answer ≡ may → answer ≡ true → length packet ≡ r → new ≡ wrote old packet
-    → Written may packet old new r
-written may answer packet old new r q e l w = rw (sym q ∙ e) (record { length_is = sym l; output_is = w })
+    → Written may packet old new (Some r)
+written may answer packet old new r q e l w = rw (sym q ∙ e) (record { length_is = ap Some (sym l); output_is = w })
 
-pub vxlan-done : (answer : Bool) (source destination vni : ℕ) (frame old new : List ℕ) → answer ≡ fits 36 (length frame) (length old) → answer ≡ true
-    → new ≡ wrote old (vxlan_packet source destination vni frame)
-    → Written (fits 36 (length frame) (length old)) (vxlan_packet source destination vni frame) old new (36 + length frame)
-vxlan-done answer source destination vni frame old new q e w =
-    written (fits 36 (length frame) (length old)) answer (vxlan_packet source destination vni frame) old new (36 + length frame) q e
-    (vxlan-length_is source destination vni frame) w
+pub vxlan-done : (answer : Bool) (source destination vni port r : ℕ) (frame mid old new : List ℕ)
+    → answer ≡ fits 36 (length frame) (length old) → answer ≡ true → port ≡ source_port_of frame → mid ≡ udp port 4789 (16 + length frame) 0 (vxlan 8 0 vni 0 [])
+    → r ≡ 36 + length frame → new ≡ wrote old (packet 17 source destination (mid ++ frame))
+    → Written (fits 36 (length frame) (length old)) (vxlan_packet source destination vni frame) old new (Some r)
+unfolding vxlan_packet
+vxlan-done answer source destination vni port r frame mid old new q e p f l w =
+    written (fits 36 (length frame) (length old)) answer (vxlan_packet source destination vni frame) old new r q e
+    (vxlan-length_is source destination vni frame ∙ sym l)
+    (w ∙ ap (λ (x : List ℕ). wrote old (packet 17 source destination x)) (vxlan-carried vni port frame mid p f))
 
-pub nvgre-done : (answer : Bool) (source destination vsid : ℕ) (frame old new : List ℕ) → answer ≡ fits 28 (length frame) (length old) → answer ≡ true
-    → new ≡ wrote old (nvgre_packet source destination vsid frame)
-    → Written (fits 28 (length frame) (length old)) (nvgre_packet source destination vsid frame) old new (28 + length frame)
-nvgre-done answer source destination vsid frame old new q e w =
-    written (fits 28 (length frame) (length old)) answer (nvgre_packet source destination vsid frame) old new (28 + length frame) q e
-    (nvgre-length_is source destination vsid frame) w
+pub nvgre-done : (answer : Bool) (source destination vsid r : ℕ) (frame mid old new : List ℕ)
+    → answer ≡ fits 28 (length frame) (length old) → answer ≡ true → mid ≡ gre 0 0 vsid 0 []
+    → r ≡ 28 + length frame → new ≡ wrote old (packet 47 source destination (mid ++ frame))
+    → Written (fits 28 (length frame) (length old)) (nvgre_packet source destination vsid frame) old new (Some r)
+unfolding nvgre_packet
+nvgre-done answer source destination vsid r frame mid old new q e f l w =
+    written (fits 28 (length frame) (length old)) answer (nvgre_packet source destination vsid frame) old new r q e
+    (nvgre-length_is source destination vsid frame ∙ sym l)
+    (w ∙ ap (λ (x : List ℕ). wrote old (packet 47 source destination x)) (nvgre-carried vsid frame mid f))
 
 pub segment-done : (answer : Bool) (source destination port context identifier offset count : ℕ) (last : Bool) (frame old new : List ℕ)
     → answer ≡ segment_fits (length frame) offset count (length old) → answer ≡ true
     → new ≡ wrote old (segment_packet source destination port context identifier offset count last frame)
     → Written (segment_fits (length frame) offset count (length old)) (segment_packet source destination port context identifier offset count last frame) old new
-    (40 + count)
+    (Some (40 + count))
 segment-done answer source destination port context identifier offset count last frame old new q e w =
     let g : SegmentFitting (length frame) offset count (length old) = segment-fits_facts answer (length frame) offset count (length old) q e in
     written (segment_fits (length frame) offset count (length old)) answer

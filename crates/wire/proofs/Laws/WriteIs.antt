@@ -1,5 +1,6 @@
 -- What the crates above use of what we write: a segment's bytes are a part of the STT frame, parts join, what was written stands at the front, and it is bytes.
-use Rattle.std.specs.Prelude.{◌≡◌, ℕ, zero, suc, ◌+◌, ◌-◌, ◌/◌, ◌%◌, ◌<◌, ◌≤◌, min, List, [], ◌∷◌, ◌++◌, length, take, drop, nat_lt, slice_index, slice_index_or, slice_range, refl}
+use Rattle.std.specs.Prelude.{◌≡◌, ℕ, zero, suc, ◌+◌, ◌-◌, ◌/◌, ◌%◌, ◌<◌, ◌≤◌, min, List, [], ◌∷◌, ◌++◌, length, take, drop, nat_lt, slice_index}
+use Rattle.std.specs.Prelude.{slice_index_or, slice_range, refl}
 use Rattle.std.proofs.Common.{sym, ap, ◌∙◌, arith, mod-lt, ltb-true, ltb-false, length-drop, take_all, take_at, take-add, drop-drop, get_or-append-add}
 use Rattle.std.proofs.Math.Nat.{sub-zero}
 use Rattle.std.proofs.Math.ListN.{get_or-append}

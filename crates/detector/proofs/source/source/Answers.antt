@@ -1,9 +1,13 @@
 -- `detector::source::source` meets its contract.
-use Rattle.detector.proofs.Laws.Source.{source_short, source_is}
+use Rattle.std.proofs.Common.{arith, lt-ltb, le-ltb}
+use Rattle.std.specs.Prelude.{length}
+use Rattle.detector.specs.Source.{source_of}
 use Rattle.detector.proofs.source.source.Goals as goal
 
-pub returns-then-frame-lt12 : goal.returns-then-frame-lt12
-returns-then-frame-lt12 c = source_short _ c.if-frame-lt12.true
+pub returns-in_default : goal.returns-in_default
+unfolding source_of
+returns-in_default c = rw (lt-ltb (length c.args.frame.now) 12 (omega arith))
 
 pub returns : goal.returns
-returns c = source_is _ _ _ _ c.if-frame-lt12.false c.pair-high.ensures c.pair-middle.ensures c.pair-low.ensures
+unfolding source_of
+returns c = rw (le-ltb (length c.args.frame.now) 12 (omega arith)) (omega (arith, c.from_be_bytes.ensures))

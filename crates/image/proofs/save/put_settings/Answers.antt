@@ -5,5 +5,5 @@ use Rattle.image.proofs.save.put_settings.Goals as goal
 
 pub returns : goal.returns
 returns c =
-    settings_put _ _ _ _ _ _ _ _ _ (omega arith) c.set24.auto.out c.set16.auto.out c.set32.auto.out c.set16-2.auto.out
-    c.set16-3.auto.out c.set24.ensures c.set16.ensures c.set32.ensures c.set16-2.ensures c.set16-3.ensures
+    settings_put _ _ _ _ _ _ _ _ _ (omega arith) c.set.auto.out c.set-2.auto.out c.set-3.auto.out c.set-4.auto.out
+    c.set-5.auto.out (c.set.ensures (omega arith)) (c.set-2.ensures (omega arith)) (c.set-3.ensures (omega arith)) (c.set-4.ensures (omega arith)) (c.set-5.ensures (omega arith))

@@ -4,7 +4,7 @@ use Prim.Native.Nat.{ℕ, ◌*◌, ◌%◌, ◌^◌, ◌≤◌}
 use native.Mathlib.Nat.{one-mul}
 use native.Mathlib.Omega.{arith}
 use lib.Dec.{lit<}
-use lib.Pow.{pow_mono, pow_pos, shl_exact}
+use lib.Pow.{pow_mono, shl_exact}
 use Rattle.reassembly.proofs.map.mask.Goals as goal
 
 -- a single bit of at most 8 places up loses nothing
@@ -17,17 +17,3 @@ overflow_sub-result c = let lo = c.args.lo in
     let l = bit lo (omega arith) in
     let h = bit hi (omega arith) in
     rw (l, h) (pow_mono (omega arith))
-
-pub overflow_cast-result : goal.overflow_cast-result
-overflow_cast-result c = let lo = c.args.lo in
-    let hi = c.args.hi in
-    let l = bit lo (omega arith) in
-    let h = bit hi (omega arith) in
-    omega (arith, pow_mono {i = hi} {j = 8} (omega arith), pow_pos lo)
-
-pub returns : goal.returns
-returns c = let lo = c.args.lo in
-    let hi = c.args.hi in
-    let l = bit lo (omega arith) in
-    let h = bit hi (omega arith) in
-    rw (l, h)

@@ -1,8 +1,0 @@
--- `detector::detector::start` meets its contract.
-use mathlib.Core.Path.{refl}
-use Rattle.detector.specs.Detector.{empty}
-use Rattle.detector.proofs.detector.start.Goals as goal
-
-pub returns : goal.returns
-unfolding empty
-returns c = refl

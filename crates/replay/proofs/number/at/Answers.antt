@@ -1,8 +1,0 @@
--- `replay::number::at` is safe and ends: the measure is how many bytes are left. Nothing has to hold from turn to turn.
-use Rattle.replay.proofs.number.at.Goals as goal
-
-pub loop-i-init : goal.loop-i-init
-loop-i-init c = tt
-
-pub loop-i-preserved : goal.loop-i-preserved
-loop-i-preserved c = tt

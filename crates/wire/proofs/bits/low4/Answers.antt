@@ -1,6 +1,0 @@
--- `wire::bits::low4` meets its contract.
-use lib.Bits.{and_mask}
-use Rattle.wire.proofs.bits.low4.Goals as goal
-
-pub returns : goal.returns
-returns c = and_mask c.args.x 4

@@ -1,6 +1,0 @@
--- `wire::bits::low5` meets its contract.
-use lib.Bits.{and_mask}
-use Rattle.wire.proofs.bits.low5.Goals as goal
-
-pub returns : goal.returns
-returns c = and_mask c.args.x 5

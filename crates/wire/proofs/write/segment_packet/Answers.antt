@@ -1,7 +1,0 @@
--- `wire::write::segment_packet` meets its contract.
-use Rattle.std.proofs.Common.{refl, arith}
-use Rattle.wire.proofs.Laws.Write.{segment_landed}
-use Rattle.wire.proofs.write.segment_packet.Goals as goal
-
-pub returns : goal.returns
-returns c = segment_landed _ _ _ _ _ _ _ _ _ _ _ _ _ _ _ refl (omega arith) (omega arith) c.ipv4-ip.ensures c.put.ensures refl c.segment_body.ensures
