@@ -53,6 +53,10 @@ MOVED = {
     "reference::reassembler::start": "reference::reassembler::Reassembler::start",
     "reference::receive::receive": "reference::receive::Reassembler::receive",
     "reference::tick::tick": "reference::tick::Reassembler::tick",
+    "image::code::load_code": "image::code::load_code",
+    "endpoint::code::added_code": "endpoint::code::config_answer_code",
+    "endpoint::code::start_code": "endpoint::code::config_answer_code",
+    "endpoint::code::tick_code": "endpoint::tick::Endpoint::tick",
     "niulassenc::answer::flat_received": "niulassenc::answer::From<Result<Received, Drop>> for Receipt::from",
 }
 PROGRAMS = ("program", "replay", "roundtrip", "rack", "dissect", "rerun")
@@ -70,16 +74,18 @@ def functions(root):
                 continue
             module = f"{crate}::{file[:-3]}" if file != "lib.rt" else crate
             text = "\n".join(re.sub(r"//.*", "", line) for line in open(os.path.join(folder, file), encoding="utf-8").read().split("\n"))
-            around = None
+            around = given = None
             lines = text.split("\n")
             n = 0
             while n < len(lines):
                 line = lines[n]
                 m = re.match(r"impl(?:<[^>]*>)? (.*?) \{$", line)
                 if m:
-                    around = m.group(1)
+                    around, given = m.group(1), None
                 elif line == "}":
                     around = None
+                if re.match(r"\s*ghost from_gives =", line):
+                    given = line.strip().rstrip(";")
                 m = re.match(r"(\s*)(pub )?(?:const )?(?:extern \"C\" )?fn (\w+)", line)
                 trait = around is not None and " for " in around
                 if m and (m.group(2) or trait):
@@ -90,6 +96,8 @@ def functions(root):
                             break
                         k += 1
                     whole = " ".join(said).rstrip("{").strip()
+                    if trait and given:
+                        whole += f" ensures {given}"
                     name = f"{module}::{around}::{m.group(3)}" if around else f"{module}::{m.group(3)}"
                     found[name] = re.sub(r"\(\s+", "(", re.sub(r",\s*\)", ")", re.sub(r"\s+", " ", whole)))
                     n = k

@@ -53,6 +53,7 @@ fn is_host(address: u32) -> bool
 fn is_network(kind: u32, network: u64) -> bool
     ensures { result ≡ is_network kind network }
 {
+    // As it is: by the number of the kind: any number may be asked for (`is_network`).
     match kind {
         VXLAN => network < IDS,
         NVGRE => VSID_MIN <= network && network < VSID_RESERVED,

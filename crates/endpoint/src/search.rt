@@ -51,7 +51,7 @@ impl Endpoint {
     }
 
     // The listed binding that has this network, kind and peer. A turn looks at two, which takes seven instructions; of the last two only one may be listed.
-    // As it is: a search by hand: a `for` of one a turn takes some 30 instructions more where 64 bindings are listed.
+    // As it is: a search by hand: a `for` of one a turn takes some 120 instructions more where 64 bindings are listed.
     #[tactic(auto, unfolding(crate::specs::Config::find_binding, crate::specs::Config::config_of))]
     pub fn find_binding(&self, peer: usize, kind: u8, network: u64) -> Option<usize>
         ensures { result ≡ found_of (find_binding (config_of self.now) peer kind network) }

@@ -27,6 +27,7 @@ pub(crate) struct Route {
     pub kind: u8,
 }
 
+// As it is: a frame's bounds stand in each `requires`: `send` has them from one test, and a type for them would borrow the frame.
 impl Route {
     // Check 22: would a VXLAN or NVGRE packet with a frame of n bytes exceed the MTU? A packet of just the MTU does not, and an STT frame is cut to it.
     #[tactic(auto, unfolding(crate::specs::Wrap::exceeds))]

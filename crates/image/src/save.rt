@@ -42,6 +42,7 @@ fn put_peers(out: &mut [u8], addresses: &[u32; PEERS], n: usize)
 }
 
 // A binding, from a place on.
+// As it is: a binding's four numbers, which lie in four columns of C's.
 fn put_binding(out: &mut [u8], at: usize, owner: u8, kind: u8, network: u64, tenant: u16)
     requires { at + 12 ≤ length out.old }
     ensures { out.new ≡ laid out.old at (binding_row (binding_in owner kind network tenant)) }

@@ -22,10 +22,9 @@ pub fn niulassenc_start(own: u32, port: u32, mtu: u32) -> Started
     ensures { result ≡ started_of (start_of own port mtu) }
 {
     let started = Endpoint::start(own, port, mtu);
-    Started {
-        endpoint: started.endpoint,
-        code: config_answer_code(&started.answer),
-    }
+    let code = config_answer_code(&started.answer);
+    let endpoint = started.endpoint;
+    Started { endpoint, code }
 }
 
 // Lists a peer.

@@ -26,8 +26,7 @@ pub fn niulassenc_load(image: &[u8]) -> Started
     ensures { result ≡ started_of_load (load_of image.now) }
 {
     let loaded = load(image);
-    Started {
-        endpoint: loaded.endpoint,
-        code: load_code(loaded.answer),
-    }
+    let code = load_code(loaded.answer);
+    let endpoint = loaded.endpoint;
+    Started { endpoint, code }
 }

@@ -59,6 +59,7 @@ impl fmt::Display for Refused {
     fn fmt<W: fmt::Write>(&self, f: &mut fmt::Formatter<W>) -> fmt::Result {
         let Refused { code, offset } = *self;
         write!(f, "{code}, {}", Answer(code))?;
+        // As it is: by number: the programs show answers of several crates, and the documents' number is what these share.
         match code {
             0..25 => Ok(()),
             25..28 => write!(f, ", at byte {offset} of the packet"),

@@ -1,4 +1,8 @@
 // The hash of the test runs and the generator of their contents, both modulo 2^32.
+ghost use Rattle.std.specs.Prelude.{◌≡◌, ℕ};
+ghost use Rattle.program.specs.Hash.{hashed};
+
+use std::marker::Model;
 
 // Fills a slice from a seed. The generator goes from x to 1,103,515,245 x + 12,345, and each byte is bits 16 to 23 of its next state.
 pub fn fill(s: &mut [u8], seed: u32) {
@@ -9,18 +13,28 @@ pub fn fill(s: &mut [u8], seed: u32) {
     }
 }
 
-// A hash in the making: h := 0, then for each byte h := 31 h + byte + 1.
-#[derive(Clone, Copy)]
+// A hash in the making: h := 0, then for each byte h := 31 h + byte + 1. Contracts see the number.
+#[derive(Drop)]
 pub struct Hasher {
     hash: u32,
 }
 
+impl Model for Hasher {
+    ghost Value = { ℕ };
+
+    ghost view = { λ h. h.hash };
+}
+
 impl Hasher {
-    pub fn new() -> Hasher {
+    pub fn new() -> Hasher
+        ensures { result ≡ 0 }
+    {
         Hasher { hash: 0 }
     }
 
-    pub fn write(&mut self, bytes: &[u8]) {
+    pub fn write(&mut self, bytes: &[u8])
+        ensures { self.new ≡ hashed self.old bytes.now }
+    {
         self.hash = bytes.iter().fold(self.hash, |h, byte| {
             h.wrapping_mul(31)
                 .wrapping_add(u32::from(*byte))
@@ -28,13 +42,17 @@ impl Hasher {
         });
     }
 
-    pub fn finish(&self) -> u32 {
+    pub fn finish(&self) -> u32
+        ensures { result ≡ self.now }
+    {
         self.hash
     }
 }
 
 // The hash of one slice.
-pub fn hash(bytes: &[u8]) -> u32 {
+pub fn hash(bytes: &[u8]) -> u32
+    ensures { result ≡ hashed 0 bytes.now }
+{
     let mut hasher = Hasher::new();
     hasher.write(bytes);
     hasher.finish()

@@ -5,6 +5,7 @@ use program::answer::Refused;
 use std::fmt;
 use std::net::Ipv4Addr;
 
+// As it is: by the number of the kind, as the adding calls take it.
 pub(crate) fn kind_name(kind: u32) -> &'static str {
     match kind {
         VXLAN => "VXLAN",

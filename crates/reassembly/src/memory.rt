@@ -1,4 +1,5 @@
 // The lent memory (document 01, "Reassembly memory"): slot k starts at byte k × 1,728, with 1,536 bytes of frame, then a map of 192 bytes.
+// As it is: `k` and `n` are numbers by value with a bound: a type for each would be taken apart at each use.
 // As it is: a slice with a `requires`, and no array: specs/Store.antt speaks of all of the memory lent, and each effect would have to be joined to the bytes
 // behind.
 ghost use Rattle.std.specs.Prelude.{◌≡◌, ◌+◌, ◌<◌, ◌≤◌, length};

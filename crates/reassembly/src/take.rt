@@ -60,6 +60,8 @@ fn end_of(offset: u16, bytes: &[u8]) -> usize
     offset as usize + bytes.len()
 }
 
+// As it is: peer, header, bytes and memory come from four lenders, and the definitions have header and bytes as one (`seg_of`); that the memory is long enough
+// is tested once.
 impl Peer {
     // Takes a segment of this peer, the listed peer of number `peer`. A rejection changes neither the record nor the memory.
     pub fn take(

@@ -103,6 +103,7 @@ impl Buffers {
         Ok(Buffer::new(segment.identifier, segment.frame_length, self.spare_block()))
     }
 
+    // As it is: peer, header, bytes and memory come from four lenders.
     // The segment joins its frame, which is rebuilt: it waits for more, or it is complete and goes.
     fn join(
         &mut self,

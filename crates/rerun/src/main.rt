@@ -65,6 +65,8 @@ fn read_settings(rt: &(impl Env + Files + Eprint), settings: &mut [u8]) -> usize
     }
 }
 
+// As it is: lengths of what is lent in a `requires`: run.rt's functions take any output that has the room, and the arrays are made in one place.
+
 // Writes what is left to be written at the end of the trace.
 fn end(rt: &(impl Print + Eprint), run: &Run, out: &mut [u8])
     requires { 64 ≤ length out.old }

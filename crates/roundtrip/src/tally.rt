@@ -3,7 +3,7 @@ use program::number::Hasher;
 use std::fmt;
 
 // How many packets were written and a sum over their bytes, how many frames came out equal, and how many wraps were refused.
-#[derive(Clone, Copy)]
+#[derive(Drop)]
 pub(crate) struct Tally {
     packets: u32,
     sum: Hasher,

@@ -111,6 +111,7 @@ pub(crate) fn stt(flags: u8, l4: u8, context: u64) -> [u8; 18]
 }
 
 // The TCP-shaped header of a segment (draft-davie-stt-06, 3.2): its checksum field is still 0.
+// As it is: six parameters: the header's fields, each once.
 pub(crate) fn segment(
     from: u16,
     to: u16,

@@ -1,4 +1,5 @@
 // The ones' complement sum (RFC 1071).
+// As it is: a `requires` on the length: no slice has a type of at most 65,535 bytes, and each caller has it from a field of 16 bits or a test of its own.
 ghost use Rattle.std.specs.Prelude.{◌≡◌, ◌+◌, ◌<◌, ◌≤◌, ◌++◌, length};
 ghost use Rattle.wire.specs.Sum.{total, ones, pseudo};
 

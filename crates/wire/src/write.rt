@@ -44,6 +44,7 @@ fn frame_fits(headers: usize, n: usize, room: usize) -> bool
 }
 
 // Outer header, the tunnel's N bytes of headers, and the frame, one behind the other: the packet's length.
+// As it is: six parameters: what a packet is made of, each once.
 fn packet<const N: usize>(
     out: &mut [u8],
     protocol: u8,
@@ -109,6 +110,8 @@ pub struct Piece {
     pub last: bool,
 }
 
+// As it is: what a piece and a frame have to do with one another stands in each `requires`: a type for both would borrow the frame, and the definitions have
+// the two apart.
 impl Piece {
     // Does it lie in the STT frame of an inner frame of n bytes, do their numbers fit, and does the output have room for it?
     fn fits(&self, n: usize, room: usize) -> bool
