@@ -29,7 +29,7 @@ impl Endpoint {
         self.addresses.iter().position(|listed| *listed == address)
     }
 
-    // The listed peer that has this address. All eight are looked at, whatever the count: with a fixed number of turns a turn takes three instructions.
+    // The listed peer that has this address. All eight are looked at, whatever the count, so that the number of turns is fixed.
     pub fn find_peer(&self, address: u32) -> Option<usize>
         ensures { result ≡ found_of (find_peer (config_of self.now) address) }
     {
@@ -50,7 +50,7 @@ impl Endpoint {
         self.networks[i] == network && self.kinds[i] == kind && self.owners[i] as usize == peer
     }
 
-    // The listed binding that has this network, kind and peer. A turn looks at two, which takes seven instructions; of the last two only one may be listed.
+    // The listed binding that has this network, kind and peer. A turn looks at two, which saves half of the turns; of the last two only one may be listed.
     // As it is: a search by hand: a `for` of one a turn takes some 120 instructions more where 64 bindings are listed.
     #[tactic(auto, unfolding(crate::specs::Config::find_binding, crate::specs::Config::config_of))]
     pub fn find_binding(&self, peer: usize, kind: u8, network: u64) -> Option<usize>
