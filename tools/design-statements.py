@@ -3,7 +3,8 @@
 
 usage: design-statements.py OLD NEW      two checkouts
 
-Of a definition the body counts; of a theorem its statement alone. One that is gone is listed as gone, unless the same name stands in another file of its crate."""
+Of a definition the body counts; of a theorem its statement alone. The new one is that of the same file; where the name stands in another file alone, it says in
+which, for that may be another declaration."""
 
 import importlib.util
 import os
@@ -47,7 +48,9 @@ def main(old, new):
                     moved += 1
             elif there:
                 changed += 1
-                print(f"{crate} {at} `{name}`\n    {said}\n    {there[0][1]}")
+                place, other = next((t for t in there if t[0] == at), there[0])
+                moved_to = "" if place == at else f" (the name in {place})"
+                print(f"{crate} {at} `{name}`{moved_to}\n    {said}\n    {other}")
             else:
                 gone += 1
                 print(f"{crate} {at} `{name}` gone\n    {said}")

@@ -2,7 +2,8 @@
 #![tactic(auto)]
 
 use program::answer::Refused;
-use std::io;
+use program::print::Stdout;
+use std::fmt::Write;
 use std::net::Ipv4Addr;
 use wire::carriage::{Carried, Tunnel};
 use wire::ipv4::Ipv4;
@@ -81,7 +82,7 @@ const PACKETS: [(&str, &[u8]); 9] = [
 fn refused(start: u8, r: Refusal) -> Refused {
     Refused {
         code: r.code(),
-        offset: r.offset(start),
+        offset: u64::from(r.offset(start)),
     }
 }
 
@@ -95,20 +96,23 @@ fn kind(tunnel: Tunnel) -> &'static str {
 }
 
 // The frame that a packet has from `at` on, and whether it keeps the inner frame's rule.
-fn show_frame(rt: &impl Print, at: usize, frame: &[u8]) -> io::Result<()> {
-    print!(rt; ", frame of {} bytes at {at}", frame.len())?;
-    match wire::frame::read(frame) {
-        Ok(()) => println!(rt; ""),
-        Err(r) => println!(rt; ": refused with {}", refused(0, r)),
-    }
+fn show_frame(out: &mut impl Write, at: usize, frame: &[u8]) {
+    let _ = write!(out, ", frame of {} bytes at {at}", frame.len());
+    let _ = match wire::frame::read(frame) {
+        Ok(()) => writeln!(out),
+        Err(r) => writeln!(out, ": refused with {}", refused(0, r)),
+    };
 }
 
 // Reads a packet from the outside in. An STT segment tells no network: the frame's first bytes do.
 #[tactic(auto, using(wire::proofs::Laws::Ipv4::ipv4_bounds, wire::proofs::Laws::Ipv4::ipv4_start, wire::proofs::Laws::Carriage::tunnel_within))]
-fn show(rt: &impl Print, packet: &[u8]) -> io::Result<()> {
+fn show(out: &mut impl Write, packet: &[u8]) {
     let header = match wire::ipv4::read(packet) {
         Ok(header) => header,
-        Err(r) => return println!(rt; "refused with {}", refused(0, r)),
+        Err(r) => {
+            let _ = writeln!(out, "refused with {}", refused(0, r));
+            return;
+        }
     };
     let Ipv4 {
         start,
@@ -117,29 +121,35 @@ fn show(rt: &impl Print, packet: &[u8]) -> io::Result<()> {
         destination,
         protocol,
     } = header;
-    print!(rt;
+    let _ = write!(
+        out,
         "{} to {}, ",
         Ipv4Addr::from(source),
         Ipv4Addr::from(destination)
-    )?;
+    );
     let payload = &packet[start..end];
     match wire::carriage::read(protocol, source, destination, STT_PORT, payload) {
-        Err(r) => println!(rt; "refused with {}", refused(start as u8, r)),
-        Ok(Carried::Segment(g)) => println!(rt;
-            "STT segment of frame {}, bytes from {} of {}",
-            g.identifier, g.offset, g.frame_length
-        ),
+        Err(r) => {
+            let _ = writeln!(out, "refused with {}", refused(start as u8, r));
+        }
+        Ok(Carried::Segment(g)) => {
+            let _ = writeln!(
+                out,
+                "STT segment of frame {}, bytes from {} of {}",
+                g.identifier, g.offset, g.frame_length
+            );
+        }
         Ok(Carried::Tunnel(t)) => {
-            print!(rt; "{} network {}", kind(t), t.network)?;
-            show_frame(rt, start + t.start, &payload[t.start..])
+            let _ = write!(out, "{} network {}", kind(t), t.network);
+            show_frame(out, start + t.start, &payload[t.start..]);
         }
     }
 }
 
-fn main(rt: HostRuntime) -> io::Result<()> {
+fn main() {
+    let mut out = Stdout;
     for (name, packet) in PACKETS {
-        print!(rt; "{name}: ")?;
-        show(&rt, packet)?;
+        let _ = write!(out, "{name}: ");
+        show(&mut out, packet);
     }
-    Ok(())
 }

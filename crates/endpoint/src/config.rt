@@ -148,6 +148,7 @@ impl Endpoint {
     }
 
     // Binds a network of a listed peer to a tenant, and gives the binding's number.
+    #[inline(always)]
     pub fn add_binding(
         &mut self,
         peer: u32,
@@ -164,7 +165,7 @@ impl Endpoint {
             return Err(ConfigRefusal::OutOfRange);
         }
         let kind = kind as u8;
-        if self.find_binding(peer as usize, kind, network).is_some() {
+        if self.search(peer as usize, kind, network).is_some() {
             return Err(ConfigRefusal::AlreadyListed);
         }
         let number = self.binding_count;

@@ -100,7 +100,8 @@ fn relist(e: &mut Endpoint, image: &[u8]) -> Result<(), ConfigRefusal>
     list_bindings(e, image)
 }
 
-// What a bad image gives: the endpoint of a refused start.
+// What a bad image gives: the endpoint of a refused start. A call of its own: in place it made a good load clear and copy another endpoint on the way out.
+#[inline(never)]
 fn bad_image() -> LoadResult
     ensures { result ≡ bad_image }
 {

@@ -52,7 +52,7 @@ impl fmt::Display for Answer {
 #[derive(Clone, Copy)]
 pub struct Refused {
     pub code: u8,
-    pub offset: u16,
+    pub offset: u64,
 }
 
 impl fmt::Display for Refused {

@@ -1,5 +1,6 @@
-// What the programs share: the texts of answers, and the numbers of the test runs (host/README.md).
+// What the programs share: standard output, the texts of answers, and the numbers of the test runs (host/README.md).
 #![tactic(auto)]
 
 pub mod answer;
 pub mod number;
+pub mod print;

@@ -1,12 +1,19 @@
 // The hash of the test runs and the generator of their contents, both modulo 2^32.
-ghost use Rattle.std.specs.Prelude.{◌≡◌, ℕ};
+ghost use Rattle.std.specs.Prelude.{◌≡◌, ◌%◌, ◌^◌, ℕ};
 ghost use Rattle.program.specs.Hash.{hashed};
 
 use std::marker::Model;
 
+// The lowest 32 bits of a number.
+fn low32(n: u64) -> u32
+    ensures { result ≡ n % 2 ^ 32 }
+{
+    (n % 0x100000000) as u32
+}
+
 // Fills a slice from a seed. The generator goes from x to 1,103,515,245 x + 12,345, and each byte is bits 16 to 23 of its next state.
-pub fn fill(s: &mut [u8], seed: u32) {
-    let mut x = seed;
+pub fn fill(s: &mut [u8], seed: u64) {
+    let mut x = low32(seed);
     for byte in s.iter_mut() {
         x = x.wrapping_mul(1103515245).wrapping_add(12345);
         *byte = x.to_be_bytes()[1];
@@ -49,11 +56,14 @@ impl Hasher {
     }
 }
 
-// The hash of one slice.
-pub fn hash(bytes: &[u8]) -> u32
-    ensures { result ≡ hashed 0 bytes.now }
+// The hash of a slice behind what has the hash `first`; alone: behind 0.
+pub fn hash(first: u64, bytes: &[u8]) -> u64
+    ensures { result ≡ hashed first bytes.now }
 {
-    let mut hasher = Hasher::new();
+    if bytes.is_empty() {
+        return first;
+    }
+    let mut hasher = Hasher { hash: low32(first) };
     hasher.write(bytes);
-    hasher.finish()
+    u64::from(hasher.finish())
 }

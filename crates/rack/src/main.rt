@@ -14,9 +14,10 @@ use endpoint::number::{NVGRE, STT, VXLAN};
 use endpoint::view::view;
 use packets::PACKETS;
 use program::answer::{Answer, Refused};
+use program::print::Stdout;
 use reassembly::number::MEMORY_BYTES;
 use report::{Added, Bytes, Duplicate, Hardware, kind_name};
-use std::io;
+use std::fmt::Write;
 use std::net::Ipv4Addr;
 
 // Our address and the peers': 10.0.0.1, 10.0.0.2 and 10.0.0.3.
@@ -53,29 +54,34 @@ impl Rack {
     }
 
     // Receives a packet and reports what became of it. A delivered frame is observed.
-    fn receive(&mut self, rt: &impl Print, packet: &[u8], memory: &mut [u8]) -> io::Result<()> {
+    fn receive(&mut self, out: &mut impl Write, packet: &[u8], memory: &mut [u8]) {
         match self.endpoint.receive(packet, memory) {
             Ok(Received::Delivered(target, place)) => {
                 let frame = view(packet, memory, place);
-                println!(rt;
+                let _ = writeln!(
+                    out,
                     "tenant {}, frame of {} bytes:{}",
                     target.tenant,
                     frame.len(),
                     Bytes(frame)
-                )?;
-                match self.observe(target, frame) {
-                    Some(duplicate) => println!(rt; "{duplicate}"),
-                    None => Ok(()),
+                );
+                if let Some(duplicate) = self.observe(target, frame) {
+                    let _ = writeln!(out, "{duplicate}");
                 }
             }
-            Ok(Received::Pending) => println!(rt; "{}", Answer(1)),
-            Err(d) => println!(rt;
-                "dropped with {}",
-                Refused {
-                    code: d.code(),
-                    offset: u16::from(d.offset())
-                }
-            ),
+            Ok(Received::Pending) => {
+                let _ = writeln!(out, "{}", Answer(1));
+            }
+            Err(d) => {
+                let _ = writeln!(
+                    out,
+                    "dropped with {}",
+                    Refused {
+                        code: d.code(),
+                        offset: u64::from(d.offset())
+                    }
+                );
+            }
         }
     }
 
@@ -103,24 +109,29 @@ impl Rack {
     }
 }
 
-fn main(rt: HostRuntime) -> io::Result<()> {
-    println!(rt; "endpoint {}, STT on port {STT_PORT}", Ipv4Addr::from(OWN))?;
+fn main() {
+    let mut out = Stdout;
+    let _ = writeln!(
+        out,
+        "endpoint {}, STT on port {STT_PORT}",
+        Ipv4Addr::from(OWN)
+    );
     let mut rack = Rack::new();
     for address in PEERS {
         let added = Added(rack.endpoint.add_peer(address));
-        println!(rt; "peer {added}: {}", Ipv4Addr::from(address))?;
+        let _ = writeln!(out, "peer {added}: {}", Ipv4Addr::from(address));
     }
     for (peer, kind, network, tenant) in NETWORKS {
         let added = Added(rack.endpoint.add_binding(peer, kind, network, tenant));
-        println!(rt;
+        let _ = writeln!(
+            out,
             "binding {added}: {} network {network} of peer {peer} is tenant {tenant}",
             kind_name(kind)
-        )?;
+        );
     }
-    let mut memory = vec![in rt.alloc(); 0; MEMORY_BYTES]?;
+    let mut memory = [0; MEMORY_BYTES];
     for (name, packet) in PACKETS {
-        print!(rt; "{name}: ")?;
-        rack.receive(&rt, packet, &mut memory)?;
+        let _ = write!(out, "{name}: ");
+        rack.receive(&mut out, packet, &mut memory);
     }
-    Ok(())
 }

@@ -8,27 +8,27 @@ mod line;
 mod record;
 
 use call::Run;
-use record::{Record, Stop};
-use std::io;
+use program::print::Stdout;
+use record::{Broken, PAYLOAD_MAX, Record};
+use std::fmt::Write;
 
 // Nothing says that the input ends, so the turns are counted: no run uses up so many.
-fn run(rt: &(impl Input + Print + AllocGlobal)) -> Result<(), Stop> {
-    let mut input = rt.reader();
-    let mut run = Run::new(rt.alloc());
+fn run(out: &mut impl Write) -> Result<(), Broken> {
+    let mut room = [0; PAYLOAD_MAX];
+    let mut run = Run::new();
     for _ in 0..u64::MAX {
-        let Some(record) = Record::read(rt.alloc(), &mut input)? else {
+        let Some(record) = Record::read(&mut room)? else {
             break;
         };
-        run.make(rt, record)?;
+        run.make(out, record)?;
     }
     Ok(())
 }
 
 // A record that breaks the form ends the run with a line that no answer has.
-fn main(rt: HostRuntime) -> io::Result<()> {
-    match run(&rt) {
-        Ok(()) => Ok(()),
-        Err(Stop::Broken) => println!(rt; "broken record"),
-        Err(Stop::Failed(error)) => Err(error),
+fn main() {
+    let mut out = Stdout;
+    if run(&mut out).is_err() {
+        let _ = writeln!(out, "broken record");
     }
 }

@@ -1,29 +1,11 @@
 // The form of a record: op (1 byte), length (2 bytes), then that many bytes. host/README.md has it.
-use std::alloc::{AllocError, Global};
-use std::io;
-use std::io::BufRead;
 
 // The longest payload.
 pub(crate) const PAYLOAD_MAX: usize = 2000;
 
-// Why a run stops early: a record breaks the form, or the input ends within it; or the system fails.
-#[derive(Debug, Drop)]
-pub(crate) enum Stop {
-    Broken,
-    Failed(io::Error),
-}
-
-impl From<io::Error> for Stop {
-    fn from(error: io::Error) -> Stop {
-        Stop::Failed(error)
-    }
-}
-
-impl From<AllocError> for Stop {
-    fn from(error: AllocError) -> Stop {
-        Stop::Failed(io::Error::from(error))
-    }
-}
+// Why a run stops early: a record breaks the form, or the input ends within it.
+#[derive(Clone, Copy)]
+pub(crate) struct Broken;
 
 // The calls.
 #[derive(Clone, Copy)]
@@ -41,10 +23,26 @@ pub(crate) enum Op {
     Load,
 }
 
-impl TryFrom<u8> for Op {
-    type Error = Stop;
+impl Op {
+    // How many bytes the fields of a payload take that is neither a packet, a frame nor an image.
+    fn fields(self) -> Option<usize> {
+        match self {
+            Op::Start | Op::Lend => Some(8),
+            Op::AddPeer => Some(4),
+            Op::AddBinding => Some(13),
+            Op::Tick => Some(0),
+            Op::View => Some(17),
+            Op::Observe => Some(12),
+            Op::Save => Some(2),
+            Op::Receive | Op::Wrap | Op::Load => None,
+        }
+    }
+}
 
-    fn try_from(number: u8) -> Result<Op, Stop> {
+impl TryFrom<u8> for Op {
+    type Error = Broken;
+
+    fn try_from(number: u8) -> Result<Op, Broken> {
         match number {
             1 => Ok(Op::Start),
             2 => Ok(Op::AddPeer),
@@ -57,33 +55,39 @@ impl TryFrom<u8> for Op {
             9 => Ok(Op::Observe),
             10 => Ok(Op::Save),
             11 => Ok(Op::Load),
-            _ => Err(Stop::Broken),
+            _ => Err(Broken),
         }
     }
 }
 
-#[derive(Drop)]
-pub(crate) struct Record {
+// As it is: the payload is a part of room that is lent, and no vector: the program needs no heap.
+#[derive(Clone, Copy)]
+pub(crate) struct Record<'a> {
     pub op: Op,
-    pub payload: Vec<u8>,
+    pub payload: &'a [u8],
 }
 
-impl Record {
-    // The next record, if there is one. An input that cannot be read ends there.
-    pub(crate) fn read(alloc: Global, input: &mut impl BufRead) -> Result<Option<Record>, Stop> {
-        if input.fill_buf().map_or(true, |bytes| bytes.is_empty()) {
+impl<'a> Record<'a> {
+    // The next record, if there is one. An input that cannot be read ends there. A payload whose length is not its call's is not read.
+    pub(crate) fn read(room: &'a mut [u8; PAYLOAD_MAX]) -> Result<Option<Record<'a>>, Broken> {
+        let mut head = [0u8; 3];
+        let read = io::read_full(0, &mut head);
+        if read == 0 {
             return Ok(None);
         }
-        let mut head = [0u8; 3];
-        input.read_exact(&mut head).map_err(|_| Stop::Broken)?;
+        if read < head.len() {
+            return Err(Broken);
+        }
         let [number, high, low] = head;
         let op = Op::try_from(number)?;
         let length = usize::from(u16::from_be_bytes([high, low]));
-        if PAYLOAD_MAX < length {
-            return Err(Stop::Broken);
+        if op.fields().is_some_and(|bytes| length != bytes) {
+            return Err(Broken);
         }
-        let mut payload = vec![in alloc; 0; length]?;
-        input.read_exact(&mut payload).map_err(|_| Stop::Broken)?;
+        let payload = room.get_mut(..length).ok_or(Broken)?;
+        if io::read_full(0, payload) < length {
+            return Err(Broken);
+        }
         Ok(Some(Record { op, payload }))
     }
 }
@@ -99,26 +103,26 @@ impl<'a> Fields<'a> {
         Fields { rest: payload }
     }
 
-    fn bytes<const N: usize>(&mut self) -> Result<[u8; N], Stop> {
-        let (bytes, rest) = self.rest.split_first_chunk::<N>().ok_or(Stop::Broken)?;
+    fn bytes<const N: usize>(&mut self) -> Result<[u8; N], Broken> {
+        let (bytes, rest) = self.rest.split_first_chunk::<N>().ok_or(Broken)?;
         self.rest = rest;
         Ok(*bytes)
     }
 
     // As it is: one line each over `bytes`, since no const parameter gives a number's type its width.
-    pub(crate) fn u8(&mut self) -> Result<u8, Stop> {
+    pub(crate) fn u8(&mut self) -> Result<u8, Broken> {
         Ok(u8::from_be_bytes(self.bytes()?))
     }
 
-    pub(crate) fn u16(&mut self) -> Result<u16, Stop> {
+    pub(crate) fn u16(&mut self) -> Result<u16, Broken> {
         Ok(u16::from_be_bytes(self.bytes()?))
     }
 
-    pub(crate) fn u32(&mut self) -> Result<u32, Stop> {
+    pub(crate) fn u32(&mut self) -> Result<u32, Broken> {
         Ok(u32::from_be_bytes(self.bytes()?))
     }
 
-    pub(crate) fn u64(&mut self) -> Result<u64, Stop> {
+    pub(crate) fn u64(&mut self) -> Result<u64, Broken> {
         Ok(u64::from_be_bytes(self.bytes()?))
     }
 
@@ -128,11 +132,11 @@ impl<'a> Fields<'a> {
     }
 
     // Nothing stands behind the fields.
-    pub(crate) fn end(self) -> Result<(), Stop> {
+    pub(crate) fn end(self) -> Result<(), Broken> {
         if self.rest.is_empty() {
             Ok(())
         } else {
-            Err(Stop::Broken)
+            Err(Broken)
         }
     }
 }

@@ -8,7 +8,6 @@ use endpoint::config::Endpoint;
 use endpoint::number::{MTU_MAX, NVGRE, STT, VXLAN};
 use endpoint::view::view;
 use reassembly::number::MEMORY_BYTES;
-use std::alloc::{AllocError, Global};
 
 const STT_PORT: u32 = 7471;
 
@@ -46,26 +45,32 @@ fn turned(i: u32, size: u16, count: u32) -> u32
 pub(crate) struct Link {
     sender: Endpoint,
     receiver: Endpoint,
-    memory: Vec<u8>,
-    output: Vec<u8>,
+    memory: [u8; MEMORY_BYTES],
+    output: [u8; PACKET_MAX],
 }
 
 impl Link {
     // The memory may contain anything at first: here no byte of it is 0.
-    pub(crate) fn new(alloc: Global, mtu: u32) -> Result<Link, AllocError> {
-        Ok(Link {
+    pub(crate) fn new(mtu: u32) -> Link {
+        Link {
             sender: set_up(SENDER, RECEIVER, mtu),
             receiver: set_up(RECEIVER, SENDER, mtu),
-            memory: vec![in alloc; 0xA5; MEMORY_BYTES]?,
-            output: vec![in alloc; 0; PACKET_MAX]?,
-        })
+            memory: [0xA5; MEMORY_BYTES],
+            output: [0; PACKET_MAX],
+        }
     }
 
     // Puts a segment of a frame, under an identifier of the frame's size, into the output.
     fn wrap(&mut self, frame: &Frame, segment: u32) -> Result<Packet, WrapRefusal> {
         let binding = u32::from(frame.binding);
         let identifier = u32::from(frame.size);
-        self.sender.wrap(binding, &frame.bytes, segment, identifier, &mut self.output)
+        self.sender.wrap(
+            binding,
+            frame.bytes(),
+            segment,
+            identifier,
+            &mut self.output,
+        )
     }
 
     // Wraps a segment and has it received. A frame that is delivered is held to the one that was wrapped.
@@ -81,7 +86,7 @@ impl Link {
         else {
             return;
         };
-        if view(packet, &self.memory, place) == frame.bytes.as_slice() {
+        if view(packet, &self.memory, place) == frame.bytes() {
             tally.count_equal();
         }
     }

@@ -8,34 +8,32 @@ mod link;
 mod tally;
 
 use endpoint::number::{MTU_MAX, MTU_MIN, NVGRE, STT, VXLAN};
-use frame::Frame;
+use frame::{FRAME_MAX, FRAME_MIN, Frame};
 use link::Link;
-use std::alloc::{AllocError, Global};
-use std::io;
+use program::print::Stdout;
+use std::fmt::Write;
 use tally::Tally;
 
-// The smallest and the largest frame.
-const FRAME_MIN: u16 = 14;
-
-const FRAME_MAX: u16 = 1514;
-
 // A frame of every size, for one binding and MTU.
-fn carry_all(alloc: Global, mtu: u32, binding: u16) -> Result<Tally, AllocError> {
-    let mut link = Link::new(alloc, mtu)?;
+fn carry_all(mtu: u32, binding: u16) -> Tally {
+    let mut link = Link::new(mtu);
     let mut tally = Tally::new();
     for size in FRAME_MIN..=FRAME_MAX {
-        let frame = Frame::new(alloc, binding, size)?;
-        link.carry(&frame, &mut tally);
+        link.carry(&Frame::new(binding, size), &mut tally);
     }
-    Ok(tally)
+    tally
 }
 
-fn main(rt: HostRuntime) -> io::Result<()> {
+// Every MTU and kind, a line each.
+fn carry_kinds(out: &mut impl Write) {
     for mtu in [MTU_MIN, 1500, MTU_MAX] {
         for (binding, kind) in [(0, VXLAN), (1, NVGRE), (2, STT)] {
-            let tally = carry_all(rt.alloc(), mtu, binding)?;
-            println!(rt; "mtu {mtu} kind {kind} {tally}")?;
+            let tally = carry_all(mtu, binding);
+            let _ = writeln!(out, "mtu {mtu} kind {kind} {tally}");
         }
     }
-    Ok(())
+}
+
+fn main() {
+    carry_kinds(&mut Stdout);
 }

@@ -10,8 +10,10 @@ pub const PROTOCOL_GRE: u8 = 47;
 // The UDP port of VXLAN (RFC 7348, 5).
 pub const VXLAN_PORT: u16 = 4789;
 
-// VXLAN's flag I (RFC 7348, 5).
+// VXLAN's flag I (RFC 7348, 5), and its number from the lowest bit.
 pub const VXLAN_FLAG: u8 = 0x08;
+
+pub const VXLAN_FLAG_BIT: u8 = 3;
 
 // The TCP flags that we write (RFC 793, 3.1; draft-davie-stt-06, 3.2).
 pub const TCP_ACK: u8 = 0x10;

@@ -9,5 +9,5 @@ pub(crate) fn put(out: &mut [u8], at: usize, src: &[u8])
     requires { at + length src.now ≤ length out.old }
     ensures { out.new ≡ laid out.old at src.now }
 {
-    copy(src, &mut out[at..]);
+    copy(src, &mut out[at..at + src.len()]);
 }

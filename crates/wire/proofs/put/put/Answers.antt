@@ -1,13 +1,7 @@
 -- `wire::put::put` meets its contract.
-use Rattle.std.proofs.Common.{List, ℕ, ◌++◌, ◌-◌, ◌∙◌, ap, sym, arith, length, take, drop}
-use Rattle.std.proofs.Math.Seq.{take-length}
-use Rattle.wire.proofs.Laws.Bytes.{laid_tail}
+use Rattle.std.proofs.Common.{arith, length, length-take, drop, ◌+◌, ◌-◌}
+use Rattle.wire.proofs.Laws.Bytes.{laid_part}
 use Rattle.wire.proofs.put.put.Goals as goal
 
 pub returns : goal.returns
-returns c =
-    let out = c.args.out.now in
-    let at = c.args.at in
-    let src = c.args.src.now in
-    laid_tail out at src _ (omega arith)
-    (c.copy.ensures.room (omega arith) ∙ ap (λ (s : List ℕ). s ++ drop (length src) (take (length out - at) (drop at out))) (sym (take-length src)))
+returns c = laid_part c.args.out.now c.args.at c.args.src.now _ _ (omega arith) (c.copy.ensures.room (omega (arith, length-take (c.args.at + length c.args.src.now - c.args.at) (drop c.args.at c.args.out.now))))

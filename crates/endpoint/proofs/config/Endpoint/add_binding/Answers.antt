@@ -11,10 +11,10 @@ good : (c : Else-not-may_bind) → bad_binding c.args.self.now c.args.peer c.arg
 good c = not-true _ (sym c.may_bind.ensures ∙ c.if-not-may_bind.false)
 
 listed : (c : Then-is_some) → is_some (find_binding (config_of c.args.self.now) c.args.peer c.args.kind c.args.network) ≡ true
-listed c = binding_found _ _ _ _ _ _ c.find_binding.ensures c.is_some.ensures ∙ c.if-is_some.true
+listed c = binding_found _ _ _ _ _ _ c.search.ensures c.is_some.ensures ∙ c.if-is_some.true
 
 unlisted : (c : Else-is_some) → is_some (find_binding (config_of c.args.self.now) c.args.peer c.args.kind c.args.network) ≡ false
-unlisted c = binding_found _ _ _ _ _ _ c.find_binding.ensures c.is_some.ensures ∙ c.if-is_some.false
+unlisted c = binding_found _ _ _ _ _ _ c.search.ensures c.is_some.ensures ∙ c.if-is_some.false
 
 pub returns-then-not-may_bind : goal.returns-then-not-may_bind
 returns-then-not-may_bind c =

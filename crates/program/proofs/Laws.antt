@@ -1,0 +1,2 @@
+-- What stands here is there for proofs.
+pub mod Hash
