@@ -2,8 +2,8 @@
 use endpoint::answer::ConfigRefusal;
 use endpoint::number::{NVGRE, STT, VXLAN};
 use program::answer::Refused;
-use std::fmt;
 use std::net::Ipv4Addr;
+use std::{fmt, str};
 
 // As it is: by the number of the kind, as the adding calls take it.
 pub(crate) fn kind_name(kind: u32) -> &'static str {
@@ -31,6 +31,25 @@ impl fmt::Display for Added {
     }
 }
 
+const DIGITS: [u8; 16] = *b"0123456789abcdef";
+
+// A byte in hexadecimal: two digits, in one piece of text.
+#[derive(Clone, Copy)]
+struct Octet(u8);
+
+impl fmt::Display for Octet {
+    fn fmt<W: fmt::Write>(&self, f: &mut fmt::Formatter<W>) -> fmt::Result {
+        let digits = [
+            DIGITS[usize::from(self.0 / 16)],
+            DIGITS[usize::from(self.0 % 16)],
+        ];
+        match str::from_utf8(&digits) {
+            Ok(text) => write!(f, "{text}"),
+            Err(_) => Ok(()),
+        }
+    }
+}
+
 // The bytes of a frame, in hexadecimal.
 #[derive(Drop)]
 pub(crate) struct Bytes<'a>(pub &'a [u8]);
@@ -38,7 +57,7 @@ pub(crate) struct Bytes<'a>(pub &'a [u8]);
 impl fmt::Display for Bytes<'_> {
     fn fmt<W: fmt::Write>(&self, f: &mut fmt::Formatter<W>) -> fmt::Result {
         for byte in self.0 {
-            write!(f, " {byte:02x}")?;
+            write!(f, " {}", Octet(*byte))?;
         }
         Ok(())
     }
@@ -51,7 +70,16 @@ pub(crate) struct Hardware(pub u64);
 impl fmt::Display for Hardware {
     fn fmt<W: fmt::Write>(&self, f: &mut fmt::Formatter<W>) -> fmt::Result {
         let [_, _, a, b, c, d, e, g] = self.0.to_be_bytes();
-        write!(f, "{a:02x}:{b:02x}:{c:02x}:{d:02x}:{e:02x}:{g:02x}")
+        write!(
+            f,
+            "{}:{}:{}:{}:{}:{}",
+            Octet(a),
+            Octet(b),
+            Octet(c),
+            Octet(d),
+            Octet(e),
+            Octet(g)
+        )
     }
 }
 

@@ -123,7 +123,7 @@ impl Run {
         let answer = self.endpoint.receive(packet, memory);
         let _ = write!(
             out,
-            "receive {} {} ",
+            "receive {} {}",
             received_code(answer),
             received_offset(answer)
         );
@@ -131,14 +131,14 @@ impl Run {
             let frame = view(packet, memory, place);
             write!(
                 out,
-                "{} {} {} {}",
+                " {} {}{} {}",
                 target.tenant,
                 target.binding,
                 Lies(place),
                 hash(0, frame)
             )
         } else {
-            write!(out, "- - packet 0 0 0")
+            write!(out, " - - packet 0 0 0")
         };
         let _ = writeln!(out, " {}", hash(0, memory));
         Ok(())
@@ -148,7 +148,7 @@ impl Run {
     fn tick(&mut self, out: &mut impl Write, fields: Fields<'_>) -> Result<(), Broken> {
         fields.end()?;
         self.endpoint.tick();
-        let _ = writeln!(out, "tick 0");
+        let _ = writeln!(out, "tick {}", 0);
         Ok(())
     }
 

@@ -1,4 +1,4 @@
-// How the lines show answers (host/README.md, "The files").
+// How the lines show answers (host/README.md, "The files"). Where a piece of text ends is kept as it is: on an output that has no room for a while, pieces are lost.
 use detector::observe::{Observation, Observed};
 use endpoint::answer::{ConfigRefusal, Packet, Place, WrapRefusal};
 use image::answer::SaveRefusal;
@@ -11,7 +11,7 @@ pub(crate) struct Added(pub Result<u16, ConfigRefusal>);
 impl fmt::Display for Added {
     fn fmt<W: fmt::Write>(&self, f: &mut fmt::Formatter<W>) -> fmt::Result {
         match self.0 {
-            Ok(number) => write!(f, "0 {number}"),
+            Ok(number) => write!(f, "{} {number}", 0),
             Err(r) => write!(f, "{} -", r.code()),
         }
     }
@@ -52,12 +52,12 @@ impl fmt::Display for Seen {
         let Observation { answer, .. } = Observation::from(self.0);
         match self.0 {
             Observed::Duplicate { first } => write!(f, "{answer} {first}"),
-            _ => write!(f, "{answer} -"),
+            _ => write!(f, "{answer} {}", "-"),
         }
     }
 }
 
-// Where a place lies.
+// Where a place lies, behind a space.
 #[derive(Clone, Copy)]
 pub(crate) struct Lies(pub Place);
 
@@ -68,8 +68,11 @@ impl fmt::Display for Lies {
             length,
             in_memory,
         } = self.0;
-        let slice = if in_memory { "memory" } else { "packet" };
-        write!(f, "{slice} {start} {length}")
+        if in_memory {
+            write!(f, " memory {start} {length}")
+        } else {
+            write!(f, " packet {start} {length}")
+        }
     }
 }
 

@@ -7,7 +7,6 @@ use endpoint::answer::{Packet, Received, WrapRefusal};
 use endpoint::config::Endpoint;
 use endpoint::number::{MTU_MAX, NVGRE, STT, VXLAN};
 use endpoint::view::view;
-use reassembly::number::MEMORY_BYTES;
 
 const STT_PORT: u32 = 7471;
 
@@ -17,7 +16,7 @@ const SENDER: u32 = 0x0a000001;
 const RECEIVER: u32 = 0x0a000002;
 
 // The bytes of the largest packet.
-const PACKET_MAX: usize = MTU_MAX as usize;
+pub(crate) const PACKET_MAX: usize = MTU_MAX as usize;
 
 // The segments of the largest frame at the smallest MTU.
 const SEGMENTS_MAX: usize = 3;
@@ -40,65 +39,68 @@ fn turned(i: u32, size: u16, count: u32) -> u32
     if size % 2 == 0 { k } else { count - 1 - k }
 }
 
-// A sender and a receiver, the receiver's reassembly memory, and room for a packet between them.
+// A sender and a receiver. The receiver's reassembly memory, and room for a packet between them, are lent.
 #[derive(Drop)]
 pub(crate) struct Link {
     sender: Endpoint,
     receiver: Endpoint,
-    memory: [u8; MEMORY_BYTES],
-    output: [u8; PACKET_MAX],
 }
 
 impl Link {
-    // The memory may contain anything at first: here no byte of it is 0.
     pub(crate) fn new(mtu: u32) -> Link {
         Link {
             sender: set_up(SENDER, RECEIVER, mtu),
             receiver: set_up(RECEIVER, SENDER, mtu),
-            memory: [0xA5; MEMORY_BYTES],
-            output: [0; PACKET_MAX],
         }
     }
 
     // Puts a segment of a frame, under an identifier of the frame's size, into the output.
-    fn wrap(&mut self, frame: &Frame, segment: u32) -> Result<Packet, WrapRefusal> {
+    fn wrap(&self, frame: &Frame, segment: u32, output: &mut [u8]) -> Result<Packet, WrapRefusal> {
         let binding = u32::from(frame.binding);
         let identifier = u32::from(frame.size);
-        self.sender.wrap(
-            binding,
-            frame.bytes(),
-            segment,
-            identifier,
-            &mut self.output,
-        )
+        self.sender
+            .wrap(binding, frame.bytes(), segment, identifier, output)
     }
 
     // Wraps a segment and has it received. A frame that is delivered is held to the one that was wrapped.
-    fn pass(&mut self, frame: &Frame, segment: u32, tally: &mut Tally) {
-        let Ok(Packet { length, .. }) = self.wrap(frame, segment) else {
+    fn pass(
+        &mut self,
+        frame: &Frame,
+        segment: u32,
+        tally: &mut Tally,
+        memory: &mut [u8],
+        output: &mut [u8],
+    ) {
+        let Ok(Packet { length, .. }) = self.wrap(frame, segment, output) else {
             return tally.count_refused();
         };
-        let Some(packet) = self.output.get(..length) else {
+        let Some(packet) = output.get(..length) else {
             return;
         };
         tally.count_packet(packet);
-        let Ok(Received::Delivered(_, place)) = self.receiver.receive(packet, &mut self.memory)
-        else {
+        let Ok(Received::Delivered(_, place)) = self.receiver.receive(packet, memory) else {
             return;
         };
-        if view(packet, &self.memory, place) == frame.bytes() {
+        if view(packet, memory, place) == frame.bytes() {
             tally.count_equal();
         }
     }
 
     // Carries a frame over, its segments in the order that `turned` gives. One that is refused is tried once.
-    pub(crate) fn carry(&mut self, frame: &Frame, tally: &mut Tally) {
-        let count = match self.wrap(frame, 0) {
+    pub(crate) fn carry(
+        &mut self,
+        frame: &Frame,
+        tally: &mut Tally,
+        memory: &mut [u8],
+        output: &mut [u8],
+    ) {
+        let count = match self.wrap(frame, 0, output) {
             Ok(packet) => packet.segments.min(SEGMENTS_MAX) as u32,
             Err(_) => 1,
         };
         for i in 0..count {
-            self.pass(frame, turned(i, frame.size, count), tally);
+            let segment = turned(i, frame.size, count);
+            self.pass(frame, segment, tally, memory, output);
         }
     }
 }

@@ -39,7 +39,7 @@ impl fmt::Display for Tally {
     fn fmt<W: fmt::Write>(&self, f: &mut fmt::Formatter<W>) -> fmt::Result {
         write!(
             f,
-            "packets {} sum {} equal {} refused {}",
+            " packets {} sum {} equal {} refused {}",
             self.packets,
             self.sum.finish(),
             self.equal,
